@@ -18,7 +18,7 @@ pub use Rattle.clr_rules.specs.Commands.{Known, checks, edits_of}
 unfoldable pub use Rattle.clr_rules.specs.Edits.{fit}
 pub use Rattle.clr_rules.specs.Fences.{clearance_fence, work_fence}
 unfoldable pub use Rattle.clr_rules.specs.Fences.{touching_names}
-pub use Rattle.clr_rules.specs.Good.{IsGood, IsGoodAsSaid, ListsAreInOrder, has_record, is_known_work, is_operators, put_by, puts, steps_left_of}
+pub use Rattle.clr_rules.specs.Good.{AreAtPoints, IsGood, IsGoodAsSaid, ListsAreInOrder, has_record, is_known_work, is_operators, put_by, puts, steps_left_of}
 unfoldable pub use Rattle.clr_rules.specs.Good.{is_closing_at}
 pub use Rattle.clr_rules.specs.GoodByPhase.{ActiveInRound, InPhase, IsGoodByPhase, IsInPlace, Outlook, active_at, all_waiting, go_in_turn, outlook_of, present_of}
 unfoldable pub use Rattle.clr_rules.specs.GoodByPhase.{of_round}
@@ -34,7 +34,7 @@ pub use Rattle.clr_rules.specs.Prelude.{present_steps, record_key, record_of, sa
 pub use Rattle.clr_rules.specs.Prelude.{task, tasks_of, touches, unplaced}
 unfoldable pub use Rattle.clr_rules.specs.Prelude.{after_edits, first_of_each, greatest_number, has_any_hold, has_some_hold, holds_of, in_fence, places_of, reaches, row_of, steps_in, steps_of}
 unfoldable pub use Rattle.clr_rules.specs.Prelude.{with_row, without_row}
-pub use Rattle.clr_rules.specs.Records.{is_fenced, is_switch_order, numbers_of}
+pub use Rattle.clr_rules.specs.Records.{is_fenced, is_open, is_switch_order, numbers_of}
 pub use Rattle.clr_rules.specs.Refusals.{order_refusal}
 pub use Rattle.clr_rules.specs.Register.{first_state, opening, unplaced_net}
 pub use Rattle.clr_rules.specs.Run.{IsReached, after}

@@ -1,4 +1,6 @@
 pub mod Agreement
+pub mod ClosedOwn
+pub mod ClosedSteps
 pub mod Headline
 pub mod LookAlike
 pub mod OthersEdits

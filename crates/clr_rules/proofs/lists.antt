@@ -7,6 +7,7 @@ pub mod LeastCrossed
 pub mod LeastHold
 pub mod NamedRows
 pub mod NewNumbers
+pub mod OpenPhases
 pub mod RoundSteps
 pub mod StateFacts
 pub mod StepSplits

@@ -1,3 +1,4 @@
 pub mod EveryKind
 pub mod PutPeople
 pub mod Puts
+pub mod Throughout

@@ -1,6 +1,7 @@
 -- GOOD REGISTERS: what holds in every register that commands have made from an opening one. Nine
 -- parts, each in its own words, of a register with a network, a staff and lists in order; and four
--- parts besides, which are needed to keep these. GoodByPhase says the same phase by phase.
+-- parts besides, which are needed to keep these. GoodByPhase says the same phase by phase. Where
+-- network and staff are asked for a name, it is of an open record: what is Closed binds nothing.
 use Rattle.std.specs.Prelude.{◌≡◌, ℕ, Bool, true, false, not, ◌&&◌, ◌||◌, IsTrue, List, [], length}
 use Rattle.std.specs.Prelude.{map, filter, All, Contains, Option, None, Some, is_some}
 use Rattle.std.specs.List.{list_any, range_with_len}
@@ -21,8 +22,8 @@ use Rattle.clr_order.specs.Needed.{Undoes}
 use Rattle.clr_rules.specs.Checks.{employee, has_role, is_operator}
 use Rattle.clr_rules.specs.Fences.{clearance_fence}
 use Rattle.clr_rules.specs.Live.{is_live}
-use Rattle.clr_rules.specs.Records.{is_closed, is_in_switching, is_requested, is_switch_order}
-use Rattle.clr_rules.specs.Records.{numbers_of}
+use Rattle.clr_rules.specs.Records.{is_closed, is_in_switching, is_open, is_requested}
+use Rattle.clr_rules.specs.Records.{is_switch_order, numbers_of}
 use Rattle.clr_rules.specs.Register.{unplaced_net}
 use Rattle.clr_rules.specs.Steps.{is_close, is_in_turn}
 use Rattle.clr_order.specs.declared.action.Action.TheVariants as actions
@@ -123,7 +124,7 @@ is_known_work sections None = true
 is_known_work sections (Some work) = has_name sections work
 
 -- NUMBERS HAVE NO GAPS: a requester's clearances are numbered 1, 2, 3 and so on; each clearance in
--- a step, a hold or a hand has a record; each work section is in the network
+-- a step, a hold or a hand has a record; the work section of an open record is in the network
 pub record NumbersHaveNoGaps (R : Register) : Type 0 where
   pub numbered : (requester : List ℕ)
       → numbers_of R.records requester ≡ range_with_len 1 (length (numbers_of R.records requester))
@@ -131,8 +132,9 @@ pub record NumbersHaveNoGaps (R : Register) : Type 0 where
   pub holds_recorded : All (λ h. IsTrue (has_record R.records h.id)) R.holds
   pub hands_recorded : (c : Id) (p : List ℕ) → has_in_hand R.states c p ≡ true
       → has_record R.records c ≡ true
-  pub work_known : All
-      (λ r. IsTrue (is_known_work (section_names (Grid.sections R.net)) r.work)) R.records
+  pub work_known : (c : Id) (r : Record) → record_of R.records c ≡ Some r
+      → is_open r.phase ≡ true
+      → is_known_work (section_names (Grid.sections R.net)) r.work ≡ true
 
 -- STEPS GO IN TURN: a step that does not wait has only Done steps before it in its round; steps
 -- that are given out and not reported are in the present round of an Ordered, Restoring or
@@ -215,10 +217,11 @@ OnlySwitchOrdersSwitch R =
     (c : Id) (r : Record) → record_of R.records c ≡ Some r → is_in_switching r.phase ≡ true
     → is_switch_order r ≡ true
 
--- SWITCH ORDERS ARE OPERATORS': a record has no work section exactly where its requester is an
--- operator; such a record is Switching or Closed, and only such a one is Switching
+-- SWITCH ORDERS ARE OPERATORS': an open record has no work section exactly where its requester is
+-- an operator; a record without one is Switching or Closed, and only such a one is Switching
 pub record SwitchOrdersAreOperators (R : Register) : Type 0 where
   pub without_work : (c : Id) (r : Record) → record_of R.records c ≡ Some r
+      → is_open r.phase ≡ true
       → is_switch_order r ≡ is_operators R c.requester
   pub phases : (c : Id) (r : Record) → record_of R.records c ≡ Some r → is_switch_order r ≡ true
       → (is_in_switching r.phase || is_closed r.phase) ≡ true
@@ -229,12 +232,16 @@ pub record SwitchOrdersAreOperators (R : Register) : Type 0 where
 abbrev pub NetworkIsUnplaced : Register → Type 0
 NetworkIsUnplaced R = unplaced_net R.net ≡ R.net
 
--- POINTS ARE THOSE OF THE NETWORK: each point has a state, no other name has one, and each step is
--- at a point
+-- the steps are at points of a network
+abbrev pub AreAtPoints : Grid → List StepRow → Type 0
+AreAtPoints g rows = All (λ row. IsTrue (has_name (point_names (Grid.points g)) row.step.point)) rows
+
+-- POINTS ARE THOSE OF THE NETWORK: each point has a state, no other name has one, and each step of
+-- an open record is at a point
 pub record PointsAreKnown (R : Register) : Type 0 where
   pub states : map state_key R.states ≡ point_names (Grid.points R.net)
-  pub steps : All
-      (λ row. IsTrue (has_name (point_names (Grid.points R.net)) row.step.point)) R.steps
+  pub steps : (c : Id) (r : Record) → record_of R.records c ≡ Some r → is_open r.phase ≡ true
+      → AreAtPoints R.net (steps_of R.steps c)
 
 -- LISTS ARE IN KEY ORDER, one row a key
 pub record ListsAreInOrder (R : Register) : Type 0 where
@@ -269,3 +276,13 @@ pub record IsGoodBesides (R : Register) : Type 0 where
 pub record IsGood (R : Register) : Type 0 where
   pub said : IsGoodAsSaid R
   pub besides : IsGoodBesides R
+
+-- GOOD THROUGHOUT: good, and what is asked of open records holds of closed ones too. Commands alone
+-- keep this as well; no other law needs it
+pub record IsGoodThroughout (R : Register) : Type 0 where
+  pub good : IsGood R
+  pub work_known : All
+      (λ r. IsTrue (is_known_work (section_names (Grid.sections R.net)) r.work)) R.records
+  pub steps_known : AreAtPoints R.net R.steps
+  pub without_work : (c : Id) (r : Record) → record_of R.records c ≡ Some r
+      → is_switch_order r ≡ is_operators R c.requester

@@ -1,7 +1,7 @@
 -- GOOD REGISTERS, PHASE BY PHASE: what the register has of one clearance, and how that must look in
 -- the clearance's phase. It says the same as IsGood, and a command that is about one clearance need
 -- only be shown to keep that clearance in its place.
-use Rattle.std.specs.Prelude.{◌≡◌, ℕ, Bool, true, false, ◌&&◌, ◌||◌, ◌==◌, if◌then◌else◌, IsTrue}
+use Rattle.std.specs.Prelude.{◌≡◌, ℕ, Bool, true, false, ◌&&◌, ◌||◌, ◌==◌, if◌then◌else◌}
 use Rattle.std.specs.Prelude.{List, [], ◌∷◌, length, filter, All, Option, None, Some}
 use Rattle.std.specs.List.{list_all, list_any, range_with_len}
 use Rattle.clr_rules.specs.Prelude.{Grid, IsNetwork, section_names, same_name, has_name, Opened}
@@ -18,7 +18,7 @@ use Rattle.clr_order.specs.Needed.{undoes}
 use Rattle.clr_rules.specs.Fences.{work_fence}
 use Rattle.clr_rules.specs.Good.{ListsAreInOrder, NetworkIsUnplaced, PointsAreKnown, is_closing_at}
 use Rattle.clr_rules.specs.Good.{is_known_work, is_operators, steps_left_of, put_by}
-use Rattle.clr_rules.specs.Records.{is_switch_order, numbers_of}
+use Rattle.clr_rules.specs.Records.{is_open, is_switch_order, numbers_of}
 use Rattle.clr_rules.specs.Steps.{some_active}
 
 -- WHAT THE REGISTER HAS OF ONE CLEARANCE: its record, its steps in all rounds, whether it has a
@@ -179,8 +179,9 @@ pub record IsGoodByPhase (R : Register) : Type 0 where
   pub network : IsNetwork R.net
   pub staff : IsStaff R.staff
   pub in_place : (c : Id) → IsInPlace R.net (outlook_of R c)
-  -- switch orders are those of operators
+  -- switch orders are those of operators, while they are open
   pub operators : (c : Id) (r : Record) → record_of R.records c ≡ Some r
+      → is_open r.phase ≡ true
       → is_switch_order r ≡ is_operators R c.requester
   -- what is held is open
   pub held_open : (c : Id) (kind : HoldKind) (p : List ℕ) → is_point_kind kind ≡ true
@@ -190,11 +191,12 @@ pub record IsGoodByPhase (R : Register) : Type 0 where
   pub closing_free : (c : Id) (p : List ℕ) → is_closing_at R.steps c p ≡ true
       → (d : Id) (kind : HoldKind) → is_point_kind kind ≡ true → has_hold R.holds d kind p ≡ true
       → (d ≡ c) × (kind ≡ HeldOpen)
-  -- a requester's clearances are numbered without gaps, and their work sections are known
+  -- a requester's clearances are numbered without gaps, and the work sections of open ones known
   pub numbered : (requester : List ℕ)
       → numbers_of R.records requester ≡ range_with_len 1 (length (numbers_of R.records requester))
-  pub work_known : All
-      (λ r. IsTrue (is_known_work (section_names (Grid.sections R.net)) r.work)) R.records
+  pub work_known : (c : Id) (r : Record) → record_of R.records c ≡ Some r
+      → is_open r.phase ≡ true
+      → is_known_work (section_names (Grid.sections R.net)) r.work ≡ true
   pub placed : NetworkIsUnplaced R
   pub points_known : PointsAreKnown R
   pub in_order : ListsAreInOrder R

@@ -104,6 +104,11 @@ abbrev pub is_closed : Phase → Bool
 is_closed Closed = true
 is_closed _ = false
 
+-- what is not Closed is open
+abbrev pub is_open : Phase → Bool
+is_open Closed = false
+is_open _ = true
+
 abbrev pub is_in_switching : Phase → Bool
 is_in_switching Switching = true
 is_in_switching _ = false

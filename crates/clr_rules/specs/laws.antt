@@ -1,6 +1,7 @@
 pub mod Additions
 pub mod Agreement
 pub mod Bounds
+pub mod ClosedSteps
 pub mod Edits
 pub mod Frame
 pub mod Good
@@ -15,5 +16,6 @@ pub mod Runs
 pub mod Staffed
 pub mod Steps
 pub mod Tags
+pub mod Throughout
 pub mod WayBack
 pub mod Work

@@ -1,6 +1,7 @@
 //! Laws of the definitions: the contract of each function is the law, and its body is empty.
 pub mod additions;
 pub mod agreement;
+pub mod closed_steps;
 pub mod edits;
 pub mod footprint;
 pub mod good;
@@ -17,5 +18,6 @@ pub mod runs;
 pub mod staffed;
 pub mod steps;
 pub mod tags;
+pub mod throughout;
 pub mod way_back;
 pub mod work;

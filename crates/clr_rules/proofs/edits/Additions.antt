@@ -2,7 +2,7 @@
 use Rattle.std.proofs.Common.{◌≡◌, ◌∙◌, ◌⊎◌, inl, inr, ⊎_elim, ℕ, suc, Option, Some, None, Bool, true, false, not, List, [], ◌∷◌, map, Contains, refl, sym, ap, subst, arith, IsPermutation}
 use Rattle.clr_rules.proofs.Common.{AllByRecursion, and_parts, Grid, IsNetwork, point_names, unplaced, StaffRow, Answer, answer, answer_by_checks, first_refusal, known_of, new_jumper, checks}
 use Rattle.clr_rules.proofs.Common.{edits_of, is_jumper, adds, adds_nothing, ListsAreInOrder, Edit, AddSection, AddPoint, Command, Kind, Refusal, Register, state_key, after_edit, after_edits, opening}
-use Rattle.clr_rules.proofs.Common.{unplaced_net, after, after_all, Jumper}
+use Rattle.clr_rules.proofs.Common.{unplaced_net, after, after_all, Jumper, IsGood}
 use Rattle.std.proofs.lemmas.List.Sorted.{Contains-permutation, IsPermutation-sym}
 use Rattle.clr_net.specs.Additions.{with_point, with_section}
 use Rattle.clr_net.proofs.Grown.{points_are_added, sections_are_added}
@@ -124,6 +124,20 @@ edits_add g staff (edit ∷ edits) R h fits jumpers =
 
 keeps_more : (g : Grid) (staff : List StaffRow) (R : Register) (q : Command) → Keeps g staff R → Keeps g staff (after R q)
 keeps_more g staff R q h = edits_add g staff (Answer.edits (answer R q)) R h (answers_fit R q h.adds.network) (answers_are R q q.kind refl)
+
+-- a command adds to the network of a good register, and takes nothing from it
+pub network_grows : (R : Register) (q : Command) → IsGood R → HasGrown R.net (Register.net (after R q))
+network_grows R q good =
+    let kept = keeps_more R.net R.staff R q (record {
+      in_order = good.said.in_order;
+      adds = record {
+        same_staff = refl;
+        network = good.said.network;
+        has_grown = subst (λ (g : Grid). HasGrown g R.net) (sym good.besides.placed) (same_grown R.net);
+        same_points = good.besides.points_known.states;
+      };
+    }) in
+    subst (λ (g : Grid). HasGrown g (Register.net (after R q))) good.besides.placed kept.adds.has_grown
 
 pub runs_only_add : (g : Grid) (staff : List StaffRow) → IsNetwork g → (commands : List Command) → OnlyAdds g staff (after_all (opening g staff) commands)
 runs_only_add g staff net commands =

@@ -2,7 +2,7 @@
 use Rattle.std.proofs.Common.{◌≡◌, ℕ, ◌+◌, ◌<◌, Bool, true, false, ◌&&◌, nat_eq, List, [], ◌∷◌, ◌++◌, IsTrue, All, Contains, refl, sym, ◌∙◌, ap, subst, arith, append_assoc, nat_cmp, Less, Equal}
 use Rattle.std.proofs.Common.{eq-eqb, eqb-true, append-nil}
 use Rattle.std.specs.Cmp.{nat_cmp_is}
-use Rattle.clr_rules.proofs.Common.{and_from, both_ways, Grid, point_names, same_name, has_name, Task, in_key_order-with_row, equal, Contains-here, Contains-later, in_key_order, with_row, new_steps}
+use Rattle.clr_rules.proofs.Common.{AreAtPoints, and_from, both_ways, Grid, point_names, same_name, has_name, Task, in_key_order-with_row, equal, Contains-here, Contains-later, in_key_order, with_row, new_steps}
 use Rattle.clr_rules.proofs.Common.{put_steps, PutRecord, Record, StepRow, Id, id_cmp, id_cmp_total, same_id, Register, record_key, step_key, step_key_cmp, step_key_cmp_total, is_active, steps_in}
 use Rattle.clr_rules.proofs.Common.{steps_of, tasks_of, after_edits, is_closing_at, ActiveInRound, InPhase, IsGoodByPhase, active_at, all_waiting, go_in_turn, of_round, is_of_round}
 use Rattle.std.proofs.lemmas.Cmp.{nat_cmp_total, tied_itself}
@@ -142,6 +142,7 @@ pub record IsReady (R : Register) (c : Id) (round : ℕ) (tasks : List Task) : T
   pub rests : All (λ row. is_active row.step.state ≡ false) (steps_of R.steps c)
   pub none_yet : steps_in R.steps c round ≡ []
   pub known : All (λ t. IsTrue (has_name (point_names (Grid.points R.net)) t.point)) tasks
+  pub at_points : AreAtPoints R.net (steps_of R.steps c)
 
 module _ (R : Register) (good : IsGoodByPhase R) (new : Record) (round : ℕ) (tasks : List Task) (ready : IsReady R new.id round tasks) where
   -- the new round is what was ordered
@@ -195,8 +196,9 @@ module _ (R : Register) (good : IsGoodByPhase R) (new : Record) (round : ℕ) (t
     other_holds = λ d differs kind place. refl;
     other_steps = λ d differs. others_stay new.id round d differs 1 tasks R.steps good.in_order.steps;
     own_closing = λ p closing. absurd (both_ways (is_closing_at (put_all (new_steps new.id round 1 tasks) R.steps) new.id p) (none_closing p) closing);
-    steps_known = All-put new.id round (λ (row : StepRow). has_name (point_names (Grid.points R.net)) row.step.point ≡ true) 1 tasks R.steps
-        (λ m t there. All-contains (λ (t : Task). has_name (point_names (Grid.points R.net)) t.point ≡ true) tasks t ready.known there) good.points_known.steps;
+    steps_known = subst (AreAtPoints R.net) (sym (own_put new.id round 1 tasks R.steps))
+        (All-put new.id round (λ (row : StepRow). has_name (point_names (Grid.points R.net)) row.step.point ≡ true) 1 tasks (steps_of R.steps new.id)
+        (λ m t there. All-contains (λ (t : Task). has_name (point_names (Grid.points R.net)) t.point ≡ true) tasks t ready.known there) ready.at_points);
   }) (record {
     in_turn = λ k. turns k (nat_eq round k) refl;
     hands = λ p. (good.in_place new.id).hands p ∙ none_at p (steps_of R.steps new.id) ready.rests ∙ sym (none_at p (steps_of (put_all (new_steps new.id round 1 tasks) R.steps) new.id) all_rest);

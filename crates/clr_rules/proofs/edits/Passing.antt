@@ -3,7 +3,10 @@ use Rattle.std.proofs.Common.{◌≡◌, ℕ, Bool, true, false, not, List, [], 
 use Rattle.std.proofs.lemmas.Bool.{not-false}
 use Rattle.clr_rules.proofs.Common.{Known, checks, first_refusal, named_clearance, has_record, Request, Switch, Jumper}
 use Rattle.clr_rules.specs.Checks.{refuse, unknown_clearance, where_some, wrong_phase}
-use Rattle.clr_rules.specs.Prelude.{Kind, Phase, Record, Refusal, Id, Register, record_of, Transfer, Show, UnknownClearance, WrongPhase}
+use Rattle.clr_rules.specs.Prelude.{Kind, Phase, Closed, Record, Refusal, Id, Register, record_of, is_granted, is_ordered, is_restoring, is_running, UnknownClearance, WrongPhase}
+use Rattle.clr_rules.specs.Prelude.{Order, Instruct, Repeat, Report, Grant, Transfer, Cancel, Restore, Amend, Show}
+use Rattle.clr_rules.specs.Records.{is_cancellable, is_open, is_released, is_requested, is_transferable}
+use Rattle.clr_rules.proofs.lists.OpenPhases.{open_where}
 
 -- each of these checks says nothing
 abbrev pub Pass : List (Option Refusal) → Type 0
@@ -78,6 +81,39 @@ check_of_found o x check found passed = sym (ap (λ found. where_some found chec
 pub phase_fits : (R : Register) (c : Id) (r : Record) (fits : Phase → Bool) → record_of R.records c ≡ Some r → wrong_phase R c fits ≡ None → fits r.phase ≡ true
 phase_fits R c r fits found passed =
     not_refused_true (fits r.phase) WrongPhase (check_of_found (record_of R.records c) r (λ r. refuse (not (fits r.phase)) WrongPhase) found passed)
+
+abbrev pub is_show : Kind → Bool
+is_show (Show c) = true
+is_show _ = false
+
+-- the clearance that is meant, if one is, has an open record
+abbrev pub IsOpenIfNamed : Register → Option Id → Type 0
+IsOpenIfNamed R None = Unit {0}
+IsOpenIfNamed R (Some c) = (r : Record) → record_of R.records c ≡ Some r → is_open r.phase ≡ true
+
+open_if_fits : (R : Register) (c : Id) (fits : Phase → Bool) → fits Closed ≡ false → wrong_phase R c fits ≡ None → IsOpenIfNamed R (Some c)
+open_if_fits R c fits none passed r found = open_where fits none r.phase (phase_fits R c r fits found passed)
+
+-- where no check applies, a command that names a record names an open one, but for a show
+open_if_named : (k : Known) (R : Register) (by : List ℕ) (at : ℕ) (kind : Kind) → is_show kind ≡ false → Pass (checks k R by at kind) → IsOpenIfNamed R (named_clearance kind)
+open_if_named k R by at (Request section) no_show passed = tt
+open_if_named k R by at (Switch tasks) no_show passed = tt
+open_if_named k R by at (Jumper point from to lockable remote) no_show passed = tt
+open_if_named k R by at (Show c) no_show passed = cc no_show
+open_if_named k R by at (Order c points tasks) no_show passed = open_if_fits R c is_requested refl passed.1.1.1.1.0
+open_if_named k R by at (Instruct c n) no_show passed = open_if_fits R c is_running refl passed.1.1.1.1.0
+open_if_named k R by at (Repeat c n text) no_show passed = open_if_fits R c is_running refl passed.1.1.1.1.0
+open_if_named k R by at (Report c n done) no_show passed = open_if_fits R c is_running refl passed.1.1.1.1.0
+open_if_named k R by at (Grant c) no_show passed = open_if_fits R c is_ordered refl passed.1.1.1.1.0
+open_if_named k R by at (Transfer c to emergency) no_show passed = open_if_fits R c is_transferable refl passed.1.1.1.1.0
+open_if_named k R by at (Cancel c) no_show passed = open_if_fits R c is_cancellable refl passed.1.1.1.1.1.0
+open_if_named k R by at (Restore c tasks) no_show passed = open_if_fits R c is_released refl passed.1.1.1.1.0
+open_if_named k R by at (Amend c n) no_show passed = open_if_fits R c is_restoring refl passed.1.1.1.1.0
+open_if_named k R by at _ no_show passed = open_if_fits R _ is_granted refl passed.1.1.1.1.1.0
+
+pub named_is_open : (k : Known) (R : Register) (by : List ℕ) (at : ℕ) (kind : Kind) → is_show kind ≡ false → Pass (checks k R by at kind)
+    → (c : Id) → named_clearance kind ≡ Some c → (r : Record) → record_of R.records c ≡ Some r → is_open r.phase ≡ true
+named_is_open k R by at kind no_show passed c named r found = subst (IsOpenIfNamed R) named (open_if_named k R by at kind no_show passed) r found
 
 -- WHERE A COMMAND HAS BEGUN: its clearance has a record, whose phase fits, and its own checks pass
 abbrev pub HasBegun : Register → Id → (Phase → Bool) → Type 0 → Type 0

@@ -1,11 +1,10 @@
 -- A record that is put over that of its clearance, with the same work section, and the steps, holds and hands beside it.
-use Rattle.std.proofs.Common.{◌≡◌, ℕ, Bool, true, false, cond, ◌&&◌, List, map, filter, Some, is_some, IsTrue, All, length, refl, sym, ◌∙◌, ap, subst}
+use Rattle.std.proofs.Common.{◌≡◌, ℕ, Bool, true, false, cond, ◌&&◌, List, map, filter, Some, is_some, length, refl, sym, ◌∙◌, ap, subst}
 use Rattle.std.specs.List.{list_any, range_with_len}
-use Rattle.clr_rules.proofs.Common.{All-contains, same_Some, Grid, point_names, section_names, same_name, has_name, Opened, member-row_of, with_row, has_record, is_closing_at, is_known_work}
+use Rattle.clr_rules.proofs.Common.{AreAtPoints, same_Some, Grid, section_names, same_name, Opened, with_row, has_record, is_closing_at, is_known_work}
 use Rattle.clr_rules.proofs.Common.{is_operators, IsGoodByPhase, IsInPlace, Outlook, outlook_of, HoldKind, HeldOpen, PointState, Record, StepRow, Id, id_cmp, id_cmp_total, same_id, Register}
-use Rattle.clr_rules.proofs.Common.{has_in_hand, position_of, record_key, record_of, is_active, steps_of, is_point_kind, has_hold, is_close, one_id, own_id}
+use Rattle.clr_rules.proofs.Common.{has_in_hand, position_of, record_key, record_of, is_active, steps_of, is_open, is_point_kind, has_hold, is_close, one_id, own_id}
 use Rattle.clr_shelf.proofs.FirstRow.{keys-with_row}
-use Rattle.clr_shelf.proofs.Groups.{All-with_row}
 use Rattle.clr_rules.specs.Id.{same_id_from_tie}
 use Rattle.clr_rules.specs.Records.{is_switch_order, lacks_work, numbers_of}
 use Rattle.clr_rules.proofs.edits.EditReading.{record_of-put}
@@ -40,7 +39,7 @@ pub record Moved (R S : Register) (c : Id) (new : Record) : Type 0 where
       → position_of S.states p ≡ Some Opened
   pub closing_free : (b : Id) (p : List ℕ) → is_closing_at S.steps b p ≡ true
       → (d : Id) (kind : HoldKind) → is_point_kind kind ≡ true → has_hold S.holds d kind p ≡ true → (d ≡ b) × (kind ≡ HeldOpen)
-  pub steps_known : All (λ row. IsTrue (has_name (point_names (Grid.points R.net)) row.step.point)) S.steps
+  pub steps_known : AreAtPoints R.net (steps_of S.steps c)
 
 module _ (R : Register) (good : IsGoodByPhase R) (c : Id) (new : Record) (own : new.id ≡ c) where
   pub put_read : record_of (with_row id_cmp record_key new R.records) c ≡ Some new
@@ -56,17 +55,17 @@ module _ (R : Register) (good : IsGoodByPhase R) (c : Id) (new : Record) (own : 
     others = λ d differs. same_outlook R S d (ap (λ (records : List Record). record_of records d) puts ∙ record_of-others d new R.records (ap (same_id d) own ∙ differs))
         (move.other_steps d differs) (move.other_holds d differs) (move.other_hands d differs);
     own = subst (IsInPlace R.net) seen move.own_place;
-    operator = λ s is.
-        subst (λ (s : Record). is_switch_order s ≡ is_operators R c.requester)
-        (same_Some new s (sym put_read ∙ sym (ap (λ (records : List Record). record_of records c) puts) ∙ is)) operator;
+    operator = λ s is. subst (λ (s : Record). is_switch_order s ≡ is_operators R c.requester) (put_is s is) operator;
     held_open = move.held_open;
     closing_free = move.closing_free;
     numbered = λ requester. subst (λ (records : List Record). numbers_of records requester ≡ range_with_len 1 (length (numbers_of records requester))) (sym puts) (numbered requester);
-    work_known = subst (λ (records : List Record). All (λ r. IsTrue (is_known_work (section_names (Grid.sections R.net)) r.work)) records) (sym puts)
-        (All-with_row id_cmp record_key id_cmp_total (λ (s : Record). is_known_work (section_names (Grid.sections R.net)) s.work ≡ true) new R.records known good.work_known);
+    work_known = λ s is. subst (λ (s : Record). is_known_work (section_names (Grid.sections R.net)) s.work ≡ true) (put_is s is) known;
     steps_known = move.steps_known;
   }
     where
+      put_is : (s : Record) → record_of S.records c ≡ Some s → new ≡ s
+      put_is s is = same_Some new s (sym put_read ∙ sym (ap (λ (records : List Record). record_of records c) puts) ∙ is)
+
       seen : outlook_with S c new ≡ outlook_of S c
       seen i = record {
         clearance = sym (ap (λ (records : List Record). record_of records c) puts ∙ put_read) i;
@@ -75,14 +74,12 @@ module _ (R : Register) (good : IsGoodByPhase R) (c : Id) (new : Record) (own : 
         hand = has_in_hand S.states c;
       }
 
--- a record put over that of its clearance
-pub put_changes : (R : Register) → IsGoodByPhase R → (c : Id) (r new : Record) → record_of R.records c ≡ Some r → new.id ≡ c → new.work ≡ r.work
+-- a record put over an open one of its clearance
+pub put_changes : (R : Register) → IsGoodByPhase R → (c : Id) (r new : Record) → record_of R.records c ≡ Some r → is_open r.phase ≡ true → new.id ≡ c → new.work ≡ r.work
     → (S : Register) → S.records ≡ with_row id_cmp record_key new R.records → Moved R S c new → Changed R S c
-put_changes R good c r new found own same_work S puts move = changed_by R good c new own S puts move
-    (ap (is_known_work (section_names (Grid.sections R.net))) same_work
-    ∙ All-contains (λ (s : Record). is_known_work (section_names (Grid.sections R.net)) s.work ≡ true) R.records r good.work_known
-    (member-row_of id_cmp record_key id_cmp_total c r R.records found).0)
-    (ap lacks_work same_work ∙ good.operators c r found)
+put_changes R good c r new found unclosed own same_work S puts move = changed_by R good c new own S puts move
+    (ap (is_known_work (section_names (Grid.sections R.net))) same_work ∙ good.work_known c r found unclosed)
+    (ap lacks_work same_work ∙ good.operators c r found unclosed)
     (λ requester. numbers_alike requester R.records (with_row id_cmp record_key new R.records)
     (keys-with_row id_cmp record_key id_cmp_total same_id_from_tie new R.records good.in_order.records
     (ap (λ d. has_record R.records d) own ∙ ap is_some found)) (good.numbered requester))
@@ -96,7 +93,7 @@ pub record Quiet (R S : Register) (c : Id) : Type 0 where
   pub other_holds : (d : Id) → same_id d c ≡ false → (kind : HoldKind) (place : List ℕ) → has_hold S.holds d kind place ≡ has_hold R.holds d kind place
   pub other_steps : (d : Id) → same_id d c ≡ false → steps_of S.steps d ≡ steps_of R.steps d
   pub own_closing : (p : List ℕ) → is_closing_at S.steps c p ≡ true → is_closing_at R.steps c p ≡ true
-  pub steps_known : All (λ row. IsTrue (has_name (point_names (Grid.points R.net)) row.step.point)) S.steps
+  pub steps_known : AreAtPoints R.net (steps_of S.steps c)
 
 -- whether a Close is given out depends on the clearance's steps alone
 pub same_closing : (R S : Register) (b : Id) (p : List ℕ) → steps_of S.steps b ≡ steps_of R.steps b → is_closing_at R.steps b p ≡ is_closing_at S.steps b p

@@ -1,6 +1,6 @@
 -- A step is put over another of its clearance: what the register has of steps, and what it may leave of states and holds.
-use Rattle.std.proofs.Common.{◌≡◌, ℕ, Bool, true, false, cond, ◌&&◌, List, ◌∷◌, ◌++◌, Option, Some, None, is_some, IsTrue, All, Contains, refl, sym, ◌∙◌, ap, subst}
-use Rattle.clr_rules.proofs.Common.{list_any, false≢true, All-contains, Grid, point_names, same_name, has_name, one_name, in_key_order-filter, in_key_order, with_row, is_closing_at, InPhase}
+use Rattle.std.proofs.Common.{◌≡◌, ℕ, Bool, true, false, cond, ◌&&◌, List, ◌∷◌, ◌++◌, Option, Some, None, is_some, Contains, refl, sym, ◌∙◌, ap, subst}
+use Rattle.clr_rules.proofs.Common.{AreAtPoints, list_any, false≢true, All-contains, Grid, point_names, same_name, has_name, one_name, in_key_order-filter, in_key_order, with_row, is_closing_at, InPhase}
 use Rattle.clr_rules.proofs.Common.{IsGoodByPhase, IsInPlace, outlook_of, HoldKind, PointState, Record, StepRow, Id, same_id, Register, has_in_hand, state_of, step_key, step_key_cmp}
 use Rattle.clr_rules.proofs.Common.{step_key_cmp_total, is_active, steps_of, is_hand, is_close}
 use Rattle.clr_shelf.proofs.Groups.{All-with_row, filter-with_inside}
@@ -49,17 +49,21 @@ module _ (R : Register) (good : IsGoodByPhase R) (c : Id) (row new : StepRow) (p
   pub others_put : (d : Id) → same_id d c ≡ false → steps_of (put_step new R.steps) d ≡ steps_of R.steps d
   others_put d differs = steps_of-others d new R.steps good.in_order.steps (ap (same_id d) new_id ∙ differs)
 
-  -- the point of the step is known
-  pub point_known : has_name (point_names (Grid.points R.net)) row.step.point ≡ true
-  point_known = All-contains (λ (row : StepRow). has_name (point_names (Grid.points R.net)) row.step.point ≡ true) R.steps row good.points_known.steps p.there
+  -- where the clearance's steps are at points of the network,
+  module _ (at_points : AreAtPoints R.net (steps_of R.steps c)) where
+    -- that of the step is known
+    pub point_known : has_name (point_names (Grid.points R.net)) row.step.point ≡ true
+    point_known = All-contains (λ (row : StepRow). has_name (point_names (Grid.points R.net)) row.step.point ≡ true) (steps_of R.steps c) row at_points
+        (subst (λ (d : Id). Contains (steps_of R.steps d) row) p.own (among_own R.steps row p.there))
 
-  pub known_put : new.step.point ≡ row.step.point → All (λ row. IsTrue (has_name (point_names (Grid.points R.net)) row.step.point)) (put_step new R.steps)
-  known_put same = All-with_row step_key_cmp step_key step_key_cmp_total (λ (row : StepRow). has_name (point_names (Grid.points R.net)) row.step.point ≡ true) new R.steps
-      (ap (has_name (point_names (Grid.points R.net))) same ∙ point_known) good.points_known.steps
+    pub known_put : new.step.point ≡ row.step.point → AreAtPoints R.net (steps_of (put_step new R.steps) c)
+    known_put same = subst (AreAtPoints R.net) (sym (own_steps c new R.steps (ap (same_id c) new_id ∙ own_id c)))
+        (All-with_row step_key_cmp step_key step_key_cmp_total (λ (row : StepRow). has_name (point_names (Grid.points R.net)) row.step.point ≡ true) new (steps_of R.steps c)
+        (ap (has_name (point_names (Grid.points R.net))) same ∙ point_known) at_points)
 
-  -- and has a state
-  pub state_known : is_some (state_of R.states row.step.point) ≡ true
-  state_known = state_is_known R.states row.step.point ∙ ap (λ names. has_name names row.step.point) good.points_known.states ∙ point_known
+    -- and has a state
+    pub state_known : is_some (state_of R.states row.step.point) ≡ true
+    state_known = state_is_known R.states row.step.point ∙ ap (λ names. has_name names row.step.point) good.points_known.states ∙ point_known
 
 -- whether a Close is given out, by the steps of the clearance
 abbrev pub closes_at : List ℕ → StepRow → Bool

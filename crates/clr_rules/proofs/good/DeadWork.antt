@@ -6,6 +6,7 @@ use Rattle.clr_net.proofs.Walks.{fence_is_closed}
 use Rattle.clr_rules.specs.Good.{IsFullyHeld, IsGoodAsSaid, is_known_work, works_on}
 use Rattle.clr_rules.specs.Live.{IsLive, is_live}
 use Rattle.clr_rules.specs.laws.Work.{IsSafeWork}
+use Rattle.clr_rules.proofs.lists.OpenPhases.{open_where}
 use Rattle.clr_rules.proofs.live.FenceCuts.{named_from_in_fence}
 use Rattle.clr_rules.proofs.live.LiveSections.{live_is_closed_walks}
 
@@ -13,10 +14,6 @@ granted_is_fenced : (phase : Phase) → is_granted phase ≡ true → is_fenced 
 granted_is_fenced Requested granted = cc
 granted_is_fenced Closed granted = cc
 granted_is_fenced _ granted = refl
-
--- a record is one of the list, and of its clearance
-found_record : (R : Register) (c : Id) (r : Record) → record_of R.records c ≡ Some r → Contains R.records r
-found_record R c r found = (member-row_of id_cmp record_key id_cmp_total c r R.records found).0
 
 module _ (R : Register) (good : IsGoodAsSaid R) (c : Id) where
   -- the fence of a clearance that has one
@@ -32,8 +29,8 @@ module _ (R : Register) (good : IsGoodAsSaid R) (c : Id) where
   pub granted_work_is_dead : (r : Record) → record_of R.records c ≡ Some r → is_granted r.phase ≡ true
       → (work : List ℕ) → r.work ≡ Some work → (has_name (clearance_fence R c) work ≡ true) × (is_live R.net R.states work ≡ false)
   granted_work_is_dead r found granted work is =
-      let all_known = All-contains (λ (r : Record). IsTrue (is_known_work (section_names (Grid.sections R.net)) r.work)) R.records r good.numbers_have_no_gaps.work_known (found_record R c r found) in
-      let known : has_name (section_names (Grid.sections R.net)) work ≡ true = rw is at all_known in
+      let own_known = good.numbers_have_no_gaps.work_known c r found (open_where is_granted refl r.phase granted) in
+      let known : has_name (section_names (Grid.sections R.net)) work ≡ true = rw is at own_known in
       let cut = points_of (steps_in R.steps r.id 1) in
       let inside : has_name (clearance_fence R c) work ≡ true =
       ap (λ fence. has_name fence work) (fence_of_granted r work found granted is)

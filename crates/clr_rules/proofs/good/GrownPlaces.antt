@@ -1,5 +1,6 @@
 -- In a network that leaves the fences of all clearances as they were, and their orders sound, each clearance stays in its place.
 use Rattle.std.proofs.Common.{◌≡◌, ◌∙◌, ℕ, Bool, true, false, ◌&&◌, List, Option, Some, None, IsTrue, refl, sym, ap, subst}
+use Rattle.clr_rules.proofs.lists.OpenPhases.{open_where}
 use Rattle.clr_rules.proofs.Common.{and_parts, All-contains, FenceRows, in_fence, Grid, section_names, has_name, PointRow, SectionRow, member-row_of, is_known_work, Phase, Requested, Ordered, Granted}
 use Rattle.clr_rules.proofs.Common.{Released, Restoring, Switching, Closed, Record, StepRow, Id, id_cmp, id_cmp_total, Register, record_key, record_of, is_standing, points_of, tasks_of, steps_in}
 use Rattle.clr_rules.proofs.Common.{steps_of, first_of_each, is_fenced, of_round_is, record_id}
@@ -115,10 +116,10 @@ module _ (R : Register) (good : IsGoodByPhase R) where
 
   -- ---- a section or a point more
 
-  known_work : (c : Id) (r : Record) (work : List ℕ) → record_of R.records c ≡ Some r → r.work ≡ Some work → has_name (section_names (Grid.sections R.net)) work ≡ true
-  known_work c r work read works = subst (λ (o : Option (List ℕ)). is_known_work (section_names (Grid.sections R.net)) o ≡ true) works
-      (All-contains (λ (r : Record). IsTrue (is_known_work (section_names (Grid.sections R.net)) r.work)) R.records r good.work_known
-      (member-row_of id_cmp record_key id_cmp_total c r R.records read).0)
+  known_work : (c : Id) (r : Record) (work : List ℕ) → record_of R.records c ≡ Some r → r.work ≡ Some work → is_fenced r.phase ≡ true
+      → has_name (section_names (Grid.sections R.net)) work ≡ true
+  known_work c r work read works fenced = subst (λ (o : Option (List ℕ)). is_known_work (section_names (Grid.sections R.net)) o ≡ true) works
+      (good.work_known c r read (open_where is_fenced refl r.phase fenced))
 
   -- the order is cut at the same points, each once
   abbrev own_points : Id → List (List ℕ)
@@ -130,8 +131,8 @@ module _ (R : Register) (good : IsGoodByPhase R) where
   pub sections_keep_fences : (row : SectionRow) → IsTrue (fits_section R.net row) → KeepsFences (with_section row R.net)
   sections_keep_fences row fits = record {
     fence = λ c r work read works fenced. ap (λ (fence : FenceRows). section_names fence.sections)
-        (additions_keep_fences.section R.net good.network row fits work (cut_of c) (known_work c r work read works)).fence;
-    isolates = λ c r work read works fenced. order_beside_section R.net good.network work (known_work c r work read works) (own_points c)
+        (additions_keep_fences.section R.net good.network row fits work (cut_of c) (known_work c r work read works fenced)).fence;
+    isolates = λ c r work read works fenced. order_beside_section R.net good.network work (known_work c r work read works fenced) (own_points c)
         (tasks_of (of_round (steps_of R.steps c) 1)) row fits;
   }
 
@@ -159,9 +160,9 @@ module _ (R : Register) (good : IsGoodByPhase R) where
     pub points_keep_fences : KeepsFences (with_point p R.net)
     points_keep_fences = record {
       fence = λ c r work read works fenced. ap (λ (fence : FenceRows). section_names fence.sections)
-          (additions_keep_fences.point R.net good.network p fits work (cut_of c) (known_work c r work read works) (ends_alike c r work read works fenced)).fence;
+          (additions_keep_fences.point R.net good.network p fits work (cut_of c) (known_work c r work read works fenced) (ends_alike c r work read works fenced)).fence;
       isolates = λ c r work read works fenced.
           let alike = in_fence_alike R.net work (own_points c) (cut_of c) (same_cut c) in
-          order_beside_point R.net good.network work (known_work c r work read works) (own_points c)
+          order_beside_point R.net good.network work (known_work c r work read works fenced) (own_points c)
           (tasks_of (of_round (steps_of R.steps c) 1)) p fits (alike p.from_end ∙ ends_alike c r work read works fenced ∙ sym (alike p.to_end));
     }

@@ -2,7 +2,7 @@
 use Rattle.std.proofs.Common.{◌≡◌, ◌∙◌, ℕ, Bool, true, false, cond, List, map, Option, Some, None, IsTrue, refl, sym, ap, subst, is_some, option_map, is_eq}
 use Rattle.clr_rules.proofs.Common.{false≢true, or_right, nat_list_cmp_total, All-weaker, Grid, point_names, section_names, unplaced, name_cmp, same_name, has_name, PointRow, Opened, SectionRow}
 use Rattle.clr_rules.proofs.Common.{in_key_order-with_row, equal, same_text, row_of-with, is_known_work, IsGoodByPhase, IsInPlace, outlook_of, AddSection, AddPoint, PointState, Record, StepRow, Id}
-use Rattle.clr_rules.proofs.Common.{Register, has_in_hand, position_of, state_key, state_of, after_edit, first_state, hand_in, is_hand}
+use Rattle.clr_rules.proofs.Common.{Register, has_in_hand, position_of, state_key, state_of, after_edit, first_state, hand_in, is_hand, steps_of}
 use Rattle.clr_net.specs.Additions.{fits_point, fits_section, with_section}
 use Rattle.clr_net.proofs.Grown.{point_fits, points_are_added, sections_are_added}
 use Rattle.clr_rules.specs.Fences.{CrossesNoFence}
@@ -29,8 +29,7 @@ module _ (R : Register) (good : IsGoodByPhase R) (row : SectionRow) (fits : IsTr
     held_open = good.held_open;
     closing_free = good.closing_free;
     numbered = good.numbered;
-    work_known = All-weaker (λ (r : Record). IsTrue (is_known_work (section_names (Grid.sections R.net)) r.work))
-        (λ (r : Record). IsTrue (is_known_work (section_names (Grid.sections (with_section row R.net))) r.work)) (λ r known. work_stays r.work known) R.records good.work_known;
+    work_known = λ c r found unclosed. work_stays r.work (good.work_known c r found unclosed);
     placed = λ i. record { sections = Grid.sections (with_section row R.net); points = Grid.points (good.placed i) };
     points_known = record { states = good.points_known.states; steps = good.points_known.steps };
     in_order = record { states = good.in_order.states; records = good.in_order.records; steps = good.in_order.steps; holds = good.in_order.holds };
@@ -102,9 +101,9 @@ module _ (R : Register) (good : IsGoodByPhase R) (p : PointRow) (fits : IsTrue (
     placed = net_after-unplaced (AddPoint p) R.net ∙ ap (net_after (AddPoint p)) good.placed;
     points_known = record {
       states = same_points;
-      steps = All-weaker (λ (row : StepRow). IsTrue (has_name (point_names (Grid.points R.net)) row.step.point))
+      steps = λ c r found unclosed. All-weaker (λ (row : StepRow). IsTrue (has_name (point_names (Grid.points R.net)) row.step.point))
           (λ (row : StepRow). IsTrue (has_name (point_names grown_net.points) row.step.point))
-          (λ row known. names_stay row.step.point known) R.steps good.points_known.steps;
+          (λ row known. names_stay row.step.point known) (steps_of R.steps c) (good.points_known.steps c r found unclosed);
     };
     in_order = record {
       states = in_key_order-with_row name_cmp state_key nat_list_cmp_total (first_state (unplaced p)) R.states good.in_order.states;

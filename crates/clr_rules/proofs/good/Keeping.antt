@@ -1,9 +1,9 @@
 -- What it takes to keep a register good: the clearance that a command is about comes to its new place, and the others stay in theirs.
-use Rattle.std.proofs.Common.{◌≡◌, ℕ, Bool, true, false, List, [], Option, Some, None, IsTrue, All, length, refl, sym, ◌∙◌, ap}
+use Rattle.std.proofs.Common.{◌≡◌, ℕ, Bool, true, false, List, [], Option, Some, None, length, refl, sym, ◌∙◌, ap, subst}
 use Rattle.std.specs.List.{range_with_len}
-use Rattle.clr_rules.proofs.Common.{Grid, point_names, section_names, has_name, Opened, StaffRow, Answer, known_of, answer_by_checks, checks, edits_of, Edit, Command, Kind, HoldKind, HeldOpen, Record}
+use Rattle.clr_rules.proofs.Common.{AreAtPoints, Grid, section_names, Opened, StaffRow, Answer, known_of, answer_by_checks, checks, edits_of, Edit, Command, Kind, HoldKind, HeldOpen, Record}
 use Rattle.clr_rules.proofs.Common.{Refusal, Id, same_id, Register, has_in_hand, position_of, record_of, steps_of, is_point_kind, has_hold, after_edits, is_closing_at, is_known_work, is_operators}
-use Rattle.clr_rules.proofs.Common.{IsGood, IsGoodByPhase, IsInPlace, outlook_of, is_switch_order, numbers_of, after, one_id}
+use Rattle.clr_rules.proofs.Common.{IsGood, IsGoodByPhase, IsInPlace, outlook_of, is_open, is_switch_order, numbers_of, after, one_id}
 use Rattle.clr_rules.specs.Checks.{employee, has_role, is_operator}
 use Rattle.clr_rules.specs.laws.Edits.{adds_nothing, KeepsNetwork, refusal_of}
 use Rattle.clr_rules.proofs.edits.EditedLists.{edited_all-in_order, edited_all-network}
@@ -23,8 +23,8 @@ pub record Changed (R S : Register) (c : Id) : Type 0 where
   pub closing_free : (b : Id) (p : List ℕ) → is_closing_at S.steps b p ≡ true
       → (d : Id) (kind : HoldKind) → is_point_kind kind ≡ true → has_hold S.holds d kind p ≡ true → (d ≡ b) × (kind ≡ HeldOpen)
   pub numbered : (requester : List ℕ) → numbers_of S.records requester ≡ range_with_len 1 (length (numbers_of S.records requester))
-  pub work_known : All (λ r. IsTrue (is_known_work (section_names (Grid.sections R.net)) r.work)) S.records
-  pub steps_known : All (λ row. IsTrue (has_name (point_names (Grid.points R.net)) row.step.point)) S.steps
+  pub work_known : (r : Record) → record_of S.records c ≡ Some r → is_known_work (section_names (Grid.sections R.net)) r.work ≡ true
+  pub steps_known : AreAtPoints R.net (steps_of S.steps c)
 
 -- two outlooks are one, where they show the same
 pub same_outlook : (R S : Register) (d : Id) → record_of S.records d ≡ record_of R.records d → steps_of S.steps d ≡ steps_of R.steps d
@@ -38,15 +38,15 @@ keeps R edits c adds_none good changed = record {
   network = rw same.same_net good.network;
   staff = rw same.same_staff good.staff;
   in_place = λ d. rw same.same_net (placed d (same_id d c) refl);
-  operators = λ d r found. at_operator d r found (same_id d c) refl;
+  operators = λ d r found unclosed. at_operator d r found unclosed (same_id d c) refl;
   held_open = changed.held_open;
   closing_free = changed.closing_free;
   numbered = changed.numbered;
-  work_known = rw same.same_net changed.work_known;
+  work_known = λ d r found unclosed. rw same.same_net (work_at d r found unclosed (same_id d c) refl);
   placed = rw same.same_net good.placed;
   points_known = record {
     states = same.same_points ∙ rw same.same_net good.points_known.states;
-    steps = rw same.same_net changed.steps_known;
+    steps = λ d r found unclosed. rw same.same_net (steps_at d r found unclosed (same_id d c) refl);
   };
   in_order = edited_all-in_order R edits good.in_order;
 }
@@ -62,11 +62,24 @@ keeps R edits c adds_none good changed = record {
     by_staff : (name : List ℕ) → is_operators (after_edits edits R) name ≡ is_operators R name
     by_staff name = ap (λ (staff : List StaffRow). has_role is_operator (employee staff name)) same.same_staff
 
-    at_operator : (d : Id) (r : Record) → record_of (Register.records (after_edits edits R)) d ≡ Some r → (b : Bool) → same_id d c ≡ b
+    before : (d : Id) (r : Record) → record_of (Register.records (after_edits edits R)) d ≡ Some r → same_id d c ≡ false → record_of R.records d ≡ Some r
+    before d r found differs = sym (ap (λ v. v.clearance) (changed.others d differs)) ∙ found
+
+    at_operator : (d : Id) (r : Record) → record_of (Register.records (after_edits edits R)) d ≡ Some r → is_open r.phase ≡ true → (b : Bool) → same_id d c ≡ b
         → is_switch_order r ≡ is_operators (after_edits edits R) d.requester
-    at_operator d r found true is = rw (one_id d c is) (changed.operator r (rw (one_id d c is) at found) ∙ sym (by_staff c.requester))
-    at_operator d r found false differs =
-        good.operators d r (sym (ap (λ v. v.clearance) (changed.others d differs)) ∙ found) ∙ sym (by_staff d.requester)
+    at_operator d r found unclosed true is = rw (one_id d c is) (changed.operator r (rw (one_id d c is) at found) ∙ sym (by_staff c.requester))
+    at_operator d r found unclosed false differs = good.operators d r (before d r found differs) unclosed ∙ sym (by_staff d.requester)
+
+    work_at : (d : Id) (r : Record) → record_of (Register.records (after_edits edits R)) d ≡ Some r → is_open r.phase ≡ true → (b : Bool) → same_id d c ≡ b
+        → is_known_work (section_names (Grid.sections R.net)) r.work ≡ true
+    work_at d r found unclosed true is = changed.work_known r (rw (one_id d c is) at found)
+    work_at d r found unclosed false differs = good.work_known d r (before d r found differs) unclosed
+
+    steps_at : (d : Id) (r : Record) → record_of (Register.records (after_edits edits R)) d ≡ Some r → is_open r.phase ≡ true → (b : Bool) → same_id d c ≡ b
+        → AreAtPoints R.net (steps_of (Register.steps (after_edits edits R)) d)
+    steps_at d r found unclosed true is = rw (one_id d c is) changed.steps_known
+    steps_at d r found unclosed false differs =
+        subst (AreAtPoints R.net) (sym (ap (λ v. v.steps) (changed.others d differs))) (good.points_known.steps d r (before d r found differs) unclosed)
 
 -- ---- commands
 

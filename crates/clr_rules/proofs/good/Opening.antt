@@ -64,7 +64,7 @@ no_hold : (c : Id) (kind : HoldKind) (place : List ℕ) → has_hold [] c kind p
 unfolding row_of
 no_hold c kind place = refl
 
-no_record : (c : Id) (r : Record) → record_of [] c ≡ Some r → ⊥
+pub no_record : (c : Id) (r : Record) → record_of [] c ≡ Some r → ⊥
 unfolding row_of
 no_record c r found = none-some r found
 
@@ -114,7 +114,7 @@ opening_is_good g staff net is_staff = record {
       steps_recorded = All-nil (λ (row : StepRow). IsTrue (has_record [] row.id));
       holds_recorded = All-nil (λ (h : Hold). IsTrue (has_record [] h.id));
       hands_recorded = λ c p held. absurd (false≢true (sym (in_no_hand g.points c p) ∙ held));
-      work_known = All-nil (λ (r : Record). IsTrue (is_known_work (section_names g.sections) r.work));
+      work_known = λ c r found unclosed. absurd (no_record c r found);
     };
     steps_go_in_turn = record {
       in_turn = All-nil (λ (row : StepRow). is_waiting row.step.state ≡ false → is_in_turn (steps_in [] row.id row.round) row.ordinal ≡ true);
@@ -134,14 +134,14 @@ opening_is_good g staff net is_staff = record {
   besides = record {
     restoring_rounds = λ c r found restoring. absurd (no_record c r found);
     switch_orders = record {
-      without_work = λ c r found. absurd (no_record c r found);
+      without_work = λ c r found unclosed. absurd (no_record c r found);
       phases = λ c r found switch. absurd (no_record c r found);
       switching = λ c r found switch. absurd (no_record c r found);
     };
     placed = unplaced_once g;
     points_known = record {
       states = first_keys g.points ∙ sym (unplaced_names g.points);
-      steps = All-nil (λ (row : StepRow). IsTrue (has_name (point_names (map unplaced g.points)) row.step.point));
+      steps = λ c r found unclosed. absurd (no_record c r found);
     };
   };
 }

@@ -7,9 +7,10 @@ use Rattle.std.proofs.lemmas.Map.Keys.{sorted_tail}
 use Rattle.std.proofs.lemmas.Map.Views.{All-after_first}
 use Rattle.clr_rules.specs.Agreement.{Agree, extent_near, part_near}
 use Rattle.clr_rules.specs.Answer.{crossed_for, fence_for, known_of, requester_for}
-use Rattle.clr_rules.specs.Checks.{employee, has_role, is_operator}
 use Rattle.clr_rules.specs.Fences.{clearance_fence, order_fence, touching_names}
 use Rattle.clr_rules.specs.Good.{IsGoodAsSaid, SwitchOrdersAreOperators, is_operators}
+use Rattle.clr_rules.specs.laws.Steps.{IsNoSwitchOrder}
+use Rattle.clr_rules.proofs.lists.OpenPhases.{found_open}
 use Rattle.clr_rules.specs.Prelude.{Command, Kind, Hold, PointState, Record, StepRow, Id, same_id, Register, greatest_number, record_of, Order}
 use Rattle.clr_rules.specs.Isolation.{AreAlike}
 use Rattle.clr_rules.specs.Near.{is_asked, is_beside, near_of, near_part, part, switched_points, switched_by}
@@ -18,7 +19,7 @@ use Rattle.clr_rules.proofs.lists.Filters.{filter-no_member, itself_says, there_
 use Rattle.clr_rules.proofs.near.NearNamed.{near_named, no_jumper, none_crossed}
 use Rattle.clr_rules.proofs.near.NearParts.{fence_named, not_asked, or_false, request_near, switched_named}
 use Rattle.clr_rules.proofs.near.NearWords.{near_hold_says, touching_says}
-use Rattle.clr_rules.proofs.isolation.SameFences.{included, points-part, same_clearance_fence, same_order_fence}
+use Rattle.clr_rules.proofs.isolation.SameFences.{included, points-part, same_clearance_fence, same_order_fence, same_record}
 
 -- ---- a part that is seen in the part near a clearance as in the whole register
 
@@ -81,12 +82,20 @@ module _ (R : Register) (c : Id) (inside : List ℕ → Bool) (fence : List (Lis
         holds = holds i;
       })
 
--- ---- the near part of a command that names a clearance of no operator
+-- ---- the near part of a command that names a clearance which is no switch order
 
-module _ (R : Register) (c : Id) (orders : SwitchOrdersAreOperators R) (no_operator : is_operators R c.requester ≡ false) where
+-- an open record of no operator is no switch order
+pub open_is_none : (R : Register) (c : Id) → SwitchOrdersAreOperators R → is_operators R c.requester ≡ false → found_open (record_of R.records c) ≡ true → IsNoSwitchOrder R c
+open_is_none R c orders no_operator unclosed r read = orders.without_work c r read (sym (ap found_open read) ∙ unclosed) ∙ no_operator
+
+-- nor is one in the second of two registers, where it is none in the first
+pub none_in_second : (c : Id) (R S : Register) → record_of R.records c ≡ record_of S.records c → IsNoSwitchOrder R c → IsNoSwitchOrder S c
+none_in_second c R S same none r read = none r (same ∙ read)
+
+module _ (R : Register) (c : Id) (none : IsNoSwitchOrder R c) where
   no_switch_found : (o : Option Record) → record_of R.records c ≡ o → switched_by R c o ≡ []
   no_switch_found None read = refl
-  no_switch_found (Some r) read = rw (orders.without_work c r read ∙ no_operator) refl
+  no_switch_found (Some r) read = rw (none r read) refl
 
   near_as_part : (q : Command) → named_clearance q.kind ≡ Some c → near_part R q ≡ at_sections R (fence_for R q.kind) c
   near_as_part q named =
@@ -119,28 +128,29 @@ fence_covered c inside R kind named present coming requested =
 
 module _ (c : Id) (inside : List ℕ → Bool) (R S : Register) (agree : Agree c inside R S) (R_good : IsGoodAsSaid R) (S_good : IsGoodAsSaid S) where
   -- and the fence is the same in both
-  same_fence : (kind : Kind) → named_clearance kind ≡ Some c → includes inside (fence_for R kind) ≡ true → fence_for R kind ≡ fence_for S kind
-  same_fence (Order d points tasks) named covered =
+  same_fence : (kind : Kind) → named_clearance kind ≡ Some c → (is_order kind ≡ true → found_phase_requested (record_of R.records c) ≡ true)
+      → includes inside (fence_for R kind) ≡ true → fence_for R kind ≡ fence_for S kind
+  same_fence (Order d points tasks) named requested covered =
       let own : d ≡ c = same_Some d c named in
       ap (λ (e : Id). order_fence R e points) own
-      ∙ same_order_fence R S c inside agree R_good S_good points (ap (λ (e : Id). includes inside (order_fence R e points)) (sym own) ∙ covered)
+      ∙ same_order_fence R S c inside agree R_good S_good points (requested refl) (ap (λ (e : Id). includes inside (order_fence R e points)) (sym own) ∙ covered)
       ∙ ap (λ (e : Id). order_fence S e points) (sym own)
-  same_fence kind named covered =
+  same_fence kind named requested covered =
       let is_fence = fence_named R kind c named refl in
       is_fence ∙ same_clearance_fence R S c inside agree R_good S_good (ap (includes inside) (sym is_fence) ∙ covered) ∙ sym (fence_named S kind c named refl)
 
-  module _ (R_orders : SwitchOrdersAreOperators R) (S_orders : SwitchOrdersAreOperators S)
-      (R_other : is_operators R c.requester ≡ false) (S_other : is_operators S c.requester ≡ false) where
-    named_look_alike : (q : Command) → named_clearance q.kind ≡ Some c → includes inside (fence_for R q.kind) ≡ true → near_of R q ≡ near_of S q
-    named_look_alike q named covered =
-        let fence = same_fence q.kind named covered in
+  module _ (R_none : IsNoSwitchOrder R c) (S_none : IsNoSwitchOrder S c) where
+    named_look_alike : (q : Command) → named_clearance q.kind ≡ Some c → (is_order q.kind ≡ true → found_phase_requested (record_of R.records c) ≡ true)
+        → includes inside (fence_for R q.kind) ≡ true → near_of R q ≡ near_of S q
+    named_look_alike q named requested covered =
+        let fence = same_fence q.kind named requested covered in
         let first : (s : List ℕ) → has_name (fence_for R q.kind) s ≡ true → inside s ≡ true = λ s is_in. included inside (fence_for R q.kind) s covered is_in in
         let second : (s : List ℕ) → has_name (fence_for S q.kind) s ≡ true → inside s ≡ true =
         λ s is_in. first s (ap (λ (names : List (List ℕ)). has_name names s) fence ∙ is_in) in
         let rows : near_part R q ≡ near_part S q =
-        near_as_part R c R_orders R_other q named ∙ sym (at_sections-part R c inside (fence_for R q.kind) first)
+        near_as_part R c R_none q named ∙ sym (at_sections-part R c inside (fence_for R q.kind) first)
         ∙ (λ i. at_sections (agree.near i) (fence i) c)
-        ∙ at_sections-part S c inside (fence_for S q.kind) second ∙ sym (near_as_part S c S_orders S_other q named) in
+        ∙ at_sections-part S c inside (fence_for S q.kind) second ∙ sym (near_as_part S c S_none q named) in
         let requester : requester_for q.caller (named_clearance q.kind) ≡ c.requester = ap (requester_for q.caller) named in
         let greatest : greatest_number R.records (requester_for q.caller (named_clearance q.kind)) ≡ greatest_number S.records (requester_for q.caller (named_clearance q.kind)) =
         ap (greatest_number R.records) requester ∙ agree.greatest ∙ ap (greatest_number S.records) (sym requester) in
@@ -203,7 +213,7 @@ request_look_alike c inside R S agree R_good S_good by at section own asked =
 -- ---- each own command
 
 -- an own command that names none is a request of the requester
-own_request : (c : Id) (inside : List ℕ → Bool) (R S : Register) → Agree c inside R S → IsGoodAsSaid R → IsGoodAsSaid S
+pub own_request : (c : Id) (inside : List ℕ → Bool) (R S : Register) → Agree c inside R S → IsGoodAsSaid R → IsGoodAsSaid S
     → (by : List ℕ) (at : ℕ) (kind : Kind) → named_clearance kind ≡ None → is_own_kind c by kind None ≡ true → asked_row R kind ≡ asked_row S kind
     → near_of R (record { caller = by; moment = at; kind = kind }) ≡ near_of S (record { caller = by; moment = at; kind = kind })
 own_request c inside R S agree R_good S_good by at (Request section) none own asked = request_look_alike c inside R S agree R_good S_good by at section own asked
@@ -211,9 +221,9 @@ own_request c inside R S agree R_good S_good by at (Switch tasks) none own asked
 own_request c inside R S agree R_good S_good by at _ none own asked = cc
 
 module _ (c : Id) (inside : List ℕ → Bool) (R S : Register) (q : Command) (alike : AreAlike c inside R S (q ∷ []))
-    (asked : asked_row R q.kind ≡ asked_row S q.kind) (requested : is_order q.kind ≡ true → found_phase_requested (record_of R.records c) ≡ true) where
-  second_other : is_operators S c.requester ≡ false
-  second_other = ap (λ (staff : List StaffRow). has_role is_operator (employee staff c.requester)) (sym (ap (λ (P : Register). P.staff) alike.agree.near)) ∙ alike.no_operator
+    (asked : asked_row R q.kind ≡ asked_row S q.kind) (none : IsNoSwitchOrder R c) (requested : is_order q.kind ≡ true → found_phase_requested (record_of R.records c) ≡ true) where
+  second_none : IsNoSwitchOrder S c
+  second_none = none_in_second c R S (same_record R S c inside alike.agree) none
 
   covered_here : (includes inside (clearance_fence R c) ≡ true) × (includes inside (fence_to_come c R q.kind) ≡ true)
   unfolding covers
@@ -225,11 +235,11 @@ module _ (c : Id) (inside : List ℕ → Bool) (R S : Register) (q : Command) (a
   by_name None is own = own_request c inside R S alike.agree alike.first_good alike.second_good q.caller q.moment q.kind is own asked
   by_name (Some d) is own =
       let named : named_clearance q.kind ≡ Some c = is ∙ ap Some (sym (one_id c d own)) in
-      named_look_alike c inside R S alike.agree alike.first_good alike.second_good alike.first_orders alike.second_orders alike.no_operator second_other q named
+      named_look_alike c inside R S alike.agree alike.first_good alike.second_good none second_none q named requested
       (fence_covered c inside R q.kind named covered_here.0 covered_here.1 requested)
 
 pub look_alike : (c : Id) (inside : List ℕ → Bool) (R S : Register) (q : Command) → AreAlike c inside R S (q ∷ [])
-    → is_own_command c q ≡ true → asked_row R q.kind ≡ asked_row S q.kind
+    → IsNoSwitchOrder R c → is_own_command c q ≡ true → asked_row R q.kind ≡ asked_row S q.kind
     → (is_order q.kind ≡ true → found_phase_requested (record_of R.records c) ≡ true)
     → near_of R q ≡ near_of S q
-look_alike c inside R S q alike own asked requested = by_name c inside R S q alike asked requested (named_clearance q.kind) refl own
+look_alike c inside R S q alike none own asked requested = by_name c inside R S q alike asked none requested (named_clearance q.kind) refl own

@@ -210,7 +210,7 @@ settled_spares : (c : Id) (R : Register) (q : Command) (found : Option Refusal) 
 settled_spares c R q None passed matches known others = all_edits_spare c R (known_of R q) q.caller q.moment q.kind matches known others passed
 settled_spares c R q (Some refusal) passed matches known others = refl
 
-answers_spare : (R : Register) (c : Id) (q : Command) → HandsMatchToReport R q → PointsAreKnownToJumper R q
+pub answers_spare : (R : Register) (c : Id) (q : Command) → HandsMatchToReport R q → PointsAreKnownToJumper R q
     → (is_jumper q.kind ≡ false → not (same_id c (subject_of R q)) ≡ true)
     → all_spare c R (Answer.edits (answer R q)) ≡ true
 answers_spare R c q matches known others =

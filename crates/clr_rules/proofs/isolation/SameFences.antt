@@ -2,14 +2,16 @@
 use Rattle.std.proofs.Common.{◌≡◌, ◌∙◌, ⊎_elim, ℕ, Bool, true, false, List, map, Option, Some, None, refl, sym, ap, subst, IsTrue, filter}
 use Rattle.clr_rules.proofs.Common.{and_parts, or_cases, or_left, or_right, All-contains, in_fence, touches, Grid, section_names, unplaced, has_name, PointRow, SectionRow, equal, filter-filter_wider}
 use Rattle.clr_rules.proofs.Common.{list_all-contains, member-row_of, IsGoodAsSaid, is_known_work, Record, StepRow, Id, id_cmp, id_cmp_total, same_id, Register, record_key, record_of, points_of}
-use Rattle.clr_rules.proofs.Common.{steps_in, is_fenced, is_of_round, own_id, record_id}
+use Rattle.clr_rules.proofs.Common.{steps_in, is_fenced, is_open, is_of_round, own_id, record_id}
 use Rattle.clr_net.specs.Laws.{SameRowsAt}
 use Rattle.clr_net.proofs.Locality.{fences_are_local}
 use Rattle.clr_shelf.proofs.Groups.{row_of-filter_inside}
 use Rattle.clr_rules.specs.Agreement.{Agree, part_near}
 use Rattle.clr_rules.specs.Fences.{clearance_fence, found_fence, found_order_fence, order_fence, record_fence, touching_names, work_fence}
 use Rattle.clr_rules.specs.Id.{same_id_from_tie}
-use Rattle.clr_rules.specs.Shown.{includes}
+use Rattle.clr_rules.specs.Records.{is_requested}
+use Rattle.clr_rules.specs.Shown.{found_phase_requested, includes}
+use Rattle.clr_rules.proofs.lists.OpenPhases.{open_where}
 use Rattle.clr_rules.proofs.isolation.Agreement.{touching_named}
 use Rattle.clr_rules.proofs.live.FenceCuts.{named_from_in_fence}
 use Rattle.clr_rules.proofs.lists.Filters.{filter-kept, name_says}
@@ -73,9 +75,8 @@ module _ (R S : Register) (c : Id) (inside : List ℕ → Bool) (agree : Agree c
         (λ s there. included inside (work_fence R.net (Some work) cut) s covered (named_from_in_fence R.net work R_good.network cut s there))) in
         ap section_names same.sections
 
-    known_work : (r : Record) → record_of R.records c ≡ Some r → is_known_work (section_names (Grid.sections R.net)) r.work ≡ true
-    known_work r read = All-contains (λ (r : Record). IsTrue (is_known_work (section_names (Grid.sections R.net)) r.work)) R.records r
-        R_good.numbers_have_no_gaps.work_known (member-row_of id_cmp record_key id_cmp_total c r R.records read).0
+    known_work : (r : Record) → record_of R.records c ≡ Some r → is_open r.phase ≡ true → is_known_work (section_names (Grid.sections R.net)) r.work ≡ true
+    known_work = R_good.numbers_have_no_gaps.work_known c
 
     same_record_fence : (r : Record) → record_of R.records c ≡ Some r → (b : Bool) → is_fenced r.phase ≡ b
         → includes inside (record_fence R.net R.steps r) ≡ true → record_fence R.net R.steps r ≡ record_fence S.net S.steps r
@@ -83,7 +84,7 @@ module _ (R S : Register) (c : Id) (inside : List ℕ → Bool) (agree : Agree c
         let own : r.id ≡ c = record_id R.records c r read in
         let steps : steps_in R.steps r.id 1 ≡ steps_in S.steps r.id 1 =
         ap (λ (d : Id). steps_in R.steps d 1) own ∙ same_steps 1 ∙ ap (λ (d : Id). steps_in S.steps d 1) (sym own) in
-        rw fenced (same_work_fence r.work (points_of (steps_in R.steps r.id 1)) (known_work r read) (rw fenced at covered)
+        rw fenced (same_work_fence r.work (points_of (steps_in R.steps r.id 1)) (known_work r read (open_where is_fenced refl r.phase fenced)) (rw fenced at covered)
         ∙ ap (λ (rows : List StepRow). work_fence S.net r.work (points_of rows)) steps)
     same_record_fence r read false unfenced covered = rw unfenced refl
 
@@ -96,11 +97,13 @@ module _ (R S : Register) (c : Id) (inside : List ℕ → Bool) (agree : Agree c
     pub same_clearance_fence : includes inside (clearance_fence R c) ≡ true → clearance_fence R c ≡ clearance_fence S c
     same_clearance_fence covered = same_found_fence (record_of R.records c) refl covered ∙ ap (found_fence S.net S.steps) same_record
 
-    same_found_order : (points : List (List ℕ)) (o : Option Record) → record_of R.records c ≡ o → includes inside (found_order_fence R.net points o) ≡ true
-        → found_order_fence R.net points o ≡ found_order_fence S.net points o
-    same_found_order points None read covered = refl
-    same_found_order points (Some r) read covered = same_work_fence r.work points (known_work r read) covered
+    same_found_order : (points : List (List ℕ)) (o : Option Record) → record_of R.records c ≡ o → found_phase_requested o ≡ true
+        → includes inside (found_order_fence R.net points o) ≡ true → found_order_fence R.net points o ≡ found_order_fence S.net points o
+    same_found_order points None read requested covered = refl
+    same_found_order points (Some r) read requested covered = same_work_fence r.work points (known_work r read (open_where is_requested refl r.phase requested)) covered
 
-    -- and the fence that an order would make, if the set includes that
-    pub same_order_fence : (points : List (List ℕ)) → includes inside (order_fence R c points) ≡ true → order_fence R c points ≡ order_fence S c points
-    same_order_fence points covered = same_found_order points (record_of R.records c) refl covered ∙ ap (found_order_fence S.net points) same_record
+    -- and the fence that an order would make while the clearance is Requested, if the set includes that
+    pub same_order_fence : (points : List (List ℕ)) → found_phase_requested (record_of R.records c) ≡ true → includes inside (order_fence R c points) ≡ true
+        → order_fence R c points ≡ order_fence S c points
+    same_order_fence points requested covered =
+        same_found_order points (record_of R.records c) refl requested covered ∙ ap (found_order_fence S.net points) same_record

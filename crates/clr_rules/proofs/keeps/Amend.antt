@@ -1,6 +1,6 @@
 -- An operator amends a restoring order: a Close that waits becomes a Leave.
 use Rattle.std.proofs.Common.{◌≡◌, ℕ, Bool, true, false, not, ◌&&◌, ◌||◌, nat_eq, List, [], ◌∷◌, ◌++◌, Option, Some, None, refl, sym, ◌∙◌, ap, subst, eqb-true}
-use Rattle.clr_rules.proofs.Common.{and_from, and_parts, false≢true, Grid, same_name, IsSoundOrder, Task, actions_at, task, Action, refuse, steps_left_of, is_close, record_id}
+use Rattle.clr_rules.proofs.Common.{and_from, and_parts, false≢true, Grid, same_name, IsSoundOrder, Task, actions_at, task, Action, refuse, steps_left_of, is_close, record_id, is_open}
 use Rattle.clr_order.specs.Needed.{undoes}
 use Rattle.clr_rules.specs.Prelude.{Edit, PutRecord, PutStep, HoldKind, HeldOpen, Block, Control, Tag, Phase, Restoring, Record, StepRow, Id, Register, record_of, is_restoring, is_active, is_done}
 use Rattle.clr_rules.specs.Prelude.{is_some_step, is_waiting, points_of, present_steps, step_at, steps_of, tasks_of, first_of_each, after_edits, Amend}
@@ -9,6 +9,7 @@ use Rattle.clr_rules.specs.declared.refusal.Refusal.TheVariants.{StepState as Wr
 use Rattle.clr_rules.proofs.good.Keeping.{KeepsGood, commands_keep, keeps}
 use Rattle.clr_rules.proofs.keeps.OneRecord.{in_phase_of}
 use Rattle.clr_rules.proofs.keeps.Repeat.{turns_split}
+use Rattle.clr_rules.proofs.lists.OpenPhases.{open_where}
 use Rattle.clr_rules.proofs.edits.Passing.{check_of_found, not_refused_true, role_begun}
 use Rattle.clr_rules.proofs.edits.PresentSteps.{IsPresent, found_step_edits, step_there}
 use Rattle.clr_rules.proofs.edits.PutRecords.{put_changes, quiet}
@@ -166,7 +167,7 @@ amend_keeps : (R : Register) (at : ℕ) (c : Id) (r : Record) (row : StepRow) �
     → IsGoodByPhase (after_edits (PutRecord (record r { last = at }) ∷ PutStep (amended row) ∷ []) R)
 unfolding after_edits
 amend_keeps R at c r row good found is p waits closes =
-    keeps R edits c refl good (put_changes R good c r (record r { last = at }) found (record_id R.records c r found) refl (after_edits edits R) refl
+    keeps R edits c refl good (put_changes R good c r (record r { last = at }) found unclosed (record_id R.records c r found) refl (after_edits edits R) refl
     (quiet R (after_edits edits R) c (record r { last = at }) good (record {
       same_states = refl;
       point_holds = λ d kind p at_point has. has;
@@ -176,7 +177,7 @@ amend_keeps R at c r row good found is p waits closes =
           closing_by R.steps c q (s.before ++ row ∷ s.after) s.was
           ∙ sym (any-swap (closes_at q) s.before row (amended row) s.after (rw (waits_not_active row.step.state waits) refl))
           ∙ sym (closing_by (put_step (amended row) R.steps) c q (s.before ++ amended row ∷ s.after) s.is) ∙ closing;
-      steps_known = known_put R good c row (amended row) p refl refl;
+      steps_known = known_put R good c row (amended row) p refl (good.points_known.steps c r found unclosed) refl;
     })
     (place_by R c (Some (record r { last = at })) (steps_of (put_step (amended row) R.steps) c) (s.before ++ amended row ∷ s.after) (outlook_of R c).has (outlook_of R c).hand s.is (record {
       in_turn = turns_amended s.before row s.after (turns_split R c (s.before ++ row ∷ s.after) good s.was).in_turn;
@@ -186,6 +187,9 @@ amend_keeps R at c r row good found is p waits closes =
           (is_the_close row.step.action closes) (p.now ∙ ap present_of s.was) (phase_by R c r (s.before ++ row ∷ s.after) s.was (in_phase_of R c r good found));
     }))))
   where
+    unclosed : is_open r.phase ≡ true
+    unclosed = open_where is_restoring refl r.phase is
+
     edits : List Edit
     edits = PutRecord (record r { last = at }) ∷ PutStep (amended row) ∷ []
 

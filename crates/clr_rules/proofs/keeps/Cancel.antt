@@ -8,6 +8,7 @@ use Rattle.clr_rules.specs.Records.{is_cancellable}
 use Rattle.clr_rules.specs.declared.refusal.Refusal.TheVariants.{StepState as WrongState}
 use Rattle.clr_rules.proofs.good.Keeping.{KeepsGood, commands_keep}
 use Rattle.clr_rules.proofs.keeps.OneRecord.{found_edits, in_phase_of, record_alone}
+use Rattle.clr_rules.proofs.lists.OpenPhases.{open_where}
 use Rattle.clr_rules.proofs.edits.Passing.{holder_begun, not_refused}
 
 -- a clearance without any hold has none
@@ -36,5 +37,5 @@ cancels_keep c = commands_keep (Cancel c) (λ R by at good passed.
     let none : has_any_hold R.holds r.id ≡ false → (kind : HoldKind) (place : List ℕ) → has_hold R.holds c kind place ≡ false =
     λ free. no_hold_at R.holds c (ap (has_any_hold R.holds) (sym (record_id R.records c r found)) ∙ free) in
     found_edits R c r (λ r. PutRecord (record r { phase = cancelled_phase R r; last = at }) ∷ []) found
-    (record_alone R c r (record r { phase = cancelled_phase R r; last = at }) good found refl refl
+    (record_alone R c r (record r { phase = cancelled_phase R r; last = at }) good found (open_where is_cancellable refl r.phase fits) refl refl
     (cancelled R.net r.phase r.work (outlook_of R c) (Some (record r { phase = cancelled_phase R r; last = at })) (has_any_hold R.holds r.id) fits rests none (in_phase_of R c r good found))))

@@ -3,13 +3,16 @@ use Rattle.std.proofs.Common.{◌≡◌, ◌⊎◌, inl, inr, ⊎_elim, ℕ, Boo
 use Rattle.clr_rules.proofs.Common.{and_from, and_parts, both_ways, false≢true, nat_list_eq_equiv, same_name, Position, any_from, one_name, same_itself, some_from, Done, with_row, without_row}
 use Rattle.clr_rules.proofs.Common.{step_moved, SetPosition, SetHand, PutHold, TakeHold, PutRecord, PutStep, Hold, HoldKind, HeldOpen, PointState, Record, StepRow, Id, id_cmp, same_id, Register}
 use Rattle.clr_rules.proofs.Common.{has_in_hand, position_of, state_of, record_key, record_of, is_active, steps_of, hold_cmp, is_point_kind, has_hold, hold_key, hold_of, same_kind, after_edits}
-use Rattle.clr_rules.proofs.Common.{is_closing_at, InPhase, IsGoodByPhase, Outlook, active_at, is_hand, is_close}
+use Rattle.clr_rules.proofs.Common.{is_closing_at, InPhase, IsGoodByPhase, Outlook, active_at, is_hand, is_close, outlook_of, is_open, AreAtPoints, is_running, All-contains, present_of}
 use Rattle.clr_net.specs.declared.point.Position.TheVariants.{Opened, Closed as Shut}
 use Rattle.clr_rules.specs.Id.{same_id_equiv}
 use Rattle.clr_rules.proofs.lists.StateFacts.{hand_of-placed, with_hand, with_position, position_of-handed, position_of-placed, position_of-placed_other, state_of-changed}
 use Rattle.clr_rules.proofs.lists.HoldChanges.{kind_itself, others_hold_put, others_hold_taken, own_taken, was_or_put, was_there}
 use Rattle.clr_rules.proofs.good.Keeping.{keeps}
+use Rattle.clr_rules.proofs.good.PhaseFacts.{step_facts}
+use Rattle.clr_rules.proofs.keeps.OneRecord.{in_phase_of}
 use Rattle.clr_rules.proofs.keeps.Repeat.{turns_split}
+use Rattle.clr_rules.proofs.lists.OpenPhases.{open_where}
 use Rattle.clr_rules.proofs.edits.PresentSteps.{IsPresent, active_midst}
 use Rattle.clr_rules.proofs.edits.PutRecords.{Moved, put_changes, same_closing}
 use Rattle.clr_rules.proofs.edits.PutSteps.{StepPut, closes_at, closing_by, hand_read, known_put, one_hand, others_put, place_by, put_step, state_known, step_put}
@@ -58,8 +61,18 @@ module _ (R : Register) (good : IsGoodByPhase R) (c : Id) (r : Record) (found : 
   pub done_midst : InMidst done_put.before done_put.after row row.round
   done_midst = active_midst R good c r found row p done_put.before done_put.after done_put.was active
 
+  -- a step that is given out is of a running record
+  unclosed : is_open r.phase ≡ true
+  unclosed = open_where is_running refl r.phase
+      (All-contains (λ (row : StepRow). is_active row.step.state ≡ true → (is_running r.phase ≡ true) × (row.round ≡ present_of (steps_of R.steps c))) (steps_of R.steps c) row
+      (step_facts R.net r.phase r.work (outlook_of R c) (in_phase_of R c r good found)).active
+      (subst (λ (d : Id). Contains (steps_of R.steps d) row) p.own (among_own R.steps row p.there)) active).0
+
+  at_points : AreAtPoints R.net (steps_of R.steps c)
+  at_points = good.points_known.steps c r found unclosed
+
   point_there : is_some (state_of R.states row.step.point) ≡ true
-  point_there = state_known R good c row new p refl
+  point_there = state_known R good c row new p refl at_points
 
   -- the point is in the clearance's hand
   pub in_own_hand : has_in_hand R.states c row.step.point ≡ true
@@ -128,7 +141,7 @@ module _ (R : Register) (good : IsGoodByPhase R) (c : Id) (r : Record) (found : 
     });
     held_open = fits.held_open;
     closing_free = closing_free states holds fits;
-    steps_known = known_put R good c row new p refl refl;
+    steps_known = known_put R good c row new p refl at_points refl;
   }
     where
       other : (d : Id) → same_id d c ≡ false → (q : List ℕ) (b : Bool) → same_name row.step.point q ≡ b → cond b false (has_in_hand R.states d q) ≡ has_in_hand R.states d q
@@ -148,7 +161,7 @@ module _ (R : Register) (good : IsGoodByPhase R) (c : Id) (r : Record) (found : 
   unfolding after_edits
   put_keeps of stands phase =
       keeps R (SetHand point None ∷ PutHold (hold_of c of point) ∷ PutRecord next ∷ PutStep new ∷ []) c refl good
-      (put_changes R good c r next found own same_work (done_register (with_hand R.states point None) (with_row hold_cmp hold_key (hold_of c of point) R.holds)) refl
+      (put_changes R good c r next found unclosed own same_work (done_register (with_hand R.states point None) (with_row hold_cmp hold_key (hold_of c of point) R.holds)) refl
       (done_moved (with_hand R.states point None) (with_row hold_cmp hold_key (hold_of c of point) R.holds) (record {
         hands = let_go R.states point point_there;
         others = others_hold_put c of point R.holds;
@@ -164,7 +177,7 @@ module _ (R : Register) (good : IsGoodByPhase R) (c : Id) (r : Record) (found : 
   unfolding after_edits
   take_keeps of phase =
       keeps R (SetHand point None ∷ TakeHold (hold_of c of point) ∷ PutRecord next ∷ PutStep new ∷ []) c refl good
-      (put_changes R good c r next found own same_work (done_register (with_hand R.states point None) (without_row hold_cmp hold_key (hold_of c of point) R.holds)) refl
+      (put_changes R good c r next found unclosed own same_work (done_register (with_hand R.states point None) (without_row hold_cmp hold_key (hold_of c of point) R.holds)) refl
       (done_moved (with_hand R.states point None) (without_row hold_cmp hold_key (hold_of c of point) R.holds) (record {
         hands = let_go R.states point point_there;
         others = others_hold_taken c of point R.holds;
@@ -189,7 +202,7 @@ module _ (R : Register) (good : IsGoodByPhase R) (c : Id) (r : Record) (found : 
   unfolding after_edits
   open_keeps phase =
       keeps R (SetPosition point Opened ∷ SetHand point None ∷ PutHold (hold_of c HeldOpen point) ∷ PutRecord next ∷ PutStep new ∷ []) c refl good
-      (put_changes R good c r next found own same_work
+      (put_changes R good c r next found unclosed own same_work
       (done_register (with_hand (with_position R.states point Opened) point None) (with_row hold_cmp hold_key (hold_of c HeldOpen point) R.holds)) refl
       (done_moved (with_hand (with_position R.states point Opened) point None) (with_row hold_cmp hold_key (hold_of c HeldOpen point) R.holds) (record {
         hands = placed_let_go R.states point Opened point_there;
@@ -207,7 +220,7 @@ module _ (R : Register) (good : IsGoodByPhase R) (c : Id) (r : Record) (found : 
   unfolding after_edits
   switch_open_keeps phase =
       keeps R (SetPosition point Opened ∷ SetHand point None ∷ PutRecord next ∷ PutStep new ∷ []) c refl good
-      (put_changes R good c r next found own same_work (done_register (with_hand (with_position R.states point Opened) point None) R.holds) refl
+      (put_changes R good c r next found unclosed own same_work (done_register (with_hand (with_position R.states point Opened) point None) R.holds) refl
       (done_moved (with_hand (with_position R.states point Opened) point None) R.holds (record {
         hands = placed_let_go R.states point Opened point_there;
         others = λ d differs kind q. refl;
@@ -224,7 +237,7 @@ module _ (R : Register) (good : IsGoodByPhase R) (c : Id) (r : Record) (found : 
   unfolding after_edits
   close_keeps closes phase =
       keeps R (SetPosition point Shut ∷ SetHand point None ∷ TakeHold (hold_of c HeldOpen point) ∷ PutRecord next ∷ PutStep new ∷ []) c refl good
-      (put_changes R good c r next found own same_work
+      (put_changes R good c r next found unclosed own same_work
       (done_register (with_hand (with_position R.states point Shut) point None) (without_row hold_cmp hold_key (hold_of c HeldOpen point) R.holds)) refl
       (done_moved (with_hand (with_position R.states point Shut) point None) (without_row hold_cmp hold_key (hold_of c HeldOpen point) R.holds) (record {
         hands = placed_let_go R.states point Shut point_there;

@@ -1,11 +1,12 @@
 -- A step moves on with its point's hand, without an action: it is given out, or reported not done.
 use Rattle.std.proofs.Common.{◌≡◌, ℕ, Bool, true, false, cond, ◌&&◌, List, [], ◌∷◌, ◌++◌, Option, Some, refl, sym, ◌∙◌, ap}
-use Rattle.clr_rules.proofs.Common.{and_parts, nat_list_eq_equiv, same_name, one_name, task, Edit, SetHand, PutRecord, PutStep, HoldKind, HeldOpen, Record, StepRow, Id, same_id, Register, has_in_hand}
+use Rattle.clr_rules.proofs.Common.{AreAtPoints, and_parts, nat_list_eq_equiv, same_name, one_name, task, Edit, SetHand, PutRecord, PutStep, HoldKind, HeldOpen, Record, StepRow, Id, same_id, Register, has_in_hand}
 use Rattle.clr_rules.proofs.Common.{record_of, is_running, step_key, is_active, is_done, steps_of, is_point_kind, has_hold, after_edits, is_closing_at, IsGoodByPhase, active_at, outlook_of}
-use Rattle.clr_rules.proofs.Common.{present_of, is_hand, is_close, one_id, record_id}
+use Rattle.clr_rules.proofs.Common.{present_of, is_hand, is_close, is_open, one_id, record_id}
 use Rattle.clr_rules.proofs.lists.StateFacts.{with_hand, position_of-handed}
 use Rattle.clr_rules.proofs.good.Keeping.{keeps}
 use Rattle.clr_rules.proofs.keeps.OneRecord.{in_phase_of}
+use Rattle.clr_rules.proofs.lists.OpenPhases.{open_where}
 use Rattle.clr_rules.proofs.keeps.Repeat.{turns_split}
 use Rattle.clr_rules.proofs.edits.PresentSteps.{IsPresent}
 use Rattle.clr_rules.proofs.edits.PutRecords.{put_changes, same_closing}
@@ -37,6 +38,12 @@ module _ (R : Register) (good : IsGoodByPhase R) (c : Id) (r : Record) (found : 
   same_round : new.round ≡ row.round
   same_round = ap (λ k. k.round) same_key
 
+  unclosed : is_open r.phase ≡ true
+  unclosed = open_where is_running refl r.phase runs
+
+  at_points : AreAtPoints R.net (steps_of R.steps c)
+  at_points = good.points_known.steps c r found unclosed
+
   same_point : new.step.point ≡ row.step.point
   same_point = ap (λ t. t.point) same_task
 
@@ -44,7 +51,7 @@ module _ (R : Register) (good : IsGoodByPhase R) (c : Id) (r : Record) (found : 
   own_hands : (hand : Option Id) → is_hand c hand ≡ is_active new.step.state → (q : List ℕ)
       → has_in_hand (with_hand R.states row.step.point hand) c q ≡ active_at (s.before ++ new ∷ s.after) q
   own_hands hand own q =
-      hand_read R.states row.step.point q hand c (state_known R good c row new p same_key) ∙ at (same_name q row.step.point) refl
+      hand_read R.states row.step.point q hand c (state_known R good c row new p same_key at_points) ∙ at (same_name q row.step.point) refl
       ∙ sym (active_is s.before s.after row new row.round middle same_round q ∙ ap (λ point. is_active new.step.state && same_name q point) same_point)
     where
       at : (b : Bool) → same_name q row.step.point ≡ b
@@ -82,10 +89,10 @@ module _ (R : Register) (good : IsGoodByPhase R) (c : Id) (r : Record) (found : 
       → IsGoodByPhase (after_edits (SetHand row.step.point hand ∷ PutRecord (record r { last = at }) ∷ PutStep new ∷ []) R)
   unfolding after_edits
   handed_keeps at hand others own free =
-      keeps R edits c refl good (put_changes R good c r (record r { last = at }) found (record_id R.records c r found) refl (after_edits edits R) refl (record {
+      keeps R edits c refl good (put_changes R good c r (record r { last = at }) found unclosed (record_id R.records c r found) refl (after_edits edits R) refl (record {
         other_steps = others_put R good c row new p same_key;
         other_holds = λ d differs kind place. refl;
-        other_hands = λ d differs. other_hands R.states row.step.point hand d (state_known R good c row new p same_key) (others d differs).0 (others d differs).1;
+        other_hands = λ d differs. other_hands R.states row.step.point hand d (state_known R good c row new p same_key at_points) (others d differs).0 (others d differs).1;
         own_place = place_by R c (Some (record r { last = at })) (steps_of (put_step new R.steps) c) (s.before ++ new ∷ s.after) (outlook_of R c).has
             (has_in_hand (with_hand R.states row.step.point hand) c) s.is (record {
               in_turn = turns_again s.before s.after row new row.round middle same_round (turns_split R c (s.before ++ row ∷ s.after) good s.was).in_turn;
@@ -96,7 +103,7 @@ module _ (R : Register) (good : IsGoodByPhase R) (c : Id) (r : Record) (found : 
             });
         held_open = λ d kind q at_point has. position_of-handed R.states row.step.point hand q ∙ good.held_open d kind q at_point has;
         closing_free = closing_free free;
-        steps_known = known_put R good c row new p same_key same_point;
+        steps_known = known_put R good c row new p same_key at_points same_point;
       }))
     where
       edits : List Edit

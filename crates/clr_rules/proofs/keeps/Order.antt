@@ -2,13 +2,14 @@
 use Rattle.std.proofs.Common.{◌≡◌, ◌⊎◌, inl, inr, ℕ, ◌<◌, ◌≤◌, Bool, true, false, not, ◌||◌, ◌==◌, nat_lt, List, [], ◌∷◌, filter, length, Option, Some, None, IsTrue, All, Contains, refl, sym, ◌∙◌, ap}
 use Rattle.std.proofs.Common.{subst, arith}
 use Rattle.clr_rules.proofs.Common.{and_from, false≢true, false_from_ne_true, or_cases, or_left, or_right, All-contains, All-head, All-nil, All-tail, All-weaker, FenceRows, fence_of, in_fence, Grid}
-use Rattle.clr_rules.proofs.Common.{IsNetwork, point_names, same_name, has_name, PointRow, SectionRow, Action, new_steps, put_steps, put_by, All-from_each, of_round_is, record_id}
+use Rattle.clr_rules.proofs.Common.{IsNetwork, point_names, same_name, has_name, PointRow, SectionRow, Action, new_steps, put_steps, put_by, All-from_each, of_round_is, record_id, is_open}
 use Rattle.clr_net.proofs.Walks.{any_from, one_name, same_itself, some_from, same_tests}
 use Rattle.clr_order.specs.Isolating.{IsSoundOrder, IsSoundWithin, has_repeat, is_border_point, isolating_fault, needed_at, off_border, source_inside, touching_row, wrong_point}
 use Rattle.clr_order.specs.Step.{Task, actions_at, stray_point, task_points}
 use Rattle.clr_order.specs.declared.order_fault.OrderFault.TheVariants.{EmptyOrder, LongOrder, NotOnFence, PointTwice, SourceInside, StepsWrong}
 use Rattle.clr_order.proofs.SoundOrders.{sound_from_no_fault}
 use Rattle.clr_order.proofs.Steps.{once_from}
+use Rattle.clr_rules.proofs.lists.OpenPhases.{open_where}
 use Rattle.clr_rules.proofs.edits.PlainEdits.{steps_plain}
 use Rattle.clr_rules.specs.Checks.{unsound_order}
 use Rattle.clr_rules.specs.Prelude.{PutRecord, Phase, Requested, Ordered, Record, StepRow, Id, Register, record_of, is_active, points_of, steps_of, tasks_of, first_of_each, after_edits, Order}
@@ -183,7 +184,7 @@ order_passed R net work points tasks passed =
 -- ---- the command
 
 module _ (R : Register) (good : IsGoodByPhase R) (r : Record) (found : record_of R.records r.id ≡ Some r) (at : ℕ) (work : List ℕ) (has_work : r.work ≡ Some work)
-    (bare : IsBare (outlook_of R r.id)) (tasks : List Task) (sound : IsSoundOrder R.net work (first_of_each (task_points tasks)) tasks) where
+    (bare : IsBare (outlook_of R r.id)) (unclosed : is_open r.phase ≡ true) (tasks : List Task) (sound : IsSoundOrder R.net work (first_of_each (task_points tasks)) tasks) where
   abbrev next : Record
   next = record r { phase = Ordered; last = at }
 
@@ -208,6 +209,7 @@ module _ (R : Register) (good : IsGoodByPhase R) (r : Record) (found : record_of
     rests = rw bare.no_step (All-nil (λ (row : StepRow). is_active row.step.state ≡ false));
     none_yet = sym (of_round_is R.steps r.id 1) ∙ none_of 1;
     known = known;
+    at_points = rw bare.no_step (All-nil (λ (row : StepRow). IsTrue (has_name (point_names (Grid.points R.net)) row.step.point)));
   }
 
   in_ordered : InOrdered R.net work (outlook_with (with_round R next 1 tasks) r.id next)
@@ -223,7 +225,7 @@ module _ (R : Register) (good : IsGoodByPhase R) (r : Record) (found : record_of
   order_keeps : IsGoodByPhase (after_edits (PutRecord next ∷ put_steps (new_steps r.id 1 1 tasks)) R)
   order_keeps = keeps R (PutRecord next ∷ put_steps (new_steps r.id 1 1 tasks)) r.id (steps_plain (new_steps r.id 1 1 tasks)) good
       (subst (λ (S : Register). Changed R S r.id) (sym (round_put R next 1 tasks))
-      (put_changes R good r.id r next found refl refl (with_round R next 1 tasks) refl
+      (put_changes R good r.id r next found unclosed refl refl (with_round R next 1 tasks) refl
       (round_moved R good next 1 tasks ready
       (subst (λ (o : Option (List ℕ)). InPhase R.net Ordered o (outlook_with (with_round R next 1 tasks) r.id next)) (sym has_work) in_ordered))))
 
@@ -243,4 +245,4 @@ orders_keep c points tasks = commands_keep (Order c points tasks) (λ R by at go
     let sound = order_passed R good.network work points tasks (ap (λ fence. unsound_order R fence points tasks) (sym fence) ∙ order_passes) in
     found_edits R c r (λ r. PutRecord (record r { phase = Ordered; last = at }) ∷ put_steps (new_steps c 1 1 tasks)) found
     (subst (λ (d : Id). IsGoodByPhase (after_edits (PutRecord (record r { phase = Ordered; last = at }) ∷ put_steps (new_steps d 1 1 tasks)) R)) id
-    (order_keeps R good r (ap (record_of R.records) id ∙ found) at work has_work (subst (λ (d : Id). IsBare (outlook_of R d)) (sym id) bare) tasks sound)))
+    (order_keeps R good r (ap (record_of R.records) id ∙ found) at work has_work (subst (λ (d : Id). IsBare (outlook_of R d)) (sym id) bare) (open_where is_requested refl r.phase fits) tasks sound)))

@@ -1,7 +1,7 @@
 -- A release keeps a good register good: the tests of the clearance go, and it has neither crew nor ground.
 use Rattle.std.proofs.Common.{◌≡◌, ℕ, Bool, true, false, not, ◌&&◌, ◌||◌, List, [], ◌∷◌, ◌++◌, map, filter, Option, Some, refl, sym, ◌∙◌, ap, subst}
 use Rattle.clr_rules.proofs.Common.{and_from, false≢true, false_from_ne_true, nat_list_eq_equiv, same_name, has_name, with_row, without_row, hold_there, Contains-filter, has_name-row, one_id, own_id}
-use Rattle.clr_rules.proofs.Common.{record_id}
+use Rattle.clr_rules.proofs.Common.{record_id, is_open}
 use Rattle.clr_rules.proofs.edits.PlainEdits.{takes_plain}
 use Rattle.clr_rules.specs.Prelude.{Edit, TakeHold, PutRecord, Hold, HoldKind, HeldOpen, Block, Control, Tag, Tested, Ground, Crew, Released, Record, Id, id_cmp, same_id, Register, record_key}
 use Rattle.clr_rules.specs.Prelude.{record_of, is_granted, hold_cmp, is_point_kind, has_hold, has_some_hold, hold_key, hold_of, places_of, same_kind, after_edits, Release, CrewsOn, Grounded}
@@ -105,20 +105,23 @@ module _ (R : Register) (good : IsGoodByPhase R) (c : Id) (r : Record) (found : 
   }
 
   release_changed : Changed R released c
-  release_changed = put_changes R good c r next found (record_id R.records c r found) refl released refl
+  release_changed = put_changes R good c r next found unclosed (record_id R.records c r found) refl released refl
       (quiet R released c next good (record {
         same_states = refl;
         point_holds = λ d kind q at_point has. point d kind q at_point has (same_id c d) refl;
         other_holds = λ d differs. others_taken_all c (places_of R.holds c Tested) R.holds d (same_id_equiv.symm c d ∙ differs);
         other_steps = λ d differs. refl;
         own_closing = λ q closing. closing;
-        steps_known = good.points_known.steps;
+        steps_known = good.points_known.steps c r found unclosed;
       }) (record {
         in_turn = (good.in_place c).in_turn;
         hands = (good.in_place c).hands;
         phase = subst (λ (o : Option (List ℕ)). InPhase R.net Released o (outlook_with released c next)) (sym w.has_work) in_released;
       }))
     where
+      unclosed : is_open r.phase ≡ true
+      unclosed = ap is_open w.is_granted_as
+
       point : (d : Id) (kind : HoldKind) (q : List ℕ) → is_point_kind kind ≡ true → has_hold holds d kind q ≡ true → (b : Bool) → same_id c d ≡ b → has_hold R.holds d kind q ≡ true
       point d kind q at_point has true is = let one = one_id c d is in rw (← one) (sym (at_points kind q at_point) ∙ (rw (← one) at has))
       point d kind q at_point has false differs = sym (others_taken_all c (places_of R.holds c Tested) R.holds d differs kind q) ∙ has

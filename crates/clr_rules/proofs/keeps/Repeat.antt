@@ -1,6 +1,6 @@
 -- Commands that move a step on without an action: it is repeated, given out, or not done.
 use Rattle.std.proofs.Common.{◌≡◌, ℕ, Bool, true, not, ◌&&◌, List, [], ◌∷◌, ◌++◌, Some, None, refl, sym, ◌∙◌, ap, subst}
-use Rattle.clr_rules.proofs.Common.{same_name, StepState, step_moved, IsGoodByPhase, IsInPlace, outlook_of, present_of, record_id}
+use Rattle.clr_rules.proofs.Common.{same_name, StepState, step_moved, IsGoodByPhase, IsInPlace, outlook_of, is_open, present_of, record_id}
 use Rattle.clr_rules.specs.Prelude.{Repeated, Edit, PutRecord, PutStep, Record, StepRow, Id, Register, record_of, is_running, is_active, present_steps, step_at, steps_of, after_edits, Repeat}
 use Rattle.clr_rules.specs.Checks.{refuse, wrong_state}
 use Rattle.clr_rules.specs.declared.refusal.Refusal.TheVariants.{StepState as WrongState}
@@ -10,6 +10,7 @@ use Rattle.clr_rules.proofs.edits.Passing.{check_of_found, not_refused_true, rol
 use Rattle.clr_rules.proofs.edits.PresentSteps.{FoundStep, IsPresent, active_midst, active_moves, found_step_edits, step_there}
 use Rattle.clr_rules.proofs.edits.PutRecords.{put_changes, quiet}
 use Rattle.clr_rules.proofs.edits.PutSteps.{StepPut, closes_at, closing_by, known_put, others_put, phase_by, place_by, put_step, step_put}
+use Rattle.clr_rules.proofs.lists.OpenPhases.{open_where}
 use Rattle.clr_rules.proofs.edits.StepMoves.{InMidst, phase_again, turns_again}
 use Rattle.clr_rules.proofs.lists.StepSplits.{any-swap}
 
@@ -26,7 +27,7 @@ repeat_keeps : (R : Register) (by : List ℕ) (at : ℕ) (c : Id) (r : Record) (
     → IsPresent R c row → is_active row.step.state ≡ true → IsGoodByPhase (after_edits (PutRecord (record r { last = at }) ∷ PutStep (step_moved Repeated (Some by) row) ∷ []) R)
 unfolding after_edits
 repeat_keeps R by at c r row good found runs p active =
-    keeps R edits c refl good (put_changes R good c r (record r { last = at }) found (record_id R.records c r found) refl (after_edits edits R) refl
+    keeps R edits c refl good (put_changes R good c r (record r { last = at }) found unclosed (record_id R.records c r found) refl (after_edits edits R) refl
     (quiet R (after_edits edits R) c (record r { last = at }) good (record {
       same_states = refl;
       point_holds = λ d kind p at_point has. has;
@@ -35,7 +36,7 @@ repeat_keeps R by at c r row good found runs p active =
       own_closing = λ q closing.
           closing_by R.steps c q (s.before ++ row ∷ s.after) s.was ∙ sym (any-swap (closes_at q) s.before row new s.after (rw active refl))
           ∙ sym (closing_by (put_step new R.steps) c q (s.before ++ new ∷ s.after) s.is) ∙ closing;
-      steps_known = known_put R good c row new p refl refl;
+      steps_known = known_put R good c row new p refl (good.points_known.steps c r found unclosed) refl;
     })
     (place_by R c (Some (record r { last = at })) (steps_of (put_step new R.steps) c) (s.before ++ new ∷ s.after) (λ kind place. (outlook_of R c).has kind place) (λ q. (outlook_of R c).hand q) s.is (record {
       in_turn = turns_again s.before s.after row new row.round mid refl (turns_split R c (s.before ++ row ∷ s.after) good s.was).in_turn;
@@ -46,6 +47,9 @@ repeat_keeps R by at c r row good found runs p active =
           (p.now ∙ ap present_of s.was) (phase_by R c r (s.before ++ row ∷ s.after) s.was (in_phase_of R c r good found));
     }))))
   where
+    unclosed : is_open r.phase ≡ true
+    unclosed = open_where is_running refl r.phase runs
+
     new : StepRow
     new = step_moved Repeated (Some by) row
 

@@ -1,6 +1,6 @@
 -- Commands that make a new clearance: a request.
-use Rattle.std.proofs.Common.{◌≡◌, ℕ, Bool, true, false, not, List, [], ◌∷◌, Option, Some, None, refl, sym, ◌∙◌, ap, subst, is_some}
-use Rattle.clr_rules.proofs.Common.{false≢true, Grid, section_names, has_name, StaffRow, is_operators, Request}
+use Rattle.std.proofs.Common.{◌≡◌, ℕ, Bool, true, false, not, List, [], ◌∷◌, Option, Some, None, refl, sym, ◌∙◌, ap, subst, is_some, IsTrue}
+use Rattle.clr_rules.proofs.Common.{All-nil, false≢true, Grid, StepRow, point_names, section_names, has_name, StaffRow, is_operators, Request}
 use Rattle.clr_staff.specs.declared.employee.Role.{Role}
 use Rattle.clr_staff.specs.declared.employee.Role.TheVariants.{Operator}
 use Rattle.clr_rules.specs.Changes.{new_record}
@@ -26,7 +26,7 @@ caller_role R by fits known right = at (employee R.staff by) refl (not_refused_t
           (check_of_found (employee R.staff by) row (λ (row : StaffRow). refuse (not (fits row.role)) WrongRole) found right),
     )
 
-charge_operates_not : (role : Role) → is_charge role ≡ true → is_operator role ≡ false
+pub charge_operates_not : (role : Role) → is_charge role ≡ true → is_operator role ≡ false
 charge_operates_not Operator h = cc
 charge_operates_not _ h = refl
 
@@ -48,7 +48,7 @@ request_keeps R by at section good known not_operator =
       other_holds = λ d differs kind place. refl;
       other_steps = λ d differs. refl;
       own_closing = λ p closing. closing;
-      steps_known = good.points_known.steps;
+      steps_known = rw bare.no_step (All-nil (λ (row : StepRow). IsTrue (has_name (point_names (Grid.points R.net)) row.step.point)));
     }) (record {
       in_turn = (good.in_place new.id).in_turn;
       hands = (good.in_place new.id).hands;

@@ -1,6 +1,6 @@
 -- Restoring orders: the steps of a second round, which undo what is held at the points of the first.
 use Rattle.std.proofs.Common.{◌≡◌, ℕ, ◌+◌, ◌<◌, Bool, true, false, ◌&&◌, nat_lt, List, [], ◌∷◌, length, map, filter, Option, Some, None, All, Contains, refl, sym, ◌∙◌, ap, subst, arith, ◌==◌}
-use Rattle.clr_rules.proofs.Common.{and_from, and_parts, both_ways, false≢true, false_from_ne_true, Grid, point_names, same_name, has_name, any_from, one_name, IsSoundOrder, new_steps, put_steps}
+use Rattle.clr_rules.proofs.Common.{AreAtPoints, and_from, and_parts, both_ways, false≢true, false_from_ne_true, Grid, point_names, same_name, has_name, any_from, one_name, IsSoundOrder, new_steps, put_steps}
 use Rattle.clr_rules.proofs.Common.{steps_left_of, held_among, some_active, name_says, there_mapped}
 use Rattle.std.proofs.lemmas.List.Elements.{All-contains, All-map}
 use Rattle.clr_order.specs.Needed.{Undoes, undoes}
@@ -16,17 +16,18 @@ use Rattle.clr_rules.specs.Checks.{wrong_restoring}
 use Rattle.clr_rules.specs.Prelude.{PutRecord, Hold, HoldKind, HeldOpen, Block, Control, Tag, Phase, Released, Restoring, Record, StepRow, Id, Register, record_of, is_active, is_some_step, points_of}
 use Rattle.clr_rules.specs.Prelude.{steps_in, steps_of, tasks_of, is_point_kind, has_hold, held_at, first_of_each, after_edits, Restore}
 use Rattle.clr_rules.specs.GoodByPhase.{InPhase, InReleased, InRestoring, IsGoodByPhase, Outlook, of_round, outlook_of}
-use Rattle.clr_rules.specs.Records.{is_released}
+use Rattle.clr_rules.specs.Records.{is_open, is_released}
 use Rattle.clr_rules.proofs.good.Keeping.{KeepsGood, Changed, commands_keep, keeps}
 use Rattle.clr_rules.proofs.live.FenceCuts.{has_name-once}
 use Rattle.clr_rules.proofs.keeps.OneRecord.{found_edits, in_phase_of}
+use Rattle.clr_rules.proofs.lists.OpenPhases.{open_where}
 use Rattle.clr_rules.proofs.lists.NamedRows.{has_name-filter, row_named}
 use Rattle.clr_rules.proofs.edits.NewRounds.{IsReady, new_tasks, new_wait, none_in_round, others_are, put_all, round_is, round_moved, round_put, with_round}
 use Rattle.clr_rules.proofs.edits.PassedOrders.{by_name, by_test, no_refusal}
 use Rattle.clr_rules.proofs.edits.Passing.{role_begun}
 use Rattle.clr_rules.proofs.good.PutHolds.{put_at_points, put_beside_open}
 use Rattle.clr_rules.proofs.edits.PutRecords.{put_changes, outlook_with}
-use Rattle.clr_rules.proofs.lists.RoundSteps.{All-from_each, All-in_round, filter-none_passes, of_round_is, record_id, some_step_there}
+use Rattle.clr_rules.proofs.lists.RoundSteps.{All-from_each, All-in_own_round, filter-none_passes, of_round_is, record_id, some_step_there}
 use Rattle.clr_rules.proofs.lists.StepSplits.{left_waiting}
 
 -- a restoring order that is not refused undoes what is held
@@ -81,7 +82,8 @@ released g Released None v is h = absurd h
 released g _ work v is h = absurd (false≢true is)
 
 module _ (R : Register) (r : Record) (at : ℕ) (tasks : List Task) (good : IsGoodByPhase R) (work : List ℕ) (h : InReleased R.net work (outlook_of R r.id))
-    (restores : IsRestoring (held_among R.holds r.id (points_of (steps_in R.steps r.id 1))) tasks) where
+    (restores : IsRestoring (held_among R.holds r.id (points_of (steps_in R.steps r.id 1))) tasks)
+    (at_network : AreAtPoints R.net (steps_of R.steps r.id)) where
   abbrev new : Record
   new = record r { phase = Restoring; last = at }
 
@@ -109,7 +111,7 @@ module _ (R : Register) (r : Record) (at : ℕ) (tasks : List Task) (good : IsGo
       ap (has_name (point_names (Grid.points R.net))) named
       ∙ All-contains (λ (t : Task). has_name (point_names (Grid.points R.net)) t.point ≡ true) (tasks_of (steps_in R.steps r.id 1)) s
       (All-map (λ (t : Task). has_name (point_names (Grid.points R.net)) t.point ≡ true) (λ (row : StepRow). task row.step) (steps_in R.steps r.id 1)
-      (All-in_round (λ (row : StepRow). has_name (point_names (Grid.points R.net)) row.step.point ≡ true) R.steps r.id 1 good.points_known.steps)) among
+      (All-in_own_round (λ (row : StepRow). has_name (point_names (Grid.points R.net)) row.step.point ≡ true) R.steps r.id 1 at_network)) among
 
   -- at other points nothing is done
   nothing_there : (p : List ℕ) → has_hold R.holds r.id HeldOpen p ≡ false → actions_at tasks p ≡ []
@@ -134,6 +136,7 @@ module _ (R : Register) (r : Record) (at : ℕ) (tasks : List Task) (good : IsGo
     rests = each_rests (steps_of R.steps r.id) h.none_active;
     none_yet = sym (of_round_is R.steps r.id 2) ∙ h.one_round;
     known = All-from_each (λ (t : Task). has_name (point_names (Grid.points R.net)) t.point ≡ true) tasks each_known;
+    at_points = at_network;
   }
 
   tasks_left : tasks_of (steps_left_of (of_round (steps_of (put_all (new_steps r.id 2 1 tasks) R.steps) r.id) 2)) ≡ tasks
@@ -155,19 +158,20 @@ module _ (R : Register) (r : Record) (at : ℕ) (tasks : List Task) (good : IsGo
     no_work = h.no_work;
   }
 
-  restore_keeps : record_of R.records r.id ≡ Some r → r.work ≡ Some work → IsGoodByPhase (after_edits (PutRecord new ∷ put_steps (new_steps r.id 2 1 tasks)) R)
-  restore_keeps found work_is = keeps R (PutRecord new ∷ put_steps (new_steps r.id 2 1 tasks)) r.id (steps_plain (new_steps r.id 2 1 tasks)) good
+  restore_keeps : record_of R.records r.id ≡ Some r → is_open r.phase ≡ true → r.work ≡ Some work → IsGoodByPhase (after_edits (PutRecord new ∷ put_steps (new_steps r.id 2 1 tasks)) R)
+  restore_keeps found unclosed work_is = keeps R (PutRecord new ∷ put_steps (new_steps r.id 2 1 tasks)) r.id (steps_plain (new_steps r.id 2 1 tasks)) good
       (subst (λ (S : Register). Changed R S r.id) (sym (round_put R new 2 tasks))
-      (put_changes R good r.id r new found refl refl (with_round R new 2 tasks) refl (round_moved R good new 2 tasks ready
+      (put_changes R good r.id r new found unclosed refl refl (with_round R new 2 tasks) refl (round_moved R good new 2 tasks ready
       (subst (λ (o : Option (List ℕ)). InPhase R.net Restoring o (outlook_with (with_round R new 2 tasks) r.id new)) (sym work_is) restoring))))
 
 pub restores_keep : (c : Id) (tasks : List Task) → KeepsGood (Restore c tasks)
 restores_keep c tasks = commands_keep (Restore c tasks) (λ R by at good passed.
     let (r, found, fits, (order_passes, _)) = role_begun R c is_released passed in
     let own : r.id ≡ c = record_id R.records c r found in
+    let unclosed = open_where is_released refl r.phase fits in
     let (work, work_is, h) = released R.net r.phase r.work (outlook_of R c) fits (in_phase_of R c r good found) in
     found_edits R c r (λ r. PutRecord (record r { phase = Restoring; last = at }) ∷ put_steps (new_steps c 2 1 tasks)) found
     (subst (λ (d : Id). IsGoodByPhase (after_edits (PutRecord (record r { phase = Restoring; last = at }) ∷ put_steps (new_steps d 2 1 tasks)) R)) own
     (restore_keeps R r at tasks good work (subst (λ (d : Id). InReleased R.net work (outlook_of R d)) (sym own) h)
     (subst (λ (d : Id). IsRestoring (held_among R.holds d (points_of (steps_in R.steps d 1))) tasks) (sym own) (restoring_passed R c tasks order_passes))
-    (ap (record_of R.records) own ∙ found) work_is)))
+    (good.points_known.steps r.id r (ap (record_of R.records) own ∙ found) unclosed) (ap (record_of R.records) own ∙ found) unclosed work_is)))

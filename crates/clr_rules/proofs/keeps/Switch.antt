@@ -1,7 +1,7 @@
 -- Switch orders: a new record of an operator's, with the steps of its one round.
-use Rattle.std.proofs.Common.{◌≡◌, ℕ, true, false, List, ◌∷◌, length, nat_lt, None, refl, sym, ◌∙◌, ap, subst, ◌==◌}
+use Rattle.std.proofs.Common.{◌≡◌, ℕ, true, false, List, ◌∷◌, length, nat_lt, None, refl, sym, ◌∙◌, ap, subst, ◌==◌, IsTrue}
 use Rattle.clr_rules.proofs.Common.{All-contains, All-nil, Grid, point_names, is_switching, PutRecord, Switching, Record, StepRow, Register, greatest_number, is_active, steps_of, after_edits}
-use Rattle.clr_rules.proofs.Common.{is_operators, Switch, of_round_is}
+use Rattle.clr_rules.proofs.Common.{is_operators, Switch, of_round_is, has_name}
 use Rattle.clr_order.specs.Step.{Task, stray_point}
 use Rattle.clr_order.specs.Switching.{IsSwitching, switching_fault, unswitching_point}
 use Rattle.clr_order.specs.declared.order_fault.OrderFault.TheVariants.{EmptyOrder, LongOrder, StepsWrong, UnknownPoint}
@@ -41,6 +41,7 @@ module _ (R : Register) (by : List ℕ) (at : ℕ) (tasks : List Task) (good : I
     rests = rw bare.no_step (All-nil (λ (row : StepRow). is_active row.step.state ≡ false));
     none_yet = sym (of_round_is R.steps new.id 1) ∙ ap (λ (steps : List StepRow). of_round steps 1) bare.no_step ∙ none_of_round 1;
     known = switches.known;
+    at_points = rw bare.no_step (All-nil (λ (row : StepRow). IsTrue (has_name (point_names (Grid.points R.net)) row.step.point)));
   }
 
   changed : Changed R (with_round R new 1 tasks) new.id

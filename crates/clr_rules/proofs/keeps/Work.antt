@@ -1,7 +1,7 @@
 -- Commands of the work under a granted clearance: it is tested and grounded, and crews are signed on and off.
 use Rattle.std.proofs.Common.{◌≡◌, ◌⊎◌, inl, inr, ⊎_elim, ℕ, Bool, true, false, cond, not, ◌&&◌, ◌||◌, List, [], ◌∷◌, Option, Some, None, refl, sym, ◌∙◌, ap, subst}
 use Rattle.clr_rules.proofs.Common.{and_from, both_ways, false≢true, false_from_ne_true, or_right, nat_list_eq_equiv, same_name, has_name, any_from, with_row, without_row, clearance_fence, hold_there}
-use Rattle.clr_rules.proofs.Common.{of_round_is, one_id, own_id, record_id}
+use Rattle.clr_rules.proofs.Common.{of_round_is, one_id, own_id, record_id, is_open}
 use Rattle.clr_rules.specs.Checks.{at_work, refuse, where_some}
 use Rattle.clr_rules.specs.Prelude.{PutHold, TakeHold, PutRecord, Hold, HoldKind, Tested, Ground, Crew, Phase, Requested, Ordered, Granted, Released, Restoring, Switching, Closed, Record, Refusal, Id}
 use Rattle.clr_rules.specs.Prelude.{id_cmp, same_id, Register, has_in_hand, record_key, record_of, is_granted, steps_of, hold_cmp, is_point_kind, has_hold, has_some_hold, hold_key, hold_of, same_kind}
@@ -87,14 +87,14 @@ module _ (R : Register) (good : IsGoodByPhase R) (c : Id) (r : Record) (found : 
   }
 
   work_changed : (holds : List Hold) → Fits holds → Changed R (work_register holds) c
-  work_changed holds fits = put_changes R good c r next found (record_id R.records c r found) refl (work_register holds) refl
+  work_changed holds fits = put_changes R good c r next found unclosed (record_id R.records c r found) refl (work_register holds) refl
       (quiet R (work_register holds) c next good (record {
         same_states = refl;
         point_holds = λ d kind q at_point has. point d kind q at_point has (same_id c d) refl;
         other_holds = λ d differs. fits.others d (same_id_equiv.symm c d ∙ differs);
         other_steps = λ d differs. refl;
         own_closing = λ q closing. closing;
-        steps_known = good.points_known.steps;
+        steps_known = good.points_known.steps c r found unclosed;
       }) (record {
         in_turn = (good.in_place c).in_turn;
         hands = (good.in_place c).hands;
@@ -102,6 +102,9 @@ module _ (R : Register) (good : IsGoodByPhase R) (c : Id) (r : Record) (found : 
             (subst (λ (phase : Phase). InPhase R.net phase (Some w.work) (outlook_with (work_register holds) c next)) (sym w.is_granted_as) (in_granted holds fits));
       }))
     where
+      unclosed : is_open r.phase ≡ true
+      unclosed = ap is_open w.is_granted_as
+
       point : (d : Id) (kind : HoldKind) (q : List ℕ) → is_point_kind kind ≡ true → has_hold holds d kind q ≡ true → (b : Bool) → same_id c d ≡ b → has_hold R.holds d kind q ≡ true
       point d kind q at_point has true is =
           let one = one_id c d is in

@@ -1,5 +1,5 @@
 -- What the step of a number in the present round is: a step of the clearance, with that number.
-use Rattle.std.proofs.Common.{◌≡◌, ℕ, Bool, true, false, ◌&&◌, List, [], ◌∷◌, filter, find, Contains, Some, refl, subst, if◌then◌else◌, ◌==◌, eqb-true}
+use Rattle.std.proofs.Common.{◌≡◌, ℕ, Bool, true, false, ◌&&◌, List, [], ◌∷◌, filter, find, Contains, Some, refl, subst, if◌then◌else◌, ◌==◌, eqb-true, ◌⊎◌, inl, inr}
 use Rattle.clr_rules.proofs.Common.{and_from, and_parts, same_Some, any_from, same_itself, same_name, Contains-here, Contains-later, StepRow, Id, same_id, is_active, is_some_step, present_steps}
 use Rattle.clr_rules.proofs.Common.{step_at, steps_in, steps_of, is_close, is_of_round, Contains-filter}
 use Rattle.clr_rules.specs.Good.{is_active_at, is_closing_at}
@@ -36,6 +36,20 @@ present_step steps c n row found = at (is_some_step (steps_in steps c 2)) found
     at : (b : Bool) → step_at (if b then steps_in steps c 2 else steps_in steps c 1) n ≡ Some row → IsStepOf steps c n row
     at true h = step_of_round steps c 2 n row h
     at false h = step_of_round steps c 1 n row h
+
+round_found : (steps : List StepRow) (c : Id) (round n : ℕ) (row : StepRow) → step_at (steps_in steps c round) n ≡ Some row → row.round ≡ round
+unfolding steps_in
+round_found steps c round n row found =
+    let (there, inside, number) = found_among (λ (row : StepRow). row.ordinal == n) (is_of_round c round) steps row found in
+    eqb-true row.round round (and_parts (same_id c row.id) (row.round == round) inside).1
+
+-- it is of the first round or the second
+pub present_rounds : (steps : List StepRow) (c : Id) (n : ℕ) (row : StepRow) → step_at (present_steps steps c) n ≡ Some row → (row.round ≡ 1) ⊎ (row.round ≡ 2)
+present_rounds steps c n row found = at (is_some_step (steps_in steps c 2)) found
+  where
+    at : (b : Bool) → step_at (if b then steps_in steps c 2 else steps_in steps c 1) n ≡ Some row → (row.round ≡ 1) ⊎ (row.round ≡ 2)
+    at true h = inr (round_found steps c 2 n row h)
+    at false h = inl (round_found steps c 1 n row h)
 
 -- where it is given out and not reported, its point has such a step
 pub step_is_active : (steps : List StepRow) (c : Id) (row : StepRow) → Contains steps row → same_id c row.id ≡ true → is_active row.step.state ≡ true

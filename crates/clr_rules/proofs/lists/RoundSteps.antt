@@ -1,5 +1,5 @@
 -- The steps of a clearance, round by round; what a filter of a list keeps.
-use Rattle.std.proofs.Common.{◌≡◌, ℕ, Bool, true, false, ◌&&◌, nat_eq, List, [], ◌∷◌, length, filter, Some, All, Contains, refl, sym, ◌∙◌, arith}
+use Rattle.std.proofs.Common.{◌≡◌, ℕ, Bool, true, false, ◌&&◌, nat_eq, List, [], ◌∷◌, length, filter, Some, All, Contains, refl, sym, ◌∙◌, subst, arith}
 use Rattle.std.proofs.lemmas.Bool.{and_from, and_parts, eqb-true, eq-eqb, lt-ltb, ltb-false}
 use Rattle.std.proofs.lemmas.List.Elements.{All-contains_itself, All-filter, All-head, All-tail, All-weaker, filter_passes}
 use Rattle.clr_shelf.proofs.Keys.{equal}
@@ -83,6 +83,12 @@ some_step_there row rows = lt-ltb 0 (length (row ∷ rows)) (omega arith)
 pub All-in_round : (P : StepRow → Type 0) (steps : List StepRow) (c : Id) (round : ℕ) → All P steps → All P (steps_in steps c round)
 unfolding steps_in
 All-in_round P steps c round all = All-filter (is_of_round c round) P steps all
+
+-- what holds of all steps of a clearance holds of those of a round
+pub All-in_own_round : (P : StepRow → Type 0) (steps : List StepRow) (c : Id) (round : ℕ) → All P (steps_of steps c) → All P (steps_in steps c round)
+unfolding of_round
+All-in_own_round P steps c round all =
+    subst (All P) (of_round_is steps c round) (All-filter (λ (row : StepRow). nat_eq row.round round) P (steps_of steps c) all)
 
 -- no step of a clearance, where none bears its id
 pub no_step_of : (steps : List StepRow) (c : Id) → All (λ row. same_id c row.id ≡ false) steps → steps_of steps c ≡ []

@@ -9,6 +9,7 @@ use Rattle.clr_rules.specs.Holds.{in_kind_order, is_near_hold, is_own}
 use Rattle.clr_rules.specs.laws.Own.{SameOwn, is_instruct}
 use Rattle.clr_rules.proofs.isolation.Agreement.{touching_named}
 use Rattle.clr_rules.proofs.lists.Filters.{filter-kept, itself_says}
+use Rattle.clr_rules.proofs.edits.Passing.{is_show}
 use Rattle.clr_rules.proofs.near.NearNamed.{no_jumper, reply_named}
 use Rattle.clr_rules.proofs.near.NearOrder.{near_in_order}
 use Rattle.clr_rules.proofs.near.NearWords.{near_hold_says, standing_says}
@@ -17,17 +18,13 @@ use Rattle.clr_rules.proofs.near.OwnEdits.{edits_of_own, same_own_edited_all}
 use Rattle.clr_rules.proofs.near.OwnParts.{near_has_own}
 use Rattle.clr_rules.proofs.near.OwnQuestions.{same_places, same_present, same_present_round}
 
-abbrev pub is_show : Kind → Bool
-is_show (Show c) = true
-is_show _ = false
-
 -- ---- replies
 
 module _ (c : Id) (R S : Register) (same : SameOwn c R S) (r : Record) (own : r.id ≡ c) where
-  card_present : present_steps R.steps r.id ≡ present_steps S.steps r.id
+  pub card_present : present_steps R.steps r.id ≡ present_steps S.steps r.id
   card_present = ap (present_steps R.steps) own ∙ same_present c R S same ∙ ap (present_steps S.steps) (sym own)
 
-  same_card : card_of R r ≡ card_of S r
+  pub same_card : card_of R r ≡ card_of S r
   same_card =
       let round : present_round R.steps r.id ≡ present_round S.steps r.id =
       ap (present_round R.steps) own ∙ same_present_round c R S same ∙ ap (present_round S.steps) (sym own) in

@@ -10,7 +10,7 @@ use Rattle.clr_rules.specs.declared.command.Kind.TheVariants as kinds
 use Rattle.clr_rules.specs.declared.refusal.Refusal.TheVariants as refusals
 
 module _ (c : Id) (R S : Register) (same : SameOwn c R S) where
-  at_number : (n : ℕ) (check : StepRow → Option Refusal) → at_step R c n check ≡ at_step S c n check
+  pub at_number : (n : ℕ) (check : StepRow → Option Refusal) → at_step R c n check ≡ at_step S c n check
   at_number n check = ap (λ (rows : List StepRow). where_some (step_at rows n) check) (same_present c R S same)
 
   pub number : (n : ℕ) → no_step R c n ≡ no_step S c n

@@ -3,7 +3,7 @@ use Rattle.std.proofs.Common.{◌≡◌, ℕ, ◌<◌, ◌+◌, Bool, true, fals
 use Rattle.std.specs.List.{AllByRecursion}
 use Rattle.std.specs.Ordering.{is_eq}
 use Rattle.std.proofs.lemmas.Bool.{both_ways, false≢true, false_from_ne_true}
-use Rattle.std.proofs.lemmas.List.Elements.{All-head}
+use Rattle.std.proofs.lemmas.List.Elements.{All-head, All-nil}
 use Rattle.std.proofs.lemmas.Option.{same_Some}
 use Rattle.clr_net.specs.Grid.{Grid, point_names}
 use Rattle.clr_net.specs.Names.{has_name}
@@ -27,8 +27,8 @@ use Rattle.clr_rules.specs.Good.{IsGood, IsSoundFor, ListsAreInOrder}
 use Rattle.clr_rules.specs.GoodByPhase.{IsGoodByPhase, outlook_of}
 use Rattle.clr_rules.specs.laws.Edits.{refusal_of}
 use Rattle.clr_rules.specs.Prelude.{Edit, PutRecord, PutStep, Command, Kind, Hold, HoldKind, HeldOpen, Phase, Requested, Ordered, Granted, Released, Restoring, Switching, Closed, Record, Refusal, StepRow, Id, same_id, id_cmp, Register}
-use Rattle.clr_rules.specs.Prelude.{record_of, record_key, is_granted, is_standing, is_restoring, is_running, is_some_step, step_key, step_key_cmp, step_key_cmp_total, all_done, is_done, present_steps, step_at, steps_in, is_point_kind, has_any_hold, has_hold, after_edit, after_edits, points_of, tasks_of}
-use Rattle.clr_rules.specs.Records.{ends_with_steps, is_released, is_switch_order}
+use Rattle.clr_rules.specs.Prelude.{record_of, record_key, is_granted, is_standing, is_restoring, is_running, is_some_step, step_key, step_key_cmp, step_key_cmp_total, all_done, is_active, is_done, present_steps, step_at, steps_in, is_point_kind, has_any_hold, has_hold, after_edit, after_edits, points_of, tasks_of}
+use Rattle.clr_rules.specs.Records.{ends_with_steps, is_open, is_released, is_switch_order}
 use Rattle.clr_rules.specs.Register.{opening}
 use Rattle.clr_rules.specs.Run.{IsReached, after, after_all}
 use Rattle.clr_rules.specs.Staffed.{IsStaffed, fits_holder, has_some_role}
@@ -49,8 +49,8 @@ use Rattle.clr_rules.proofs.keeps.OneRecord.{in_phase_of}
 use Rattle.clr_rules.proofs.lists.FoundSteps.{present_step}
 use Rattle.clr_rules.proofs.lists.HoldMembers.{hold_had}
 use Rattle.clr_rules.proofs.lists.NamedRows.{has_name-row, row_named}
-use Rattle.clr_rules.proofs.lists.RoundSteps.{All-in_round, one_id, own_id, record_id}
-use Rattle.clr_rules.proofs.staffed.Puts.{StepLeft, found_any, holds_say, left_beside, left_by_edits, no_step_left, some_left, steps_say}
+use Rattle.clr_rules.proofs.lists.RoundSteps.{All-in_own_round, one_id, own_id, record_id}
+use Rattle.clr_rules.proofs.staffed.Puts.{StepLeft, each_step_says, found_any, holds_say, left_beside, left_by_edits, no_step_left, some_left, steps_say}
 use Rattle.clr_rules.proofs.staffed.PutPeople.{IsOwnReport, PutWell, StepPutWell, holds_put, leaves_open, put_well, reports_done}
 
 -- ---- a Restoring record has a step left
@@ -201,7 +201,7 @@ module _ (R : Register) (good : IsGood R) (by_phase : IsGoodByPhase R) (staffed 
           let known : has_name (point_names (Grid.points R.net)) row.step.point ≡ true =
           All-head (λ (row : StepRow). has_name (point_names (Grid.points R.net)) row.step.point ≡ true) row rows
           (subst (λ (rows : List StepRow). All (λ row. has_name (point_names (Grid.points R.net)) row.step.point ≡ true) rows) e
-          (All-in_round (λ (row : StepRow). has_name (point_names (Grid.points R.net)) row.step.point ≡ true) R.steps c 1 good.besides.points_known.steps)) in
+          (All-in_own_round (λ (row : StepRow). has_name (point_names (Grid.points R.net)) row.step.point ≡ true) R.steps c 1 (good.besides.points_known.steps c r found (ap is_open is)))) in
           let (point, there, named) = row_named (λ (p : PointRow). p.name) (Grid.points R.net) row.step.point known in
           let among : has_name (points_of (row ∷ rows)) row.step.point ≡ true = has_name-row (λ (t : Task). t.point) (tasks_of (row ∷ rows)) (task row.step) (Contains-here (task row.step) (tasks_of rows)) in (
             row.step.point,
@@ -305,13 +305,15 @@ module _ (R : Register) (q : Command) (good : IsGood R) (staffed : IsStaffed R) 
 
   staffed_after : IsStaffed S
   staffed_after = record {
-    holders = λ c s read. subst (λ (staff : List StaffRow). has_role (fits_holder s.work) (employee staff s.holder) ≡ true) (sym same_staff)
-        (⊎_elim (λ before. staffed.holders c s before) (λ (put : PutWell R q.kind s). put.0) (read_after c s read));
+    holders = λ c s read unclosed. subst (λ (staff : List StaffRow). has_role (fits_holder s.work) (employee staff s.holder) ≡ true) (sym same_staff)
+        (⊎_elim (λ before. staffed.holders c s before unclosed) (λ (put : PutWell R q.kind s). put.0) (read_after c s read));
     operators = λ some. subst (λ (staff : List StaffRow). has_some_role staff is_operator ≡ true) (sym same_staff)
         (steps_say (has_some_role R.staff is_operator ≡ true) (PutWell R q.kind) (StepPutWell R q.kind) (λ row put. put.0) edits R
         (put_well R staffed by_phase k q.caller q.moment q.kind passes) staffed.operators some);
     field = λ c kind p at_point has. subst (λ (staff : List StaffRow). has_some_role staff is_field ≡ true) (sym same_staff)
         (holds_say (has_some_role R.staff is_field ≡ true) c kind p at_point edits R (holds_put R k q.caller q.moment q.kind passes) (staffed.field c kind p at_point) has);
+    rounds = each_step_says (PutWell R q.kind) (StepPutWell R q.kind) (λ row. is_active row.step.state ≡ true → (row.round ≡ 1) ⊎ (row.round ≡ 2)) (λ row put. put.2) edits R
+        (put_well R staffed by_phase k q.caller q.moment q.kind passes) staffed.rounds;
     released = released_holds;
     restoring = restoring_left;
   }
@@ -324,12 +326,13 @@ commands_keep_staffed R q good staffed = at (refusal_of R q) refl
     at (Some refusal) is = no_edits R staffed
 
 -- nothing is asked for, ordered or held before the first command
-opening_staffed : (g : Grid) (staff : List StaffRow) → IsStaffed (opening g staff)
+pub opening_staffed : (g : Grid) (staff : List StaffRow) → IsStaffed (opening g staff)
 unfolding row_of
 opening_staffed g staff = record {
-  holders = λ c r found. absurd (cc found);
+  holders = λ c r found unclosed. absurd (cc found);
   operators = λ some. absurd (false≢true some);
   field = λ c kind p at_point has. absurd (false≢true has);
+  rounds = All-nil (λ (row : StepRow). is_active row.step.state ≡ true → (row.round ≡ 1) ⊎ (row.round ≡ 2));
   released = λ c r found is. absurd (cc found);
   restoring = λ c r found is. absurd (cc found);
 }

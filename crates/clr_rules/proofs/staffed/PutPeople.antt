@@ -14,24 +14,25 @@ use Rattle.clr_staff.specs.declared.employee.Role.{Role}
 use Rattle.clr_staff.specs.declared.employee.StaffRow.{StaffRow}
 use Rattle.clr_rules.specs.Changes.{new_jumper, new_steps, phase_after, point_edits, put_steps, step_moved}
 use Rattle.clr_rules.specs.Checks.{employee, has_role, is_charge, is_field, is_in_charge, is_operator, refuse, unknown_caller, wrong_role}
+use Rattle.clr_rules.specs.Command.{named_clearance}
 use Rattle.clr_rules.specs.Commands.{Known, checks, edits_of}
 use Rattle.clr_rules.specs.GoodByPhase.{InPhase, IsGoodByPhase, Outlook, outlook_of}
 use Rattle.clr_rules.specs.Hold.{same_hold}
 use Rattle.clr_rules.specs.laws.Edits.{is_hold}
 use Rattle.clr_rules.specs.Prelude.{Edit, PutHold, TakeHold, PutRecord, PutStep, Kind, Hold, HoldKind, HeldOpen, Tested, Phase, Requested, Ordered, Granted, Released, Closed, Record, StepRow, Id, same_id, Register}
-use Rattle.clr_rules.specs.Prelude.{record_of, is_running, is_ordered, is_restoring, step_key, step_key_cmp, all_done, is_done, is_waiting, present_steps, step_at, hold_cmp, has_any_hold, hold_of, places_of}
+use Rattle.clr_rules.specs.Prelude.{record_of, is_running, is_ordered, is_restoring, step_key, step_key_cmp, all_done, is_active, is_done, is_waiting, present_steps, step_at, hold_cmp, has_any_hold, hold_of, places_of}
 use Rattle.clr_rules.specs.Records.{ends_with_steps, is_released, is_switch_order, is_transferable}
 use Rattle.clr_rules.specs.Staffed.{IsStaffed, fits_holder, has_some_role}
 use Rattle.clr_rules.specs.Steps.{is_close}
 use Rattle.clr_rules.specs.declared.command.Kind.TheVariants as kinds
 use Rattle.clr_rules.specs.declared.refusal.Refusal.TheVariants.{BadTransfer, StepState as WrongState}
-use Rattle.clr_rules.proofs.edits.Passing.{Pass, check_of_found, not_refused, not_refused_true, phase_fits, role_begun}
+use Rattle.clr_rules.proofs.edits.Passing.{Pass, check_of_found, is_show, named_is_open, not_refused, not_refused_true, phase_fits, role_begun}
 use Rattle.clr_rules.proofs.edits.PutRows.{AllLeave, AllPutSuch, by_added, by_record, by_step, done_put, steps_leave, steps_put, takes_put}
 use Rattle.clr_rules.proofs.good.PutHolds.{found_there}
 use Rattle.clr_rules.proofs.keeps.OneRecord.{in_phase_of}
 use Rattle.clr_rules.proofs.keeps.Request.{caller_role}
 use Rattle.clr_rules.proofs.keeps.Restore.{restoring_passed}
-use Rattle.clr_rules.proofs.lists.FoundSteps.{present_step}
+use Rattle.clr_rules.proofs.lists.FoundSteps.{present_rounds, present_step}
 use Rattle.clr_rules.proofs.lists.RoundSteps.{one_id, own_id, record_id}
 use Rattle.clr_rules.proofs.lists.StepSplits.{waiting_not_done}
 use Rattle.clr_rules.proofs.staffed.Puts.{AllPutBy, finds, some_there}
@@ -48,9 +49,10 @@ abbrev pub reports_done : Kind → Bool
 reports_done (kinds.Report c n true) = true
 reports_done _ = false
 
--- a step that is put has an operator, and is not Done but by a report
+-- a step that is put has an operator, is not Done but by a report, and, while it is given out, is of the first round or the second
 abbrev pub StepPutWell : Register → Kind → StepRow → Type 0
 StepPutWell R kind row = (has_some_role R.staff is_operator ≡ true) × ((is_done row.step.state ≡ false) ⊎ (reports_done kind ≡ true))
+    × (is_active row.step.state ≡ true → (row.round ≡ 1) ⊎ (row.round ≡ 2))
 
 -- the role of a caller is one of the staff
 pub caller_there : (R : Register) (by : List ℕ) (fits : Role → Bool) → unknown_caller R by ≡ None → wrong_role R by fits ≡ None → has_some_role R.staff fits ≡ true
@@ -73,7 +75,7 @@ module _ (R : Register) (staffed : IsStaffed R) (good : IsGoodByPhase R) (k : Kn
   new_such : (kind : Kind) (c : Id) (round n : ℕ) (tasks : List Task) → has_some_role R.staff is_operator ≡ true → AllByRecursion (StepPutWell R kind) (new_steps c round n tasks)
   unfolding new_steps
   new_such kind c round n [] operates = tt
-  new_such kind c round n (t ∷ tasks) operates = ((operates, inl refl), new_such kind c round (n + 1) tasks operates)
+  new_such kind c round n (t ∷ tasks) operates = ((operates, inl refl, λ is. absurd (false≢true is)), new_such kind c round (n + 1) tasks operates)
 
   new_put : (kind : Kind) (c : Id) (round : ℕ) (tasks : List Task) → has_some_role R.staff is_operator ≡ true
       → AllPutSuch (PutWell R kind) (StepPutWell R kind) (put_steps (new_steps c round 1 tasks))
@@ -94,6 +96,11 @@ module _ (R : Register) (staffed : IsStaffed R) (good : IsGoodByPhase R) (k : Kn
   operates : (c : Id) (n : ℕ) (row : StepRow) → step_at (present_steps R.steps c) n ≡ Some row → has_some_role R.staff is_operator ≡ true
   operates c n row step = staffed.operators (some_there R.steps row (present_step R.steps c n row step).there)
 
+  -- the holder of the record that a command names, where no check applies: the record is open
+  holder : (kind : Kind) → is_show kind ≡ false → Pass (checks k R by at kind) → (c : Id) → named_clearance kind ≡ Some c → (r : Record) → record_of R.records c ≡ Some r
+      → has_role (fits_holder r.work) (employee R.staff r.holder) ≡ true
+  holder kind no_show passed c named r found = staffed.holders c r found (named_is_open k R by at kind no_show passed c named r found)
+
   -- WHERE NO CHECK APPLIES, what each command puts
   pub put_well : (kind : Kind) → Pass (checks k R by at kind) → AllPutSuch (PutWell R kind) (StepPutWell R kind) (edits_of k.greatest R by at kind)
   put_well (kinds.Request section) passed =
@@ -101,44 +108,44 @@ module _ (R : Register) (staffed : IsStaffed R) (good : IsGoodByPhase R) (k : Kn
       ((ap (has_role (fits_holder (Some section))) found ∙ charge, λ is. absurd (false≢true is)), tt)
   put_well (kinds.Order c points tasks) passed =
       by_record (AllPutSuch (PutWell R (kinds.Order c points tasks)) (StepPutWell R (kinds.Order c points tasks))) tt R c _ (λ r found.
-      ((staffed.holders c r found, λ is. absurd (false≢true is)), new_put (kinds.Order c points tasks) c 1 tasks (caller_there R by is_operator passed.0 passed.1.0)))
+      ((holder (kinds.Order c points tasks) refl passed c refl r found, λ is. absurd (false≢true is)), new_put (kinds.Order c points tasks) c 1 tasks (caller_there R by is_operator passed.0 passed.1.0)))
   put_well (kinds.Instruct c n) passed =
       by_step (AllPutSuch (PutWell R (kinds.Instruct c n)) (StepPutWell R (kinds.Instruct c n))) tt R c n _ (λ r row found step.
-      ((staffed.holders c r found, stays (kinds.Instruct c n) c r found), ((operates c n row step, inl refl), tt)))
+      ((holder (kinds.Instruct c n) refl passed c refl r found, stays (kinds.Instruct c n) c r found), ((operates c n row step, inl refl, λ _. present_rounds R.steps c n row step), tt)))
   put_well (kinds.Repeat c n text) passed =
       by_step (AllPutSuch (PutWell R (kinds.Repeat c n text)) (StepPutWell R (kinds.Repeat c n text))) tt R c n _ (λ r row found step.
-      ((staffed.holders c r found, stays (kinds.Repeat c n text) c r found), ((operates c n row step, inl refl), tt)))
+      ((holder (kinds.Repeat c n text) refl passed c refl r found, stays (kinds.Repeat c n text) c r found), ((operates c n row step, inl refl, λ _. present_rounds R.steps c n row step), tt)))
   put_well (kinds.Report c n true) passed =
       by_step (AllPutSuch (PutWell R (kinds.Report c n true)) (StepPutWell R (kinds.Report c n true))) tt R c n _ (λ r row found step.
       let now = step_moved Done row.step.reader row in
       done_put (PutWell R (kinds.Report c n true)) (StepPutWell R (kinds.Report c n true)) (is_switch_order r) r.id row.step.action row.step.point
       (record r { phase = phase_after R.steps r now; last = at }) now
-      (staffed.holders c r found, ended (kinds.Report c n true) c r found (ends_with_steps r.phase && all_done (present_steps (with_row step_key_cmp step_key now R.steps) r.id)))
-      (operates c n row step, inr refl))
+      (holder (kinds.Report c n true) refl passed c refl r found, ended (kinds.Report c n true) c r found (ends_with_steps r.phase && all_done (present_steps (with_row step_key_cmp step_key now R.steps) r.id)))
+      (operates c n row step, inr refl, λ _. present_rounds R.steps c n row step))
   put_well (kinds.Report c n false) passed =
       by_step (AllPutSuch (PutWell R (kinds.Report c n false)) (StepPutWell R (kinds.Report c n false))) tt R c n _ (λ r row found step.
-      ((staffed.holders c r found, stays (kinds.Report c n false) c r found), ((operates c n row step, inl refl), tt)))
+      ((holder (kinds.Report c n false) refl passed c refl r found, stays (kinds.Report c n false) c r found), ((operates c n row step, inl refl, λ _. present_rounds R.steps c n row step), tt)))
   put_well (kinds.Grant c) passed =
       by_record (AllPutSuch (PutWell R (kinds.Grant c)) (StepPutWell R (kinds.Grant c))) tt R c _ (λ r found.
-      ((staffed.holders c r found, λ is. absurd (false≢true is)), tt))
+      ((holder (kinds.Grant c) refl passed c refl r found, λ is. absurd (false≢true is)), tt))
   put_well (kinds.Test c section true) passed =
       by_record (AllPutSuch (PutWell R (kinds.Test c section true)) (StepPutWell R (kinds.Test c section true))) tt R c _ (λ r found.
-      ((staffed.holders c r found, stays (kinds.Test c section true) c r found), tt))
+      ((holder (kinds.Test c section true) refl passed c refl r found, stays (kinds.Test c section true) c r found), tt))
   put_well (kinds.Test c section false) passed =
       by_record (AllPutSuch (PutWell R (kinds.Test c section false)) (StepPutWell R (kinds.Test c section false))) tt R c _ (λ r found.
-      ((staffed.holders c r found, stays (kinds.Test c section false) c r found), tt))
+      ((holder (kinds.Test c section false) refl passed c refl r found, stays (kinds.Test c section false) c r found), tt))
   put_well (kinds.Release c notified clear) passed =
       by_record (AllPutSuch (PutWell R (kinds.Release c notified clear)) (StepPutWell R (kinds.Release c notified clear))) tt R c _ (λ r found.
       takes_put (PutWell R (kinds.Release c notified clear)) (StepPutWell R (kinds.Release c notified clear)) c (places_of R.holds c Tested) _
-      ((staffed.holders c r found, λ is. absurd (false≢true is)), tt))
+      ((holder (kinds.Release c notified clear) refl passed c refl r found, λ is. absurd (false≢true is)), tt))
   put_well (kinds.Cancel c) passed =
       by_record (AllPutSuch (PutWell R (kinds.Cancel c)) (StepPutWell R (kinds.Cancel c))) tt R c _ (λ r found.
-      ((staffed.holders c r found, λ is. absurd (cancelled (is_ordered r.phase && has_any_hold R.holds r.id) is)), tt))
+      ((holder (kinds.Cancel c) refl passed c refl r found, λ is. absurd (cancelled (is_ordered r.phase && has_any_hold R.holds r.id) is)), tt))
   put_well (kinds.Restore c tasks) passed =
       let (was, read, fits, (order_passes, _)) = role_begun R c is_released passed in
       by_record (AllPutSuch (PutWell R (kinds.Restore c tasks)) (StepPutWell R (kinds.Restore c tasks))) tt R c _ (λ r found. (
         (
-          staffed.holders c r found,
+          holder (kinds.Restore c tasks) refl passed c refl r found,
           λ is. inr (tasks, ap (λ (d : Id). kinds.Restore d tasks) (sym (record_id R.records c r found)), (restoring_passed R c tasks order_passes).some_step),
         ),
         new_put (kinds.Restore c tasks) c 2 tasks (caller_there R by is_operator passed.0 passed.1.0),
@@ -148,8 +155,8 @@ module _ (R : Register) (staffed : IsStaffed R) (good : IsGoodByPhase R) (k : Kn
       by_step (AllPutSuch (PutWell R (kinds.Amend c n)) (StepPutWell R (kinds.Amend c n))) tt R c n _ (λ r row found step.
       let waits = not_refused_true (is_waiting row.step.state && is_close row.step.action) WrongState
       (check_of_found (step_at (present_steps R.steps c) n) row (λ (row : StepRow). refuse (not (is_waiting row.step.state && is_close row.step.action)) WrongState) step close_passes) in (
-        (staffed.holders c r found, stays (kinds.Amend c n) c r found),
-        ((operates c n row step, inl (waiting_not_done row.step.state (and_parts (is_waiting row.step.state) (is_close row.step.action) waits).0)), tt),
+        (holder (kinds.Amend c n) refl passed c refl r found, stays (kinds.Amend c n) c r found),
+        ((operates c n row step, inl (waiting_not_done row.step.state (and_parts (is_waiting row.step.state) (is_close row.step.action) waits).0), λ _. present_rounds R.steps c n row step), tt),
       ))
   put_well (kinds.Switch tasks) passed =
       let (row, found, operator) = caller_role R by is_operator passed.0 passed.1.0 in
@@ -166,7 +173,7 @@ module _ (R : Register) (staffed : IsStaffed R) (good : IsGoodByPhase R) (k : Kn
   put_well (kinds.Jumper point from to lockable remote) passed =
       by_added (AllPutSuch (PutWell R (kinds.Jumper point from to lockable remote)) (StepPutWell R (kinds.Jumper point from to lockable remote))) R (new_jumper point from to lockable remote) tt tt
   -- the phase and the holder stay
-  put_well kind passed = by_record (AllPutSuch (PutWell R kind) (StepPutWell R kind)) tt R _ _ (λ r found. ((staffed.holders _ r found, stays kind _ r found), tt))
+  put_well kind passed = by_record (AllPutSuch (PutWell R kind) (StepPutWell R kind)) tt R _ _ (λ r found. ((holder kind refl passed _ refl r found, stays kind _ r found), tt))
 
 -- ---- holds at points
 

@@ -7,11 +7,13 @@ use Rattle.std.proofs.lemmas.List.Elements.{All-cons, All-contains, All-nil}
 use Rattle.clr_order.proofs.Finds.{found_passes}
 use Rattle.clr_rules.specs.Steps.{is_of_round}
 use Rattle.clr_net.proofs.Walks.{any_from}
+use Rattle.clr_shelf.proofs.Groups.{All-with_row}
 use Rattle.clr_shelf.proofs.Keys.{equal}
 use Rattle.clr_shelf.specs.Rows.{in_key_order}
 use Rattle.clr_rules.specs.laws.Edits.{is_hold}
 use Rattle.clr_rules.specs.Good.{ListsAreInOrder}
 use Rattle.clr_rules.specs.Hold.{same_hold}
+use Rattle.clr_rules.specs.Prelude.{id_cmp, id_cmp_total, record_key}
 use Rattle.clr_rules.specs.Prelude.{Edit, PutHold, TakeHold, PutRecord, PutStep, Hold, HoldKind, Record, StepRow, Id, Register}
 use Rattle.clr_rules.specs.Prelude.{step_key, step_key_cmp, step_key_cmp_total, all_done, is_done, is_some_step, steps_in, hold_cmp, is_point_kind, has_hold, hold_of, after_edit, after_edits}
 use Rattle.clr_rules.specs.StepKey.{same_step_key}
@@ -57,6 +59,26 @@ module _ (X : Type 0) (P : Record → Type 0) (Q : StepRow → Type 0) (by : (ro
   steps_say (PutStep row ∷ edits) R such before now = by row such.0
   steps_say (PutRecord r ∷ edits) R such before now = steps_say edits (after_edit (PutRecord r) R) such.1 before now
   steps_say (edit ∷ edits) R such before now = steps_say edits (after_edit edit R) such before now
+
+module _ (P : Record → Type 0) (Q X : StepRow → Type 0) (by : (row : StepRow) → Q row → X row) where
+  -- and what it says of itself holds of all steps, where it held of all before
+  pub each_step_says : (edits : List Edit) (R : Register) → AllPutSuch P Q edits → All X R.steps → All X (Register.steps (after_edits edits R))
+  unfolding after_edits
+  each_step_says [] R such before = before
+  each_step_says (PutStep row ∷ edits) R such before = each_step_says edits (after_edit (PutStep row) R) such.1
+      (All-with_row step_key_cmp step_key step_key_cmp_total X row R.steps (by row such.0) before)
+  each_step_says (PutRecord r ∷ edits) R such before = each_step_says edits (after_edit (PutRecord r) R) such.1 before
+  each_step_says (edit ∷ edits) R such before = each_step_says edits (after_edit edit R) such before
+
+module _ (P : Record → Type 0) (Q : StepRow → Type 0) (X : Record → Type 0) (by : (r : Record) → P r → X r) where
+  -- so it is of records
+  pub each_record_says : (edits : List Edit) (R : Register) → AllPutSuch P Q edits → All X R.records → All X (Register.records (after_edits edits R))
+  unfolding after_edits
+  each_record_says [] R such before = before
+  each_record_says (PutRecord r ∷ edits) R such before = each_record_says edits (after_edit (PutRecord r) R) such.1
+      (All-with_row id_cmp record_key id_cmp_total X r R.records (by r such.0) before)
+  each_record_says (PutStep row ∷ edits) R such before = each_record_says edits (after_edit (PutStep row) R) such.1 before
+  each_record_says (edit ∷ edits) R such before = each_record_says edits (after_edit edit R) such before
 
 -- a step of the second round that is not Done
 pub record StepLeft (steps : List StepRow) (c : Id) : Type 0 where

@@ -13,28 +13,27 @@ use Rattle.clr_rules.specs.Good.{IsGood}
 use Rattle.clr_rules.specs.Prelude.{PutRecord, Command, Phase, Requested, Ordered, Released, Switching, Closed, Record, StepRow, Register}
 use Rattle.clr_rules.specs.Prelude.{position_of, record_of, is_active, is_ordered, steps_of, points_of, has_any_hold, after_edits}
 use Rattle.clr_rules.specs.Records.{is_cancellable, is_closed, is_released}
-use Rattle.clr_rules.specs.Run.{IsReached, after}
+use Rattle.clr_rules.specs.Run.{after}
 use Rattle.clr_rules.specs.Staffed.{IsStaffed, fits_holder, has_some_role}
 use Rattle.clr_rules.specs.Steps.{some_active}
 use Rattle.clr_rules.specs.WayBack.{ask, cancelled, moves_in, moves_of, next_moves}
 use Rattle.clr_rules.specs.declared.command.Kind.TheVariants as kinds
+use Rattle.clr_rules.proofs.lists.OpenPhases.{open_where}
 use Rattle.clr_rules.proofs.edits.EditReading.{record_of-put}
 use Rattle.clr_rules.proofs.edits.PresentSteps.{active_midst}
 use Rattle.clr_rules.proofs.edits.StepMoves.{some_active_is}
 use Rattle.clr_rules.proofs.good.GoodToPhases.{to_phases}
 use Rattle.clr_rules.proofs.good.PutHolds.{found_there}
-use Rattle.clr_rules.proofs.keeps.EveryKind.{reached_are_good}
 use Rattle.clr_rules.proofs.lists.RoundSteps.{own_id}
-use Rattle.clr_rules.proofs.staffed.EveryKind.{reached_are_staffed}
 use Rattle.clr_rules.proofs.staffed.Puts.{found_any}
 use Rattle.clr_rules.proofs.way_back.Accepting.{HasEmployee, Made, employee_of, holder_passes, made, record_edits, is_move}
-use Rattle.clr_rules.proofs.way_back.ComingBack.{own_undone, reached2, repeating, reporting, split, undone_recorded, undone_steps, repeat_move, undone_move}
-use Rattle.clr_rules.proofs.way_back.InWork.{active_in_work, is_present, reached_after}
+use Rattle.clr_rules.proofs.way_back.ComingBack.{own_undone, both2, repeating, reporting, split, undone_recorded, undone_steps, repeat_move, undone_move}
+use Rattle.clr_rules.proofs.way_back.InWork.{active_in_work, is_present, both_after, GoodAndStaffed}
 use Rattle.clr_rules.proofs.way_back.Staying.{Stays, WayOut, is_out, moved_one, moved_two, stays_after, wider}
 
 -- what is left to do of a Released record
 abbrev pub ReleasedGoOut : Type 0
-ReleasedGoOut = (R : Register) → IsReached R → (r : Record) → record_of R.records r.id ≡ Some r → is_released r.phase ≡ true → WayOut 1281 R r.id
+ReleasedGoOut = (R : Register) → GoodAndStaffed R → (r : Record) → record_of R.records r.id ≡ Some r → is_released r.phase ≡ true → WayOut 1281 R r.id
 
 may_cancel : (work : Option (List ℕ)) (role : Role) → fits_holder work role ≡ true → is_charge_or_operator role ≡ true
 may_cancel None Operator h = refl
@@ -70,13 +69,13 @@ none_active_found steps none = sym (found_any (λ (row : StepRow). is_active row
 
 module _ (released_go_out : ReleasedGoOut) where
   -- where no step is given out
-  module _ (R : Register) (reached : IsReached R) (r : Record) (found : record_of R.records r.id ≡ Some r) (fits : is_cancellable r.phase ≡ true)
+  module _ (R : Register) (both : GoodAndStaffed R) (r : Record) (found : record_of R.records r.id ≡ Some r) (fits : is_cancellable r.phase ≡ true)
       (rests : some_active (steps_of R.steps r.id) ≡ false) where
     good : IsGood R
-    good = reached_are_good R reached
+    good = GoodAndStaffed.good both
 
     staffed : IsStaffed R
-    staffed = reached_are_staffed R reached
+    staffed = GoodAndStaffed.staffed both
 
     abbrev cancelling : Command
     cancelling = ask r r.holder (kinds.Cancel r.id)
@@ -86,7 +85,8 @@ module _ (released_go_out : ReleasedGoOut) where
 
     holder : HasEmployee R r.holder is_charge_or_operator
     holder =
-        let h = employee_of R r.holder (fits_holder r.work) (staffed.holders r.id r found) in
+        let unclosed = open_where is_cancellable refl r.phase fits in
+        let h = employee_of R r.holder (fits_holder r.work) (staffed.holders r.id r found unclosed) in
         record { row = h.row; found = h.found; role = may_cancel r.work (h.row).role h.role }
 
     cancel_made : Made R cancelling (PutRecord next ∷ [])
@@ -101,7 +101,7 @@ module _ (released_go_out : ReleasedGoOut) where
     stays = stays_after R good r.id cancelling refl after_it.positions (λ p of_it. ap (λ steps. has_name (points_of (steps_of steps r.id)) p) (sym after_it.steps) ∙ of_it)
 
     out_by : (b : Bool) → (is_ordered r.phase && has_any_hold R.holds r.id) ≡ b → WayOut 1281 (after R cancelling) r.id
-    out_by true e = released_go_out (after R cancelling) (reached_after R reached cancelling) next after_it.recorded (ap (λ b. is_released (cond b Released Closed)) e)
+    out_by true e = released_go_out (after R cancelling) (both_after R both cancelling) next after_it.recorded (ap (λ b. is_released (cond b Released Closed)) e)
     out_by false e = is_out 1281 (after R cancelling) r.id next after_it.recorded (ap (λ b. is_closed (cond b Released Closed)) e)
 
     pub cancelled_out : next_moves R r.id ≡ ask r r.holder (kinds.Cancel r.id) ∷ [] → WayOut 1282 R r.id
@@ -119,28 +119,28 @@ module _ (released_go_out : ReleasedGoOut) where
       by_phase _ fits = absurd (false≢true fits)
 
   -- A RECORD THAT WAS NOT GRANTED goes out
-  pub not_granted_go_out : (R : Register) → IsReached R → (r : Record) → record_of R.records r.id ≡ Some r → is_cancellable r.phase ≡ true
+  pub not_granted_go_out : (R : Register) → GoodAndStaffed R → (r : Record) → record_of R.records r.id ≡ Some r → is_cancellable r.phase ≡ true
       → (has_some_role R.staff is_field ≡ true) ⊎ (some_active (steps_of R.steps r.id) ≡ false) → WayOut 1283 R r.id
-  not_granted_go_out R reached r found fits who = at (find (λ (row : StepRow). is_active row.step.state) (steps_of R.steps r.id)) refl
+  not_granted_go_out R both r found fits who = at (find (λ (row : StepRow). is_active row.step.state) (steps_of R.steps r.id)) refl
     where
       at : (o : Option StepRow) → find (λ (row : StepRow). is_active row.step.state) (steps_of R.steps r.id) ≡ o → WayOut 1283 R r.id
       at None e = wider 1282 1283 (omega arith) R r.id
-          (cancelled_out R reached r found fits (none_active_found (steps_of R.steps r.id) e) (cancel_moves R r fits found ∙ ap (cancelled R r) e))
+          (cancelled_out R both r found fits (none_active_found (steps_of R.steps r.id) e) (cancel_moves R r fits found ∙ ap (cancelled R r) e))
       at (Some row) e =
           let among = found_there (λ (row : StepRow). is_active row.step.state) (steps_of R.steps r.id) row e in
           let active = found_passes (λ (row : StepRow). is_active row.step.state) (steps_of R.steps r.id) row e in
           let some = ⊎_elim (λ (h : has_some_role R.staff is_field ≡ true). h)
           (λ none. absurd (both_ways (some_active (steps_of R.steps r.id)) none (any_from (λ (row : StepRow). is_active row.step.state) (steps_of R.steps r.id) row among active))) who in
-          let S = after (after R (repeating R reached r found row among active some)) (reporting R reached r found row among active some false) in
-          let s = split R reached r found row among active some in
-          let recorded = undone_recorded R reached r found row among active some in
-          let w = active_in_work R reached r found row among active in
-          let by_phase = to_phases R (reached_are_good R reached) in
-          let rests : some_active (steps_of (Register.steps S) r.id) ≡ false = ap some_active (undone_steps R reached r found row among active some)
+          let S = after (after R (repeating R both r found row among active some)) (reporting R both r found row among active some false) in
+          let s = split R both r found row among active some in
+          let recorded = undone_recorded R both r found row among active some in
+          let w = active_in_work R both r found row among active in
+          let by_phase = to_phases R (GoodAndStaffed.good both) in
+          let rests : some_active (steps_of (Register.steps S) r.id) ≡ false = ap some_active (undone_steps R both r found row among active some)
           ∙ some_active_is s.before s.after row (step_moved Waiting None row) row.round
           (active_midst R by_phase r.id r found row (is_present R r row w) s.before s.after s.was active) refl in
-          moved_two 1282 R r.id (repeating R reached r found row among active some) (reporting R reached r found row among active some false)
+          moved_two 1282 R r.id (repeating R both r found row among active some) (reporting R both r found row among active some false)
           (cancel_moves R r fits found ∙ ap (cancelled R r) e)
-          (repeat_move R reached r found row among active some) (undone_move R reached r found row among active some) (own_undone R reached r found row among active some)
-          (cancelled_out S (reached2 R reached r found row among active some false) r recorded fits rests
+          (repeat_move R both r found row among active some) (undone_move R both r found row among active some) (own_undone R both r found row among active some)
+          (cancelled_out S (both2 R both r found row among active some false) r recorded fits rests
           (cancel_moves S r fits recorded ∙ ap (cancelled S r) (no_active_found (steps_of (Register.steps S) r.id) rests)))

@@ -16,21 +16,21 @@ use Rattle.clr_rules.specs.Checks.{employee, is_field}
 use Rattle.clr_rules.specs.Good.{IsGood}
 use Rattle.clr_rules.specs.GoodByPhase.{Outlook, outlook_of}
 use Rattle.clr_rules.specs.Prelude.{SetHand, PutRecord, PutStep, Command, PointState, Record, StepRow, Id, same_id, Register}
-use Rattle.clr_rules.specs.Prelude.{hand_of, position_of, record_of, is_active, points_of, state_of, steps_of, has_hold, after_edits}
-use Rattle.clr_rules.specs.Records.{is_switch_order}
-use Rattle.clr_rules.specs.Run.{IsReached, after}
+use Rattle.clr_rules.specs.Prelude.{hand_of, position_of, record_of, is_active, points_of, state_of, steps_of, has_hold, after_edits, is_running}
+use Rattle.clr_rules.specs.Records.{is_switch_order, is_open}
+use Rattle.clr_rules.specs.Run.{after}
 use Rattle.clr_rules.specs.Staffed.{has_some_role}
 use Rattle.clr_rules.specs.WayBack.{ask, one_of_role}
 use Rattle.clr_rules.specs.laws.WayBack.{IsMove, sets_position, AllBack, StaysBut, is_point_of}
 use Rattle.clr_rules.specs.declared.command.Kind.TheVariants as kinds
+use Rattle.clr_rules.proofs.lists.OpenPhases.{open_where}
 use Rattle.clr_rules.proofs.edits.EditReading.{record_of-put}
 use Rattle.clr_rules.proofs.edits.PutSteps.{put_step}
-use Rattle.clr_rules.proofs.keeps.EveryKind.{reached_are_good}
 use Rattle.clr_rules.proofs.lists.RoundSteps.{one_id, own_id}
 use Rattle.clr_rules.proofs.lists.StateFacts.{hand_of-handed, state_is_known, with_hand}
 use Rattle.clr_rules.proofs.staffed.EveryKind.{done_list, done_records, done_steps}
 use Rattle.clr_rules.proofs.way_back.Accepting.{HasEmployee, Made, is_move, one_there}
-use Rattle.clr_rules.proofs.way_back.InWork.{InWork, StepMade, active_in_work, made_alone, made_handed, own_there, reached_after, repeat_made, report_made}
+use Rattle.clr_rules.proofs.way_back.InWork.{InWork, StepMade, active_in_work, made_alone, made_handed, own_there, both_after, repeat_made, report_made, GoodAndStaffed}
 use Rattle.clr_rules.proofs.way_back.Rows.{SplitAt, in_the_midst, points_swap, split_again, split_of}
 use Rattle.clr_rules.proofs.way_back.Staying.{SetsNone, Stays, all_stay, none_are_set, others_stay, stays_as}
 
@@ -47,10 +47,11 @@ states_handed R r p hand new = refl
 pub same_employee : (R S : Register) (by : List ℕ) → S.staff ≡ R.staff → HasEmployee R by is_field → HasEmployee S by is_field
 same_employee R S by same h = record { row = h.row; found = ap (λ staff. employee staff by) same ∙ h.found; role = h.role }
 
--- the point of a step has a state
-pub point_known : (R : Register) → IsGood R → (row : StepRow) → Contains R.steps row → is_some (state_of R.states row.step.point) ≡ true
-point_known R good row there = state_is_known R.states row.step.point ∙ ap (λ names. has_name names row.step.point) good.besides.points_known.states
-    ∙ All-contains (λ (row : StepRow). has_name (point_names (Grid.points R.net)) row.step.point ≡ true) R.steps row good.besides.points_known.steps there
+-- the point of a step of an open record has a state
+pub point_known : (R : Register) → IsGood R → (c : Id) (r : Record) → record_of R.records c ≡ Some r → is_open r.phase ≡ true → (row : StepRow) → Contains (steps_of R.steps c) row
+    → is_some (state_of R.states row.step.point) ≡ true
+point_known R good c r found unclosed row among = state_is_known R.states row.step.point ∙ ap (λ names. has_name names row.step.point) good.besides.points_known.states
+    ∙ All-contains (λ (row : StepRow). has_name (point_names (Grid.points R.net)) row.step.point ≡ true) (steps_of R.steps c) row (good.besides.points_known.steps c r found unclosed) among
 
 -- one step waits again, among the others
 pub back_among : (among : List ℕ → Bool) (before : List StepRow) (row : StepRow) (after : List StepRow) → is_active row.step.state ≡ true → among row.step.point ≡ true
@@ -61,16 +62,16 @@ back_among among (first ∷ before) row after active here = (inl refl, back_amon
 
 -- ---- the step is repeated
 
-module _ (R : Register) (reached : IsReached R) (r : Record) (found : record_of R.records r.id ≡ Some r) (row : StepRow) (among : Contains (steps_of R.steps r.id) row)
+module _ (R : Register) (both : GoodAndStaffed R) (r : Record) (found : record_of R.records r.id ≡ Some r) (row : StepRow) (among : Contains (steps_of R.steps r.id) row)
     (active : is_active row.step.state ≡ true) (some_field : has_some_role R.staff is_field ≡ true) where
   abbrev f : List ℕ
   f = one_of_role R is_field
 
   good : IsGood R
-  good = reached_are_good R reached
+  good = GoodAndStaffed.good both
 
   w : InWork R r row
-  w = active_in_work R reached r found row among active
+  w = active_in_work R both r found row among active
 
   caller : HasEmployee R (one_of_role R is_field) is_field
   caller = one_there R is_field good.said.staff some_field
@@ -96,8 +97,8 @@ module _ (R : Register) (reached : IsReached R) (r : Record) (found : record_of 
   first : StepMade R R1 r repeated
   first = made_alone R repeating r repeated made_first
 
-  reached1 : IsReached R1
-  reached1 = reached_after R reached repeating
+  both1 : GoodAndStaffed R1
+  both1 = both_after R both repeating
 
   steps1 : steps_of (Register.steps R1) r.id ≡ split.before ++ repeated ∷ split.after
   steps1 = ap (λ steps. steps_of steps r.id) first.steps ∙ split_again R.steps r.id row repeated good.said.in_order.steps split refl
@@ -109,13 +110,13 @@ module _ (R : Register) (reached : IsReached R) (r : Record) (found : record_of 
   among1 = subst (λ (rows : List StepRow). Contains rows repeated) (sym steps1) (in_the_midst split.before repeated split.after)
 
   w1 : InWork R1 r repeated
-  w1 = active_in_work R1 reached1 r first.recorded repeated among1 refl
+  w1 = active_in_work R1 both1 r first.recorded repeated among1 refl
 
   abbrev split1 : SplitAt (Register.steps R1) r.id repeated
   split1 = record { before = split.before; after = split.after; own = split.own; was = steps1 }
 
   good1 : IsGood R1
-  good1 = reached_are_good R1 reached1
+  good1 = GoodAndStaffed.good both1
 
   positions1 : (p : List ℕ) → position_of (Register.states R1) p ≡ position_of R.states p
   positions1 p = ap (λ (states : List PointState). position_of states p) states1
@@ -128,8 +129,8 @@ module _ (R : Register) (reached : IsReached R) (r : Record) (found : record_of 
   made_second : (done : Bool) → Made R1 (ask r (one_of_role R is_field) (kinds.Report r.id row.ordinal done)) (cond done (done_edits R1 r.last r repeated) (undone_edits r.last r repeated))
   made_second done = report_made R1 r repeated w1 f (same_employee R R1 f first.staff caller) refl refl done
 
-  pub reached2 : (done : Bool) → IsReached (after R1 (reporting done))
-  reached2 done = reached_after R1 reached1 (reporting done)
+  pub both2 : (done : Bool) → GoodAndStaffed (after R1 (reporting done))
+  both2 done = both_after R1 both1 (reporting done)
 
   pub others2 : (done : Bool) (d : Id) → same_id d r.id ≡ false → outlook_of (after R1 (reporting done)) d ≡ outlook_of R d
   others2 done d differs = others_stay R1 good1 r.id (reporting done) refl d differs ∙ others_stay R good r.id repeating refl d differs
@@ -162,7 +163,7 @@ module _ (R : Register) (reached : IsReached R) (r : Record) (found : record_of 
 
   pub undone_hand : hand_of (Register.states (after R1 (reporting false))) row.step.point ≡ None
   undone_hand = ap (λ (states : List PointState). hand_of states row.step.point) undone_states
-      ∙ hand_of-handed (Register.states R1) row.step.point None (point_known R1 good1 repeated (own_there (Register.steps R1) r.id repeated among1).0)
+      ∙ hand_of-handed (Register.states R1) row.step.point None (point_known R1 good1 r.id r first.recorded (open_where is_running refl r.phase w.runs) repeated among1)
 
   pub undone_positions : (p : List ℕ) → position_of (Register.states (after R1 (reporting false))) p ≡ position_of R.states p
   undone_positions p = ap (λ (S : Register). position_of S.states p) (Made.is_after (made_second false))

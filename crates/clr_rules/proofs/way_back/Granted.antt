@@ -15,26 +15,26 @@ use Rattle.clr_rules.specs.Fences.{clearance_fence}
 use Rattle.clr_rules.specs.Good.{IsGood}
 use Rattle.clr_rules.specs.Prelude.{TakeHold, PutRecord, Command, Hold, HoldKind, Tested, Ground, Crew, Phase, Granted, Released, Record, Id, same_id, Register}
 use Rattle.clr_rules.specs.Prelude.{position_of, record_of, is_granted, points_of, steps_of, hold_cmp, hold_cmp_total, hold_key, hold_of, has_hold, has_some_hold, places_of, same_kind, after_edits}
-use Rattle.clr_rules.specs.Run.{IsReached, after}
+use Rattle.clr_rules.specs.Run.{after}
 use Rattle.clr_rules.specs.Staffed.{IsStaffed, fits_holder}
 use Rattle.clr_rules.specs.laws.Frame.{subject_of}
 use Rattle.clr_rules.specs.WayBack.{ask, given_up, moves_in, moves_of, next_moves}
 use Rattle.clr_rules.specs.laws.WayBack.{IsMove, sets_position}
 use Rattle.clr_rules.specs.declared.command.Kind.TheVariants as kinds
 use Rattle.clr_rules.specs.declared.refusal.Refusal.TheVariants.{CrewState, CrewsOn, Grounded, NotGrounded, OutsideFence}
+use Rattle.clr_rules.proofs.lists.OpenPhases.{open_where}
 use Rattle.clr_rules.proofs.edits.EditReading.{record_of-put}
 use Rattle.clr_rules.proofs.good.GoodToPhases.{to_phases}
 use Rattle.clr_rules.proofs.good.PutHolds.{kept_there}
-use Rattle.clr_rules.proofs.keeps.EveryKind.{reached_are_good}
 use Rattle.clr_rules.proofs.keeps.Release.{taken_all, takes_edited}
 use Rattle.clr_rules.proofs.keeps.Work.{GrantedWork, granted_work}
 use Rattle.clr_rules.proofs.lists.HoldChanges.{one_kind}
 use Rattle.clr_rules.proofs.lists.HoldMembers.{hold_had, hold_there}
 use Rattle.clr_rules.proofs.lists.NamedRows.{Contains-filter}
 use Rattle.clr_rules.proofs.lists.RoundSteps.{one_id, own_id}
-use Rattle.clr_rules.proofs.staffed.EveryKind.{reached_are_staffed, some_found}
+use Rattle.clr_rules.proofs.staffed.EveryKind.{some_found}
 use Rattle.clr_rules.proofs.way_back.Accepting.{HasEmployee, Made, employee_of, holder_passes, made, record_edits, is_move}
-use Rattle.clr_rules.proofs.way_back.InWork.{reached_after}
+use Rattle.clr_rules.proofs.way_back.InWork.{both_after, GoodAndStaffed}
 use Rattle.clr_rules.proofs.way_back.Releasing.{released_out}
 use Rattle.clr_rules.proofs.way_back.Staying.{WayOut, moved_one, stays_after, wider}
 use Rattle.clr_rules.proofs.way_back.Undoing.{and_none}
@@ -152,19 +152,20 @@ off_work holds c section none None = refl
 off_work holds c section none (Some work) =
     ap (λ b. refuse (same_name work section && b) CrewsOn) none ∙ ap (λ b. refuse b CrewsOn) (and_none (same_name work section))
 
-module _ (R : Register) (reached : IsReached R) (r : Record) (found : record_of R.records r.id ≡ Some r) (fits : is_granted r.phase ≡ true) where
+module _ (R : Register) (both : GoodAndStaffed R) (r : Record) (found : record_of R.records r.id ≡ Some r) (fits : is_granted r.phase ≡ true) where
   good : IsGood R
-  good = reached_are_good R reached
+  good = GoodAndStaffed.good both
 
   staffed : IsStaffed R
-  staffed = reached_are_staffed R reached
+  staffed = GoodAndStaffed.staffed both
 
   work : GrantedWork R r.id r
   work = granted_work R r.id r (to_phases R good) found fits
 
   holder : HasEmployee R r.holder is_charge
   holder =
-      let h = employee_of R r.holder (fits_holder r.work) (staffed.holders r.id r found) in
+      let unclosed = open_where is_granted refl r.phase fits in
+      let h = employee_of R r.holder (fits_holder r.work) (staffed.holders r.id r found unclosed) in
       record { row = h.row; found = h.found; role = sym (ap (λ (o : Option (List ℕ)). fits_holder o (h.row).role) work.has_work) ∙ h.role }
 
   moves_are : next_moves R r.id ≡ given_up r (places_of R.holds r.id Crew) (places_of R.holds r.id Ground)
@@ -175,12 +176,12 @@ module _ (R : Register) (reached : IsReached R) (r : Record) (found : record_of 
       by_phase _ h = absurd (false≢true h)
 
   -- one move more
-  module _ (most : ℕ) (at_least : 1281 ≤ most) (more : (S : Register) → IsReached S → record_of S.records r.id ≡ Some r → length S.holds < length R.holds → WayOut most S r.id) where
+  module _ (most : ℕ) (at_least : 1281 ≤ most) (more : (S : Register) → GoodAndStaffed S → record_of S.records r.id ≡ Some r → length S.holds < length R.holds → WayOut most S r.id) where
     on_by : (q : Command) (holds : List Hold) → next_moves R r.id ≡ q ∷ [] → IsMove R q → subject_of R q ≡ r.id
         → TakenWith R (after R q) r holds → length holds < length R.holds → WayOut (suc most) R r.id
     on_by q holds are move about taken less = moved_one most R r.id q are move
         (stays_after R good r.id q about taken.positions (λ p of_it. ap (λ steps. has_name (points_of (steps_of steps r.id)) p) (sym taken.steps) ∙ of_it))
-        (more (after R q) (reached_after R reached q) taken.recorded (subst (λ (holds : List Hold). length holds < length R.holds) (sym taken.now) less))
+        (more (after R q) (both_after R both q) taken.recorded (subst (λ (holds : List Hold). length holds < length R.holds) (sym taken.now) less))
 
     sign_off : (crew : List ℕ) → has_hold R.holds r.id Crew crew ≡ true → next_moves R r.id ≡ ask r r.holder (kinds.SignOff r.id crew) ∷ [] → WayOut (suc most) R r.id
     sign_off crew has are =
@@ -228,7 +229,7 @@ module _ (R : Register) (reached : IsReached R) (r : Record) (found : record_of 
         subst (λ (S : Register). TakenWith R S (record r { phase = Released }) holds) (sym m.is_after) (all_taken R r.id (places_of R.holds r.id Tested) (record r { phase = Released })) in
         moved_one most R r.id q are (is_move R q edits m (no_position r.id (places_of R.holds r.id Tested) (record r { phase = Released })))
         (stays_after R good r.id q refl taken.positions (λ p of_it. ap (λ steps. has_name (points_of (steps_of steps r.id)) p) (sym taken.steps) ∙ of_it))
-        (wider 1281 most at_least (after R q) r.id (released_out (after R q) (reached_after R reached q) (record r { phase = Released }) taken.recorded refl))
+        (wider 1281 most at_least (after R q) r.id (released_out (after R q) (both_after R both q) (record r { phase = Released }) taken.recorded refl))
 
     given_up_one : WayOut (suc most) R r.id
     given_up_one = by (places_of R.holds r.id Crew) refl (places_of R.holds r.id Ground) refl
@@ -243,11 +244,11 @@ module _ (R : Register) (reached : IsReached R) (r : Record) (found : record_of 
         by [] e [] f = release (none_placed R.holds r.id Crew e) (none_placed R.holds r.id Ground f)
             (moves_are ∙ ap (λ crews. given_up r crews (places_of R.holds r.id Ground)) e ∙ ap (given_up r []) f)
 
-go_out : (n : ℕ) (R : Register) → IsReached R → (r : Record) → record_of R.records r.id ≡ Some r → is_granted r.phase ≡ true → length R.holds ≤ n → WayOut (1282 + n) R r.id
-go_out zero R reached r found fits most = given_up_one R reached r found fits 1281 (omega arith) (λ S again read less. absurd (omega arith))
-go_out (suc n) R reached r found fits most = wider (suc (1282 + n)) (1282 + suc n) (omega arith) R r.id
-    (given_up_one R reached r found fits (1282 + n) (omega arith) (λ S again read less. go_out n S again r read fits (omega arith)))
+go_out : (n : ℕ) (R : Register) → GoodAndStaffed R → (r : Record) → record_of R.records r.id ≡ Some r → is_granted r.phase ≡ true → length R.holds ≤ n → WayOut (1282 + n) R r.id
+go_out zero R both r found fits most = given_up_one R both r found fits 1281 (omega arith) (λ S again read less. absurd (omega arith))
+go_out (suc n) R both r found fits most = wider (suc (1282 + n)) (1282 + suc n) (omega arith) R r.id
+    (given_up_one R both r found fits (1282 + n) (omega arith) (λ S again read less. go_out n S again r read fits (omega arith)))
 
 -- A GRANTED RECORD goes out
-pub granted_out : (R : Register) → IsReached R → (r : Record) → record_of R.records r.id ≡ Some r → is_granted r.phase ≡ true → WayOut (1282 + length R.holds) R r.id
-granted_out R reached r found fits = go_out (length R.holds) R reached r found fits (omega arith)
+pub granted_out : (R : Register) → GoodAndStaffed R → (r : Record) → record_of R.records r.id ≡ Some r → is_granted r.phase ≡ true → WayOut (1282 + length R.holds) R r.id
+granted_out R both r found fits = go_out (length R.holds) R both r found fits (omega arith)

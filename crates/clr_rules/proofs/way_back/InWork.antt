@@ -12,29 +12,33 @@ use Rattle.clr_rules.specs.Changes.{done_edits, step_moved, undone_edits}
 use Rattle.clr_rules.specs.Checks.{hold_hinders, in_hand, is_field, is_operator, no_step, not_a_waiting_close, other_hand, out_of_turn, repeat_differs, wrong_reporter, wrong_state}
 use Rattle.clr_rules.specs.GoodByPhase.{IsGoodByPhase, outlook_of, present_of}
 use Rattle.clr_rules.specs.Prelude.{SetHand, PutRecord, PutStep, Command, Record, StepRow, Id, Register, hand_of, record_of, is_running, is_restoring, same_id, is_active, is_some_step, is_waiting, present_round, present_steps, step_at, steps_in, steps_of, after_edits}
-use Rattle.clr_rules.specs.Run.{IsReached, after}
+use Rattle.clr_rules.specs.Run.{after}
 use Rattle.clr_rules.specs.Steps.{is_close, is_in_turn, is_repeated}
 use Rattle.clr_rules.specs.WayBack.{ask}
 use Rattle.clr_rules.specs.declared.command.Kind.TheVariants as kinds
 use Rattle.clr_rules.proofs.edits.EditReading.{record_of-put}
 use Rattle.clr_rules.proofs.edits.PresentSteps.{IsPresent}
 use Rattle.clr_rules.proofs.edits.PutSteps.{put_step}
-use Rattle.clr_rules.proofs.edits.Runs.{reached_go_on}
-use Rattle.clr_rules.proofs.good.Bounds.{reached_are_bounded}
+use Rattle.clr_rules.proofs.keeps.EveryKind.{commands_keep_good}
+use Rattle.clr_rules.proofs.staffed.EveryKind.{commands_keep_staffed}
+use Rattle.clr_rules.specs.Good.{IsGood}
+use Rattle.clr_rules.specs.Staffed.{IsStaffed}
 use Rattle.clr_rules.proofs.good.GoodToPhases.{to_phases}
 use Rattle.clr_rules.proofs.good.PhaseFacts.{step_facts}
 use Rattle.clr_rules.proofs.good.PutHolds.{kept_there}
 use Rattle.clr_rules.proofs.good.StepsInTurn.{round_rises}
-use Rattle.clr_rules.proofs.keeps.EveryKind.{reached_are_good}
 use Rattle.clr_rules.proofs.keeps.OneRecord.{in_phase_of}
 use Rattle.clr_rules.proofs.lists.RoundSteps.{in_own_round, of_clearance, own_id, present_of_is}
 use Rattle.clr_rules.proofs.way_back.Accepting.{HasEmployee, Made, made, role_passes, step_edits}
 use Rattle.clr_rules.proofs.way_back.Rows.{found_at}
-use Rattle.clr_rules.proofs.way_back.Staying.{after_one}
 
--- after a command a reached register is reached
-pub reached_after : (R : Register) → IsReached R → (q : Command) → IsReached (after R q)
-reached_after R reached q = subst IsReached (after_one R q) (reached_go_on R reached (q ∷ []))
+-- a register that is good and staffed, as it is after each command
+pub record GoodAndStaffed (R : Register) : Type 0 where
+  pub good : IsGood R
+  pub staffed : IsStaffed R
+
+pub both_after : (R : Register) → GoodAndStaffed R → (q : Command) → GoodAndStaffed (after R q)
+both_after R both q = record { good = commands_keep_good R q both.good; staffed = commands_keep_staffed R q both.good both.staffed }
 
 pub same_bytes : (text : List ℕ) → bytes_eq text text ≡ true
 same_bytes text = (bytes_eq-Decides text text).1 refl
@@ -52,9 +56,9 @@ pub record InWork (R : Register) (r : Record) (row : StepRow) : Type 0 where
   pub now : row.round ≡ present_of (steps_of R.steps r.id)
   pub round : present_steps R.steps r.id ≡ steps_in R.steps r.id row.round
 
-pub in_work : (R : Register) → IsReached R → (r : Record) → record_of R.records r.id ≡ Some r → is_running r.phase ≡ true
-    → (row : StepRow) → Contains (steps_of R.steps r.id) row → row.round ≡ present_of (steps_of R.steps r.id) → InWork R r row
-in_work R reached r found runs row among now = record {
+pub in_work : (R : Register) → GoodAndStaffed R → (r : Record) → record_of R.records r.id ≡ Some r → is_running r.phase ≡ true
+    → (row : StepRow) → Contains (steps_of R.steps r.id) row → row.round ≡ present_of (steps_of R.steps r.id) → (row.round ≡ 1) ⊎ (row.round ≡ 2) → InWork R r row
+in_work R both r found runs row among now bounded = record {
   found = found;
   runs = runs;
   among = among;
@@ -66,16 +70,13 @@ in_work R reached r found runs row among now = record {
 }
   where
     good : IsGoodByPhase R
-    good = to_phases R (reached_are_good R reached)
+    good = to_phases R both.good
 
     there : Contains R.steps row
     there = (own_there R.steps r.id row among).0
 
     own : row.id ≡ r.id
     own = (own_there R.steps r.id row among).1
-
-    bounded : (row.round ≡ 1) ⊎ (row.round ≡ 2)
-    bounded = All-contains (λ (row : StepRow). (row.round ≡ 1) ⊎ (row.round ≡ 2)) R.steps row (reached_are_bounded R reached).rounds there
 
     is : row.round ≡ present_round R.steps r.id
     is = now ∙ present_of_is R.steps r.id
@@ -96,13 +97,14 @@ pub is_present : (R : Register) (r : Record) (row : StepRow) → InWork R r row 
 is_present R r row w = record { own = (own_there R.steps r.id row w.among).1; there = (own_there R.steps r.id row w.among).0; now = w.now; round = w.round }
 
 -- a step that is given out is one
-pub active_in_work : (R : Register) → IsReached R → (r : Record) → record_of R.records r.id ≡ Some r → (row : StepRow) → Contains (steps_of R.steps r.id) row
+pub active_in_work : (R : Register) → GoodAndStaffed R → (r : Record) → record_of R.records r.id ≡ Some r → (row : StepRow) → Contains (steps_of R.steps r.id) row
     → is_active row.step.state ≡ true → InWork R r row
-active_in_work R reached r found row among active =
-    let good = to_phases R (reached_are_good R reached) in
+active_in_work R both r found row among active =
+    let good = to_phases R both.good in
     let now = All-contains (λ (row : StepRow). is_active row.step.state ≡ true → (is_running r.phase ≡ true) × (row.round ≡ present_of (steps_of R.steps r.id))) (steps_of R.steps r.id) row
     (step_facts R.net r.phase r.work (outlook_of R r.id) (in_phase_of R r.id r good found)).active among active in
-    in_work R reached r found now.0 row among now.1
+    in_work R both r found now.0 row among now.1
+    (All-contains (λ (row : StepRow). is_active row.step.state ≡ true → (row.round ≡ 1) ⊎ (row.round ≡ 2)) R.steps row both.staffed.rounds (own_there R.steps r.id row among).0 active)
 
 -- ---- what a command leaves that puts one step, beside points
 

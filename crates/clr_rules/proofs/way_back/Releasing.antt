@@ -17,26 +17,26 @@ use Rattle.clr_rules.specs.Prelude.{PutRecord, Command, HeldOpen, Phase, Release
 use Rattle.clr_rules.specs.Prelude.{record_of, points_of, steps_in, steps_of, tasks_of, has_hold, position_of}
 use Rattle.clr_rules.specs.Records.{is_released}
 use Rattle.clr_rules.specs.Refusals.{order_refusal}
-use Rattle.clr_rules.specs.Run.{IsReached, after}
+use Rattle.clr_rules.specs.Run.{after}
 use Rattle.clr_rules.specs.Staffed.{IsStaffed}
 use Rattle.clr_rules.specs.Steps.{is_of_round}
 use Rattle.clr_rules.specs.WayBack.{ask, moves_in, moves_of, next_moves, one_of_role, restored, undoing_steps}
 use Rattle.clr_rules.specs.laws.WayBack.{is_point_of, sets_position}
 use Rattle.clr_rules.specs.declared.command.Kind.TheVariants as kinds
+use Rattle.clr_rules.proofs.lists.OpenPhases.{open_where}
+use Rattle.clr_rules.specs.Good.{AreAtPoints}
 use Rattle.clr_rules.proofs.edits.EditReading.{record_of-put}
 use Rattle.clr_rules.proofs.edits.NewRounds.{All-own, round_put, with_round, new_tasks, new_wait, round_is}
 use Rattle.clr_rules.proofs.good.GoodToPhases.{to_phases}
 use Rattle.clr_rules.proofs.good.PhaseFacts.{hold_facts}
 use Rattle.clr_rules.proofs.good.PutHolds.{kept_there}
-use Rattle.clr_rules.proofs.keeps.EveryKind.{reached_are_good}
 use Rattle.clr_rules.proofs.keeps.OneRecord.{in_phase_of}
 use Rattle.clr_rules.proofs.keeps.Restore.{each_held, held_named, ready, released}
 use Rattle.clr_rules.proofs.lists.NamedRows.{has_name-row, row_named}
 use Rattle.clr_rules.proofs.lists.RoundSteps.{All-from_each, of_round_is, own_id}
-use Rattle.clr_rules.proofs.staffed.EveryKind.{reached_are_staffed}
 use Rattle.clr_rules.proofs.staffed.Puts.{some_there}
 use Rattle.clr_rules.proofs.way_back.Accepting.{HasEmployee, Made, made, one_there, record_edits, role_passes, is_move}
-use Rattle.clr_rules.proofs.way_back.InWork.{reached_after}
+use Rattle.clr_rules.proofs.way_back.InWork.{both_after, GoodAndStaffed}
 use Rattle.std.specs.List.{list_any}
 use Rattle.std.proofs.lemmas.List.{length-map}
 use Rattle.clr_rules.specs.Good.{steps_left_of}
@@ -70,15 +70,18 @@ step_at_point rows p there =
     let (row, within, is) = mapped_from (λ (row : StepRow). task row.step) rows t among in
     (row, within, named ∙ sym (ap (λ (t : Task). t.point) is))
 
-module _ (R : Register) (reached : IsReached R) (r : Record) (found : record_of R.records r.id ≡ Some r) (fits : is_released r.phase ≡ true) where
+module _ (R : Register) (both : GoodAndStaffed R) (r : Record) (found : record_of R.records r.id ≡ Some r) (fits : is_released r.phase ≡ true) where
   good : IsGood R
-  good = reached_are_good R reached
+  good = GoodAndStaffed.good both
 
   by_phase : IsGoodByPhase R
   by_phase = to_phases R good
 
   staffed : IsStaffed R
-  staffed = reached_are_staffed R reached
+  staffed = GoodAndStaffed.staffed both
+
+  at_network : AreAtPoints R.net (steps_of R.steps r.id)
+  at_network = good.besides.points_known.steps r.id r found (open_where is_released refl r.phase fits)
 
   abbrev points : List (List ℕ)
   points = points_of (steps_in R.steps r.id 1)
@@ -143,8 +146,8 @@ module _ (R : Register) (reached : IsReached R) (r : Record) (found : record_of 
       let (row, among, named) = step_at_point (steps_of (Register.steps S) r.id) p now in
       ap (is_point_of R r.id) named
       ∙ All-contains (λ (row : StepRow). is_point_of R r.id row.step.point ≡ true) (steps_of (Register.steps S) r.id) row
-      (All-own R by_phase next 2 tasks (ready R r r.last tasks by_phase in_released.0 in_released.2 restores) (λ row. is_point_of R r.id row.step.point ≡ true)
-      (λ m t there. of_first t.point (each_held R r r.last tasks by_phase in_released.0 in_released.2 restores t there).1)
+      (All-own R by_phase next 2 tasks (ready R r r.last tasks by_phase in_released.0 in_released.2 restores at_network) (λ row. is_point_of R r.id row.step.point ≡ true)
+      (λ m t there. of_first t.point (each_held R r r.last tasks by_phase in_released.0 in_released.2 restores at_network t there).1)
       (All-from_each (λ (row : StepRow). is_point_of R r.id row.step.point ≡ true) (steps_of R.steps r.id) (λ row there. point_of_own row there))) among
     where
       point_of_own : (row : StepRow) → Contains (steps_of R.steps r.id) row → is_point_of R r.id row.step.point ≡ true
@@ -168,7 +171,7 @@ module _ (R : Register) (reached : IsReached R) (r : Record) (found : record_of 
       let fits_it = restores.steps_fit in
       let second : steps_in (Register.steps (with_round R next 2 tasks)) r.id 2 ≡ new_steps r.id 2 1 tasks =
       sym (of_round_is (Register.steps (with_round R next 2 tasks)) r.id 2)
-      ∙ round_is R by_phase next 2 tasks (ready R r r.last tasks by_phase in_released.0 in_released.2 restores) in
+      ∙ round_is R by_phase next 2 tasks (ready R r r.last tasks by_phase in_released.0 in_released.2 restores at_network) in
       let count : left_count (after R restoring) r.id ≡ length tasks = ap (λ (S : Register). left_count S r.id) after_it
       ∙ ap (λ rows. length (steps_left_of rows)) second ∙ ap length (left_waiting (new_steps r.id 2 1 tasks) (new_wait r.id 2 1 tasks))
       ∙ sym (length-map (new_steps r.id 2 1 tasks) (λ (row : StepRow). task row.step)) ∙ ap length (new_tasks r.id 2 1 tasks) in
@@ -180,4 +183,4 @@ module _ (R : Register) (reached : IsReached R) (r : Record) (found : record_of 
       (is_move R restoring (PutRecord next ∷ put_steps (new_steps r.id 2 1 tasks)) restore_made (no_position (new_steps r.id 2 1 tasks)))
       (stays_after R good r.id restoring refl (λ p. ap (λ (S : Register). position_of S.states p) after_it) points_stay)
       (wider (5 * left_count (after R restoring) r.id) 1280 (let most = left_most in omega arith) (after R restoring) r.id
-      (restoring_go_out (after R restoring) (reached_after R reached restoring) next recorded refl))
+      (restoring_go_out (after R restoring) (both_after R both restoring) next recorded refl))

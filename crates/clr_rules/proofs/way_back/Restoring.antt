@@ -21,7 +21,6 @@ use Rattle.clr_rules.specs.Prelude.{HeldOpen, Phase, Restoring, Record, StepRow,
 use Rattle.clr_rules.specs.Prelude.{record_of, is_running, is_restoring, is_some_step, step_key, step_key_cmp, all_done, is_active, is_done, is_waiting, present_steps, steps_in, steps_of, tasks_of, has_hold}
 use Rattle.clr_rules.specs.Holds.{held_at}
 use Rattle.clr_rules.specs.Records.{ends_with_steps}
-use Rattle.clr_rules.specs.Run.{IsReached}
 use Rattle.clr_rules.specs.Staffed.{IsStaffed, has_some_role}
 use Rattle.clr_rules.specs.Steps.{is_close, is_in_turn, is_of_round}
 use Rattle.clr_rules.specs.WayBack.{moves_in, moves_of, next_moves, one_of_role, stepped}
@@ -29,14 +28,12 @@ use Rattle.clr_rules.specs.laws.WayBack.{is_point_of}
 use Rattle.clr_rules.proofs.good.PhaseFacts.{second_present}
 use Rattle.clr_rules.proofs.good.PutHolds.{found_there, kept_there}
 use Rattle.clr_rules.proofs.good.StepsInTurn.{Rises, round_rises}
-use Rattle.clr_rules.proofs.keeps.EveryKind.{reached_are_good}
 use Rattle.clr_rules.proofs.lists.NamedRows.{Contains-filter, has_name-row}
 use Rattle.clr_rules.proofs.lists.RoundSteps.{among_own, of_round_is, of_the_round}
 use Rattle.clr_rules.proofs.lists.StepSplits.{left_after_done}
-use Rattle.clr_rules.proofs.staffed.EveryKind.{reached_are_staffed}
 use Rattle.clr_rules.proofs.staffed.Puts.{some_there}
 use Rattle.clr_rules.proofs.way_back.Accepting.{HasEmployee, one_there}
-use Rattle.clr_rules.proofs.way_back.InWork.{InWork, in_work}
+use Rattle.clr_rules.proofs.way_back.InWork.{InWork, in_work, GoodAndStaffed}
 use Rattle.clr_rules.proofs.way_back.Rows.{SplitAt, done_before_first, first_after_done, second_by, split_of, turn_after_done}
 
 -- the steps that are left of the second round, and the first of them
@@ -131,13 +128,13 @@ waits_by Waiting a d = refl
 waits_by Done a d = absurd (false≢true (sym d))
 waits_by _ a d = absurd (false≢true (sym a))
 
-module _ (R : Register) (reached : IsReached R) (r : Record) (found : record_of R.records r.id ≡ Some r) (restoring : is_restoring r.phase ≡ true) (row : StepRow)
+module _ (R : Register) (both : GoodAndStaffed R) (r : Record) (found : record_of R.records r.id ≡ Some r) (restoring : is_restoring r.phase ≡ true) (row : StepRow)
     (first : IsFirstLeft R r.id row) where
   good : IsGood R
-  good = reached_are_good R reached
+  good = GoodAndStaffed.good both
 
   staffed : IsStaffed R
-  staffed = reached_are_staffed R reached
+  staffed = GoodAndStaffed.staffed both
 
   in_second : Contains (steps_in R.steps r.id 2) row
   in_second = found_there (λ (row : StepRow). not (is_done row.step.state)) (steps_in R.steps r.id 2) row first
@@ -164,8 +161,8 @@ module _ (R : Register) (reached : IsReached R) (r : Record) (found : record_of 
   second = good.besides.restoring_rounds r.id r found restoring
 
   pub w : InWork R r row
-  w = in_work R reached r found (restoring_runs r.phase restoring) row among
-      (own_round.1 ∙ sym (second_present (steps_of R.steps r.id) (ap is_some_step (of_round_is R.steps r.id 2) ∙ second)))
+  w = in_work R both r found (restoring_runs r.phase restoring) row among
+      (own_round.1 ∙ sym (second_present (steps_of R.steps r.id) (ap is_some_step (of_round_is R.steps r.id 2) ∙ second))) (inr own_round.1)
 
   pub turn : is_in_turn (present_steps R.steps r.id) row.ordinal ≡ true
   turn = ap (λ rows. is_in_turn rows row.ordinal) (w.round ∙ ap (steps_in R.steps r.id) own_round.1)

@@ -1,12 +1,13 @@
 -- How agreement near a clearance goes on from command to command, as laws.
-use Rattle.std.specs.Prelude.{◌≡◌, ℕ, Bool, true, false, List, [], ◌∷◌, All}
+use Rattle.std.specs.Prelude.{◌≡◌, ℕ, Bool, true, false, List, [], ◌∷◌, All, Some}
 use Rattle.clr_rules.specs.Agreement.{Agree}
 use Rattle.clr_rules.specs.laws.Agreement.{is_about, is_new_of}
 use Rattle.clr_rules.specs.Answer.{Answer, answer}
 use Rattle.clr_rules.specs.Command.{is_jumper}
 use Rattle.clr_rules.specs.laws.Frame.{HandsMatchToReport}
 use Rattle.clr_rules.specs.Good.{ListsAreInOrder, is_operators}
-use Rattle.clr_rules.specs.Prelude.{Command, Id, Register, record_of}
+use Rattle.clr_rules.specs.Prelude.{Command, Record, Id, Register, record_of}
+use Rattle.clr_rules.specs.Records.{is_switch_order}
 use Rattle.clr_rules.specs.Isolation.{AreAlike, PointsAreKnownToJumper}
 use Rattle.clr_rules.specs.Near.{near_of}
 use Rattle.clr_rules.specs.laws.Near.{is_order}
@@ -34,13 +35,19 @@ SameAnswersKeepAgreement =
     → ListsAreInOrder R → ListsAreInOrder S
     → answer R q ≡ answer S q → Agree c inside R S → Agree c inside (after R q) (after S q)
 
+-- the record of a clearance is no switch order, if there is one. So it is of each open record whose
+-- requester is no operator; a closed one may be older than its requester's role
+abbrev pub IsNoSwitchOrder : Register → Id → Type 0
+IsNoSwitchOrder R c = (r : Record) → record_of R.records c ≡ Some r → is_switch_order r ≡ false
+
 -- registers that agree near a clearance on a set that covers its fence are one to its own commands:
 -- these look at the same in both. An order does so while the clearance is Requested, and a request
--- where it asks for the same row in both
+-- where it asks for the same row in both. A switch order has the points of its steps near, wherever
+-- they are
 abbrev pub OwnCommandsLookAtTheSame : Type 0
 OwnCommandsLookAtTheSame =
     (c : Id) (inside : List ℕ → Bool) (R S : Register) (q : Command)
-    → AreAlike c inside R S (q ∷ [])
+    → AreAlike c inside R S (q ∷ []) → IsNoSwitchOrder R c
     → is_own_command c q ≡ true → asked_row R q.kind ≡ asked_row S q.kind
     → (is_order q.kind ≡ true → found_phase_requested (record_of R.records c) ≡ true)
     → near_of R q ≡ near_of S q

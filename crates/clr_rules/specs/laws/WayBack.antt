@@ -6,12 +6,13 @@ use Rattle.clr_order.specs.declared.step.StepState.TheVariants.{Waiting}
 use Rattle.clr_rules.specs.Answer.{Answer, answer}
 use Rattle.clr_rules.specs.Changes.{step_moved}
 use Rattle.clr_rules.specs.Checks.{is_field}
+use Rattle.clr_rules.specs.Good.{IsGood}
 use Rattle.clr_rules.specs.Prelude.{Edit, SetPosition, Command, HoldKind, Record, Reply, StepRow, Id}
 use Rattle.clr_rules.specs.Prelude.{same_id, Register, position_of, record_of, is_active, points_of}
 use Rattle.clr_rules.specs.Prelude.{steps_of, has_hold}
 use Rattle.clr_rules.specs.Records.{is_closed}
-use Rattle.clr_rules.specs.Run.{IsReached, after, after_all}
-use Rattle.clr_rules.specs.Staffed.{has_some_role}
+use Rattle.clr_rules.specs.Run.{after, after_all}
+use Rattle.clr_rules.specs.Staffed.{IsStaffed, has_some_role}
 use Rattle.clr_rules.specs.Steps.{some_active}
 use Rattle.clr_rules.specs.WayBack.{way_back}
 use Rattle.clr_rules.specs.declared.reply.Reply.TheVariants.{Accepted}
@@ -71,10 +72,10 @@ pub record ClosesAlone (R : Register) (c : Id) (commands : List Command) : Type 
   pub others : (d : Id) → same_id d c ≡ false
       → StaysBut (is_point_of R c) R (after_all R commands) d
 
--- THERE IS A WAY BACK from every register that is reached, for every record: it closes the record
+-- THERE IS A WAY BACK from every good and staffed register, for every record: it closes the record
 -- alone, where the staff has a field employee, or no step of the record is given out
 abbrev pub ThereIsAWayBack : Type 0
 ThereIsAWayBack =
-    (R : Register) → IsReached R → (c : Id) (r : Record) → record_of R.records c ≡ Some r
+    (R : Register) → IsGood R → IsStaffed R → (c : Id) (r : Record) → record_of R.records c ≡ Some r
     → (has_some_role R.staff is_field ≡ true) ⊎ (some_active (steps_of R.steps c) ≡ false)
     → ClosesAlone R c (way_back R c)
