@@ -1,6 +1,7 @@
 pub mod Agreement
 pub mod ClosedOwn
 pub mod ClosedSteps
+pub mod GivenUp
 pub mod Headline
 pub mod LookAlike
 pub mod OthersEdits

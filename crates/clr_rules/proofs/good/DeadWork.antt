@@ -1,9 +1,9 @@
 -- What work on a line rests on, from the parts of a good register.
-use Rattle.std.proofs.Common.{◌≡◌, ◌∙◌, ℕ, true, false, IsTrue, Option, Some, None, List, Contains, refl, ap}
-use Rattle.clr_rules.proofs.Common.{both_ways, false≢true, All-contains, Grid, section_names, has_name, PointRow, Opened, member-row_of, clearance_fence, work_fence, HeldOpen, Ground, Crew, Phase}
-use Rattle.clr_rules.proofs.Common.{Requested, Closed, Record, Id, id_cmp, id_cmp_total, Register, position_of, record_key, record_of, is_granted, points_of, steps_in, has_hold, is_fenced}
+use Rattle.std.proofs.Common.{◌≡◌, ◌∙◌, ℕ, true, false, Option, Some, None, List, Contains, refl, ap}
+use Rattle.clr_rules.proofs.Common.{both_ways, false≢true, Grid, section_names, has_name, PointRow, Opened, clearance_fence, work_fence, HeldOpen, Ground, Crew, Phase}
+use Rattle.clr_rules.proofs.Common.{Requested, Closed, Record, Id, Register, position_of, record_of, is_granted, points_of, steps_in, has_hold, is_fenced}
 use Rattle.clr_net.proofs.Walks.{fence_is_closed}
-use Rattle.clr_rules.specs.Good.{IsFullyHeld, IsGoodAsSaid, is_known_work, works_on}
+use Rattle.clr_rules.specs.Good.{IsFullyHeld, IsGoodAsSaid, works_on}
 use Rattle.clr_rules.specs.Live.{IsLive, is_live}
 use Rattle.clr_rules.specs.laws.Work.{IsSafeWork}
 use Rattle.clr_rules.proofs.lists.OpenPhases.{open_where}

@@ -1,8 +1,8 @@
 -- In a network that leaves the fences of all clearances as they were, and their orders sound, each clearance stays in its place.
 use Rattle.std.proofs.Common.{◌≡◌, ◌∙◌, ℕ, Bool, true, false, ◌&&◌, List, Option, Some, None, IsTrue, refl, sym, ap, subst}
 use Rattle.clr_rules.proofs.lists.OpenPhases.{open_where}
-use Rattle.clr_rules.proofs.Common.{and_parts, All-contains, FenceRows, in_fence, Grid, section_names, has_name, PointRow, SectionRow, member-row_of, is_known_work, Phase, Requested, Ordered, Granted}
-use Rattle.clr_rules.proofs.Common.{Released, Restoring, Switching, Closed, Record, StepRow, Id, id_cmp, id_cmp_total, Register, record_key, record_of, is_standing, points_of, tasks_of, steps_in}
+use Rattle.clr_rules.proofs.Common.{and_parts, FenceRows, in_fence, Grid, section_names, has_name, PointRow, SectionRow, is_known_work, Phase, Requested, Ordered, Granted}
+use Rattle.clr_rules.proofs.Common.{Released, Restoring, Switching, Closed, Record, StepRow, Id, Register, record_of, is_standing, points_of, tasks_of, steps_in}
 use Rattle.clr_rules.proofs.Common.{steps_of, first_of_each, is_fenced, of_round_is, record_id}
 use Rattle.clr_net.specs.Additions.{fits_point, fits_section, with_point, with_section}
 use Rattle.clr_net.proofs.Grown.{additions_keep_fences, point_fits}

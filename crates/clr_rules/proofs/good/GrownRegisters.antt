@@ -1,7 +1,7 @@
 -- A good register with a section more is good, and so is one with a point more that crosses no fence, is open and in nobody's hand.
 use Rattle.std.proofs.Common.{◌≡◌, ◌∙◌, ℕ, Bool, true, false, cond, List, map, Option, Some, None, IsTrue, refl, sym, ap, subst, is_some, option_map, is_eq}
 use Rattle.clr_rules.proofs.Common.{false≢true, or_right, nat_list_cmp_total, All-weaker, Grid, point_names, section_names, unplaced, name_cmp, same_name, has_name, PointRow, Opened, SectionRow}
-use Rattle.clr_rules.proofs.Common.{in_key_order-with_row, equal, same_text, row_of-with, is_known_work, IsGoodByPhase, IsInPlace, outlook_of, AddSection, AddPoint, PointState, Record, StepRow, Id}
+use Rattle.clr_rules.proofs.Common.{in_key_order-with_row, equal, same_text, row_of-with, is_known_work, IsGoodByPhase, IsInPlace, outlook_of, AddSection, AddPoint, PointState, StepRow, Id}
 use Rattle.clr_rules.proofs.Common.{Register, has_in_hand, position_of, state_key, state_of, after_edit, first_state, hand_in, is_hand, steps_of}
 use Rattle.clr_net.specs.Additions.{fits_point, fits_section, with_section}
 use Rattle.clr_net.proofs.Grown.{point_fits, points_are_added, sections_are_added}

@@ -1,6 +1,6 @@
 -- The opening register is good.
 use Rattle.std.proofs.Common.{◌≡◌, ◌∙◌, ℕ, Bool, true, false, cond, IsTrue, None, Some, List, [], ◌∷◌, map, refl, sym, ap, is_eq, is_lt, Ordering, Less}
-use Rattle.clr_rules.proofs.Common.{list_all, AllByRecursion, IsStrictlySortedBy, false≢true, length-map, none-some, name_cmp, has_name, PointRow, StaffRow, in_key_order, row_of, Hold, HoldKind}
+use Rattle.clr_rules.proofs.Common.{list_all, AllByRecursion, IsStrictlySortedBy, false≢true, length-map, none-some, name_cmp, PointRow, StaffRow, in_key_order, row_of, Hold, HoldKind}
 use Rattle.clr_rules.proofs.Common.{Record, StepRow, Id, has_in_hand, state_key, state_of, record_of, is_waiting, steps_in, steps_of, has_hold, first_state, opening, unplaced_net, hand_in, is_hand}
 use Rattle.clr_rules.proofs.Common.{is_in_turn}
 use Rattle.std.proofs.lemmas.List.Elements.{All-map, All-nil}
@@ -8,7 +8,7 @@ use Rattle.std.proofs.lemmas.Map.Keys.{sorted_head, sorted_tail}
 use Rattle.clr_net.specs.Grid.{Grid, IsNetwork, has_ends, has_one_section, point_names, section_names, unplaced}
 use Rattle.clr_net.proofs.ListFacts.{map-map}
 use Rattle.clr_staff.specs.Staff.{IsStaff}
-use Rattle.clr_rules.specs.Good.{IsGood, ListsAreInOrder, has_record, is_active_at, is_known_work}
+use Rattle.clr_rules.specs.Good.{IsGood, ListsAreInOrder, has_record, is_active_at}
 use Rattle.clr_rules.proofs.lists.StateFacts.{state_of-first, state_of-none}
 
 module _ {Key Row : Type 0} (compare : Key → Key → Ordering) (key_of : Row → Key) where

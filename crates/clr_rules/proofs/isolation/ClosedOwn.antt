@@ -1,8 +1,8 @@
 -- Registers that agree near a closed clearance answer its own commands alike: each is refused by what they have of it, and a show shows that alone.
 use Rattle.std.proofs.Common.{◌≡◌, ◌∙◌, ◌||◌, ◌&&◌, ℕ, Bool, true, false, List, [], ◌∷◌, ◌++◌, Option, Some, None, refl, sym, ap, subst, filter, map}
-use Rattle.clr_rules.proofs.Common.{both_ways, false≢true, has_name, touches, answer, first_refusal, known_of, answer_by_checks, checks, is_near_hold, is_order, SameOwn, named_clearance, Agree}
-use Rattle.clr_rules.proofs.Common.{Crew, Grid, Hold, HoldKind, Phase, PointRow, PointState, Record, Refusal, StepRow, Task, same_Some, point_names, places_of, present_steps, record_id, after_edits}
-use Rattle.clr_rules.specs.Answer.{Answer, answer_with, card_of, fence_for, reply_of, requester_for, view_of}
+use Rattle.clr_rules.proofs.Common.{both_ways, has_name, touches, answer, first_refusal, known_of, answer_by_checks, checks, is_near_hold, is_order, SameOwn, named_clearance, Agree}
+use Rattle.clr_rules.proofs.Common.{Crew, Grid, Hold, Phase, PointState, Record, Refusal, Task, same_Some, point_names, places_of, present_steps, record_id, after_edits}
+use Rattle.clr_rules.specs.Answer.{answer_with, card_of, fence_for, reply_of, requester_for, view_of}
 use Rattle.clr_rules.specs.Checks.{hold_hinders, in_hand, no_step, out_of_turn, unsound_order, wrong_state}
 use Rattle.clr_rules.specs.Commands.{Known, by_operator}
 use Rattle.clr_rules.specs.Fences.{clearance_fence, found_fence, order_fence, touching_names}

@@ -1,15 +1,15 @@
 -- Commands that are about none of some closed clearances never look at their steps.
-use Rattle.std.proofs.Common.{◌≡◌, ◌∙◌, ℕ, ◌+◌, Bool, true, false, not, List, [], ◌∷◌, Option, Some, None, Contains, refl, sym, ap, subst, find, filter, map, option_map, if◌then◌else◌}
-use Rattle.clr_rules.proofs.Common.{AllByRecursion, Answer, Contains-here, Contains-later, Grid, IsGood, Known, ListsAreInOrder, SameOwn, and_parts, answer, answer_by_checks, answer_with, both_ways, checks, edits_of}
-use Rattle.clr_rules.proofs.Common.{false≢true, false_from_ne_true, filter-filter_wider, filter-with_inside, first_refusal, hindering_hold, in_key_order-filter, is_close, is_fenced, known_of, list_all}
+use Rattle.std.proofs.Common.{◌≡◌, ◌∙◌, ℕ, ◌+◌, Bool, true, false, not, List, [], ◌∷◌, Option, Some, None, Contains, refl, sym, ap, find, filter, map, option_map, if◌then◌else◌}
+use Rattle.clr_rules.proofs.Common.{AllByRecursion, Answer, Contains-here, Contains-later, IsGood, Known, ListsAreInOrder, SameOwn, and_parts, answer, answer_by_checks, answer_with, both_ways, checks, edits_of}
+use Rattle.clr_rules.proofs.Common.{false≢true, false_from_ne_true, filter-filter_wider, filter-with_inside, first_refusal, hindering_hold, in_key_order-filter, is_close, is_fenced, known_of}
 use Rattle.clr_rules.proofs.Common.{member-row_of, named_clearance, none-some, not-true, not_from_false, one_id, own_id, record_id, row_of-member, same_Some, Task}
-use Rattle.clr_rules.specs.Answer.{card_of, crossed_for, fence_for, named_fence, reply_clearance, reply_of, requester_for, view_of}
+use Rattle.clr_rules.specs.Answer.{crossed_for, fence_for, named_fence, reply_clearance, reply_of, requester_for, view_of}
 use Rattle.clr_rules.specs.Checks.{held_by, is_operator, other_hand}
-use Rattle.clr_rules.specs.Fences.{clearance_fence, crossed_by, crossed_record, crosses, found_fence, record_fence, work_fence}
+use Rattle.clr_rules.specs.Fences.{clearance_fence, crossed_record, crosses, found_fence, record_fence, work_fence}
 use Rattle.clr_rules.specs.Footprint.{all_spare, spares}
 use Rattle.clr_rules.specs.GoodByPhase.{Outlook}
-use Rattle.clr_rules.specs.Prelude.{Edit, PutRecord, PutStep, Command, Kind, Phase, Closed, Record, Refusal, StepRow, Id, same_id, id_cmp, id_cmp_total, Register, greatest_number, hand_of, record_key, record_of}
-use Rattle.clr_rules.specs.Prelude.{is_running, is_waiting, points_of, step_key, step_key_cmp, step_key_cmp_total, steps_in, steps_of, after_edit, after_edits, Request, Order, Instruct, Switch, Show, Jumper, Shown}
+use Rattle.clr_rules.specs.Prelude.{Edit, PutStep, Command, Kind, Phase, Closed, Record, Refusal, StepRow, Id, same_id, id_cmp, id_cmp_total, Register, greatest_number, hand_of, record_key, record_of}
+use Rattle.clr_rules.specs.Prelude.{is_running, is_waiting, points_of, step_key, step_key_cmp, step_key_cmp_total, steps_of, after_edit, after_edits, Request, Order, Instruct, Switch, Show, Jumper, Shown}
 use Rattle.clr_rules.specs.Records.{is_closed}
 use Rattle.clr_rules.specs.Run.{after, after_all, replies}
 use Rattle.clr_rules.specs.laws.ClosedSteps.{AllNameNoneOf, AreClosed, AreOneBut, ClosedStepsBindNoRun, ClosedStepsBindNothing, NamesNoneOf, without_steps_of}
@@ -35,15 +35,15 @@ find-alike p q (x ∷ xs) alike =
 
 module _ (gone : Id → Bool) where
   -- the steps of any other clearance stay
-  steps_stay : (steps : List StepRow) (c : Id) → gone c ≡ false → steps_of steps c ≡ steps_of (filter (λ row. not (gone row.id)) steps) c
+  pub steps_stay : (steps : List StepRow) (c : Id) → gone c ≡ false → steps_of steps c ≡ steps_of (filter (λ row. not (gone row.id)) steps) c
   unfolding steps_of
   steps_stay steps c kept = sym (filter-filter_wider (λ (row : StepRow). same_id c row.id) (λ row. not (gone row.id))
       (λ row own. ap (λ (d : Id). not (gone d)) (sym (one_id c row.id own)) ∙ ap not kept) steps)
 
-  own_same : (R : Register) (c : Id) → gone c ≡ false → SameOwn c R (without_steps_of gone R)
+  pub own_same : (R : Register) (c : Id) → gone c ≡ false → SameOwn c R (without_steps_of gone R)
   own_same R c kept = record { staff = refl; own_record = refl; own_steps = steps_stay R.steps c kept; own_holds = refl }
 
-  order_stays : (R : Register) → ListsAreInOrder R → ListsAreInOrder (without_steps_of gone R)
+  pub order_stays : (R : Register) → ListsAreInOrder R → ListsAreInOrder (without_steps_of gone R)
   order_stays R ordered = record {
     states = ordered.states;
     records = ordered.records;

@@ -2,7 +2,7 @@
 use Rattle.std.proofs.Common.{◌≡◌, ◌∙◌, inl, inr, ⊎_elim, ℕ, Bool, true, false, ◌&&◌, ◌||◌, List, [], ◌∷◌, Option, Some, None, refl, sym, ap, subst, filter, find, Contains, option_to_list, Less}
 use Rattle.std.proofs.Common.{Equal}
 use Rattle.clr_rules.proofs.Common.{IsStrictlySortedBy, and_parts, false≢true, false_from_ne_true, nat_list_cmp_total, tied_itself, All-contains, same_Some, point_names, section_names, name_cmp}
-use Rattle.clr_rules.proofs.Common.{same_name, has_name, PointRow, SectionRow, one_name, StaffRow, filter-filter_wider, named_clearance, is_near_hold, is_order, Request, Switch, one_id, own_id}
+use Rattle.clr_rules.proofs.Common.{same_name, has_name, PointRow, SectionRow, one_name, filter-filter_wider, named_clearance, is_near_hold, is_order, Request, Switch, one_id, own_id}
 use Rattle.std.proofs.lemmas.Map.Keys.{sorted_tail}
 use Rattle.std.proofs.lemmas.Map.Views.{All-after_first}
 use Rattle.clr_rules.specs.Agreement.{Agree, extent_near, part_near}

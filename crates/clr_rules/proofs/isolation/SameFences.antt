@@ -1,7 +1,7 @@
 -- Registers that agree near a clearance have the same record, steps and fence of it.
-use Rattle.std.proofs.Common.{◌≡◌, ◌∙◌, ⊎_elim, ℕ, Bool, true, false, List, map, Option, Some, None, refl, sym, ap, subst, IsTrue, filter}
-use Rattle.clr_rules.proofs.Common.{and_parts, or_cases, or_left, or_right, All-contains, in_fence, touches, Grid, section_names, unplaced, has_name, PointRow, SectionRow, equal, filter-filter_wider}
-use Rattle.clr_rules.proofs.Common.{list_all-contains, member-row_of, IsGoodAsSaid, is_known_work, Record, StepRow, Id, id_cmp, id_cmp_total, same_id, Register, record_key, record_of, points_of}
+use Rattle.std.proofs.Common.{◌≡◌, ◌∙◌, ⊎_elim, ℕ, Bool, true, false, List, map, Option, Some, None, refl, sym, ap, subst, filter}
+use Rattle.clr_rules.proofs.Common.{and_parts, or_cases, or_left, or_right, in_fence, touches, Grid, section_names, unplaced, has_name, PointRow, SectionRow, equal, filter-filter_wider}
+use Rattle.clr_rules.proofs.Common.{list_all-contains, IsGoodAsSaid, is_known_work, Record, StepRow, Id, id_cmp, id_cmp_total, same_id, Register, record_key, record_of, points_of}
 use Rattle.clr_rules.proofs.Common.{steps_in, is_fenced, is_open, is_of_round, own_id, record_id}
 use Rattle.clr_net.specs.Laws.{SameRowsAt}
 use Rattle.clr_net.proofs.Locality.{fences_are_local}

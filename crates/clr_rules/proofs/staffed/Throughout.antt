@@ -1,8 +1,8 @@
 -- What commands alone keep of closed records too: known work sections, steps at known points, switch orders of operators, and holders in their roles.
-use Rattle.std.proofs.Common.{◌≡◌, ◌∙◌, ℕ, Bool, true, false, IsTrue, List, [], ◌∷◌, Option, Some, None, All, Contains, refl, sym, ap, subst, ⊎_elim}
+use Rattle.std.proofs.Common.{◌≡◌, ◌∙◌, ℕ, Bool, true, false, IsTrue, List, [], ◌∷◌, Option, Some, None, Contains, refl, sym, ap, subst, ⊎_elim}
 use Rattle.clr_rules.proofs.Common.{All-contains, All-from_each, All-nil, All-weaker, AreAtPoints, Answer, Grid, IsGood, Kind, SectionRow, PointRow, StaffRow, Task, Tested, answer_by_checks, checks}
-use Rattle.clr_rules.proofs.Common.{edits_of, false≢true, has_name, has_name-row, is_known_work, is_open, is_operators, is_switch_order, kept_there, known_of, member-row_of, new_jumper, new_steps, one_id}
-use Rattle.clr_rules.proofs.Common.{opening, own_id, point_names, put_steps, record_id, refusal_of, section_names}
+use Rattle.clr_rules.proofs.Common.{edits_of, has_name, has_name-row, is_known_work, is_open, is_operators, is_switch_order, kept_there, known_of, member-row_of, new_jumper, new_steps, one_id}
+use Rattle.clr_rules.proofs.Common.{opening, point_names, put_steps, record_id, refusal_of, section_names}
 use Rattle.clr_rules.specs.Changes.{new_record}
 use Rattle.clr_rules.specs.Checks.{employee, has_role, is_charge, is_operator}
 use Rattle.clr_rules.specs.Commands.{Known}
@@ -10,7 +10,7 @@ use Rattle.clr_rules.specs.Good.{IsGoodThroughout}
 use Rattle.clr_rules.specs.Prelude.{Edit, PutRecord, Command, Ordered, Restoring, Switching, Record, Refusal, StepRow, Id, same_id, id_cmp, id_cmp_total, Register, record_key, record_of, UnknownSection}
 use Rattle.clr_rules.specs.Prelude.{present_steps, step_at, steps_of, places_of, after_edits}
 use Rattle.clr_rules.specs.Run.{IsReached, after, after_all}
-use Rattle.clr_rules.specs.Staffed.{IsStaffed, IsStaffedThroughout, fits_holder}
+use Rattle.clr_rules.specs.Staffed.{IsStaffedThroughout, fits_holder}
 use Rattle.clr_rules.specs.laws.Runs.{HasGrown}
 use Rattle.clr_rules.specs.declared.command.Kind.TheVariants as kinds
 use Rattle.clr_rules.proofs.edits.Additions.{network_grows}
@@ -18,9 +18,8 @@ use Rattle.clr_rules.proofs.edits.EditedLists.{edited_all-staff}
 use Rattle.clr_rules.proofs.edits.NewRounds.{others_stay, put_all, round_put, with_round}
 use Rattle.clr_rules.proofs.edits.Passing.{Pass, all_pass, not_refused_true}
 use Rattle.clr_rules.proofs.edits.PutRecords.{put_read}
-use Rattle.clr_rules.proofs.edits.PutRows.{AllPutSuch, AnyStep, by_added, by_record, by_step, done_put, record_after, steps_put, takes_put}
+use Rattle.clr_rules.proofs.edits.PutRows.{AllPutSuch, AnyStep, by_added, by_record, by_step, done_put, record_after, takes_put}
 use Rattle.clr_rules.proofs.good.GoodToPhases.{to_phases}
-use Rattle.clr_rules.proofs.good.Keeping.{asked}
 use Rattle.clr_rules.proofs.good.Opening.{no_record, opening_is_good}
 use Rattle.clr_rules.proofs.keeps.EveryKind.{commands_keep_good}
 use Rattle.clr_rules.proofs.keeps.Request.{caller_role, charge_operates_not}
@@ -75,11 +74,13 @@ module _ (R : Register) (throughout : IsGoodThroughout R) where
     put_fits : (kind : Kind) → Pass (checks k R by at kind) → AllPutSuch (PutFits R) AnyStep (edits_of k.greatest R by at kind)
     put_fits (kinds.Request section) passed =
         let (caller_passes, (role_passes, (section_passes, _))) = passed in
-        let (row, found, charge) = caller_role R by is_charge caller_passes role_passes in
-        ((
-          not_refused_true (has_name (section_names (Grid.sections R.net)) section) UnknownSection section_passes,
-          sym (ap (has_role is_operator) found ∙ charge_operates_not row.role charge),
-        ), tt)
+        let (row, found, charge) = caller_role R by is_charge caller_passes role_passes in (
+          (
+            not_refused_true (has_name (section_names (Grid.sections R.net)) section) UnknownSection section_passes,
+            sym (ap (has_role is_operator) found ∙ charge_operates_not row.role charge),
+          ),
+          tt,
+        )
     put_fits (kinds.Switch tasks) passed =
         let (row, found, operates) = caller_role R by is_operator passed.0 passed.1.0 in
         ((refl, sym (ap (has_role is_operator) found ∙ operates)), steps_of_any (new_steps _ 1 1 tasks))

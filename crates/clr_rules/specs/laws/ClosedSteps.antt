@@ -7,6 +7,7 @@ use Rattle.clr_rules.specs.Good.{IsGood}
 use Rattle.clr_rules.specs.Prelude.{Command, Record, Id, Register, record_of}
 use Rattle.clr_rules.specs.Records.{is_closed}
 use Rattle.clr_rules.specs.Run.{after, after_all, replies}
+use Rattle.clr_rules.specs.Staffed.{IsStaffed}
 
 -- a register without the steps of some clearances
 abbrev pub without_steps_of : (Id → Bool) → Register → Register
@@ -49,3 +50,13 @@ ClosedStepsBindNoRun =
     → AreOneBut gone R S → AllNameNoneOf gone commands
     → (replies R commands ≡ replies S commands)
     × AreOneBut gone (after_all R commands) (after_all S commands)
+
+-- THESE STEPS MAY GO: a good register is good without them, a staffed one staffed, and it is one
+-- with the register that keeps them, but for them
+pub record ClosedStepsMayGo : Type 0 where
+  pub good : (gone : Id → Bool) (R : Register) → IsGood R → AreClosed gone R
+      → IsGood (without_steps_of gone R)
+  pub staffed : (gone : Id → Bool) (R : Register) → IsStaffed R → AreClosed gone R
+      → IsStaffed (without_steps_of gone R)
+  pub one_but : (gone : Id → Bool) (R : Register) → AreClosed gone R
+      → AreOneBut gone R (without_steps_of gone R)
