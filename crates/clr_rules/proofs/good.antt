@@ -12,4 +12,5 @@ pub mod PlaceFacts
 pub mod PutHolds
 pub mod StepsInTurn
 pub mod Bounds
+pub mod CrewSafety
 pub mod Tags

@@ -30,7 +30,9 @@ pub mod Footprint
 pub mod Isolation
 pub mod GoodByPhase
 pub mod RunHeadline
+pub mod CrewSafety
 pub mod Staffed
+pub mod Fit
 pub mod WayBack
 pub mod EditOrder
 pub mod laws

@@ -1,11 +1,10 @@
 -- What work on a line rests on, from the parts of a good register.
-use Rattle.std.proofs.Common.{◌≡◌, ◌∙◌, ℕ, true, false, Option, Some, None, List, Contains, refl, ap}
-use Rattle.clr_rules.proofs.Common.{both_ways, false≢true, Grid, section_names, has_name, PointRow, Opened, clearance_fence, work_fence, HeldOpen, Ground, Crew, Phase}
+use Rattle.std.proofs.Common.{◌≡◌, ◌∙◌, ℕ, true, false, Some, List, Contains, refl, ap}
+use Rattle.clr_rules.proofs.Common.{both_ways, false≢true, Grid, section_names, has_name, PointRow, Opened, clearance_fence, work_fence, HeldOpen, Ground, Phase}
 use Rattle.clr_rules.proofs.Common.{Requested, Closed, Record, Id, Register, position_of, record_of, is_granted, points_of, steps_in, has_hold, is_fenced}
 use Rattle.clr_net.proofs.Walks.{fence_is_closed}
-use Rattle.clr_rules.specs.Good.{IsFullyHeld, IsGoodAsSaid, works_on}
+use Rattle.clr_rules.specs.Good.{IsFullyHeld, IsGoodAsSaid}
 use Rattle.clr_rules.specs.Live.{IsLive, is_live}
-use Rattle.clr_rules.specs.laws.Work.{IsSafeWork}
 use Rattle.clr_rules.proofs.lists.OpenPhases.{open_where}
 use Rattle.clr_rules.proofs.live.FenceCuts.{named_from_in_fence}
 use Rattle.clr_rules.proofs.live.LiveSections.{live_is_closed_walks}
@@ -54,21 +53,3 @@ module _ (R : Register) (good : IsGoodAsSaid R) (c : Id) where
   granted_points_bear_all_holds r found granted point there cut =
       let held = good.granted_points_are_held.held c r found granted point there cut in
       (good.held_points_are_open.open_there c HeldOpen point.name refl held.held_open, held)
-
-  crew_works : (crew : List ℕ) (r : Record) (work : Option (List ℕ)) → r.work ≡ work → record_of R.records c ≡ Some r → is_granted r.phase ≡ true
-      → works_on R.holds c Ground work ≡ true → IsSafeWork R c
-  crew_works crew r None is found granted grounded = absurd (false≢true grounded)
-  crew_works crew r (Some work) is found granted grounded = record {
-    clearance = r;
-    work = work;
-    recorded = found;
-    granted = granted;
-    worked_on = is;
-    grounded = grounded;
-    dead = (granted_work_is_dead r found granted work is).1;
-  }
-
-  pub crews_work_safely : (crew : List ℕ) → has_hold R.holds c Crew crew ≡ true → IsSafeWork R c
-  crews_work_safely crew on =
-      let (r, found, granted) = good.work_holds_belong.granted c Crew crew refl on in
-      crew_works crew r r.work refl found granted (good.work_holds_belong.crews_grounded c crew r on found)

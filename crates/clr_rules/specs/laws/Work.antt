@@ -1,13 +1,15 @@
 -- What work on a line rests on, as laws of good registers: it is dead, it is grounded, and the
 -- points around it are held.
 use Rattle.std.specs.Prelude.{◌≡◌, ℕ, true, false, List, Contains, Some}
-use Rattle.clr_rules.specs.Prelude.{Grid, has_name, PointRow, Opened, Command, Ground, Crew, Record}
+use Rattle.clr_rules.specs.Prelude.{Grid, has_name, PointRow, Opened, Command, Ground, Record, Reply}
 use Rattle.clr_rules.specs.Prelude.{Id, Register, position_of, record_of, is_granted, points_of}
 use Rattle.clr_rules.specs.Prelude.{steps_in, has_hold}
+use Rattle.clr_rules.specs.CrewSafety.{CrewsAreSafe, CrewsWorkSafely}
 use Rattle.clr_rules.specs.Fences.{clearance_fence}
 use Rattle.clr_rules.specs.Good.{IsFullyHeld, IsGood, IsGoodAsSaid}
 use Rattle.clr_rules.specs.Live.{IsLive, is_live}
 use Rattle.clr_rules.specs.Run.{after}
+use Rattle.clr_rules.specs.RunHeadline.{IsRun}
 
 -- while a clearance is granted, no section of its fence is live
 abbrev pub GrantedFencesStayDead : Type 0
@@ -54,17 +56,13 @@ GrantedPointsBearAllHolds =
     → has_name (points_of (steps_in R.steps c 1)) point.name ≡ true
     → (position_of R.states point.name ≡ Some Opened) × IsFullyHeld R.holds c point
 
--- where a crew is on, the clearance is granted, and its work section is grounded for it and dead
-pub record IsSafeWork (R : Register) (c : Id) : Type 0 where
-  pub clearance : Record
-  pub work : List ℕ
-  pub recorded : record_of R.records c ≡ Some clearance
-  pub granted : is_granted clearance.phase ≡ true
-  pub worked_on : clearance.work ≡ Some work
-  pub grounded : has_hold R.holds c Ground work ≡ true
-  pub dead : is_live R.net R.states work ≡ false
+-- IN A GOOD REGISTER crews are safe
+abbrev pub GoodRegistersAreSafe : Type 0
+GoodRegistersAreSafe = (R : Register) → IsGoodAsSaid R → CrewsAreSafe R
 
-abbrev pub CrewsWorkSafely : Type 0
-CrewsWorkSafely =
-    (R : Register) → IsGoodAsSaid R → (c : Id) (crew : List ℕ) → has_hold R.holds c Crew crew ≡ true
-    → IsSafeWork R c
+-- IN EVERY RUN crews work safely
+abbrev pub CrewsWorkSafelyInRuns : Type 0
+CrewsWorkSafelyInRuns =
+    (R : Register) (commands : List Command) (told : List Reply) (S : Register)
+    → IsRun R commands told S
+    → CrewsWorkSafely R commands S

@@ -1,8 +1,8 @@
 //! Laws of work: what those who work on a line rest on.
-ghost use Rattle.clr_rules.specs.laws.Work.{ClosingsFeedNoGround, CrewsWorkSafely};
+ghost use Rattle.clr_rules.specs.laws.Work.{ClosingsFeedNoGround, CrewsWorkSafelyInRuns};
 ghost use Rattle.clr_rules.specs.laws.Work.{GrantedFencesStayDead, GrantedPointsBearAllHolds};
-ghost use Rattle.clr_rules.specs.laws.Work.{GrantedWorkIsDead, GroundedSectionsAreDead};
-ghost use Rattle.clr_rules.specs.laws.Work.{NoSourceFeedsGrounds};
+ghost use Rattle.clr_rules.specs.laws.Work.{GrantedWorkIsDead, GoodRegistersAreSafe};
+ghost use Rattle.clr_rules.specs.laws.Work.{GroundedSectionsAreDead, NoSourceFeedsGrounds};
 
 /// While a clearance is granted, no section of its fence is live, and its work section is one of
 /// these.
@@ -28,7 +28,11 @@ pub fn granted_points_bear_all_holds()
     ensures { GrantedPointsBearAllHolds }
 {}
 
-/// Where a crew is on, the clearance is granted, and its work section is grounded for it and dead.
+/// Crews are safe in every good register, and work safely in every run from one, whoever commands:
+/// while a crew is on, its clearance is Granted, its work section grounded, its whole fence dead,
+/// and each point of its order open and held. No closing feeds a ground, and a tag is taken only by
+/// its own clearance's Untag.
 pub fn crews_work_safely()
-    ensures { CrewsWorkSafely }
+    ensures registers { GoodRegistersAreSafe }
+    ensures runs { CrewsWorkSafelyInRuns }
 {}
