@@ -1,19 +1,17 @@
 -- What is found in lists of rows, and in lists of references to rows.
-use Rattle.std.proofs.Common.{◌≡◌, ◌∙◌, ◌==◌, Bool, true, false, ◌&&◌, not, ℕ, List, [], ◌∷◌, ◌++◌, map, filter, find, refl, ap, sym, Bor, option_map, Option, Some, None, slice_get, is_some, option_copied, length}
+use Rattle.std.proofs.Common.{◌≡◌, ◌∙◌, ◌==◌, Bool, true, false, ◌&&◌, ℕ, List, [], ◌∷◌, ◌++◌, map, filter, find, refl, ap, sym, Bor, option_map, Option, Some, None, slice_get, is_some, option_copied, length}
 use Rattle.std.specs.List.{list_any, flat_map}
 use Rattle.std.proofs.lemmas.List.{map-append}
 use Rattle.clr_order.proofs.Finds.{find_behind}
 use Rattle.clr_order.specs.Step.{Task, task}
 use Rattle.clr_order.specs.declared.held.Held.{Held}
-use Rattle.clr_order.specs.declared.step.Step.{Step}
-use Rattle.clr_order.specs.declared.action.Action.{Action}
 use Rattle.clr_rules.proofs.lists.Filters.{filter-kept}
 use Rattle.clr_rules.specs.Id.{Id, same_id}
 use Rattle.clr_rules.specs.Holds.{places_of, same_kind}
 use Rattle.clr_book.proofs.NearFacts.{filter_shown, first_points_are}
 use Rattle.clr_net.proofs.ListFacts.{map-map}
 use Rattle.std.proofs.lemmas.List.{length-map}
-use Rattle.clr_rules.specs.Steps.{is_active, is_of_round, points_of, some_active, steps_in, steps_of}
+use Rattle.clr_rules.specs.Steps.{is_of_round, points_of, steps_in, steps_of}
 use Rattle.clr_order.specs.Needed.{undoing}
 use Rattle.clr_order.specs.Texts.{waiting_step}
 use Rattle.clr_order.specs.declared.action.Action.TheVariants.{Leave}

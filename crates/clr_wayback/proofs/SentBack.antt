@@ -1,5 +1,5 @@
 -- The lines of a way back read as its commands.
-use Rattle.std.proofs.Common.{◌≡◌, ◌∙◌, ◌==◌, ◌&&◌, ◌||◌, ◌++◌, Bool, true, false, not, ℕ, List, [], ◌∷◌, All, map, filter, length, flat_map, refl, ap, sym, Result, Ok, Err, append_assoc, IsTrue, arith, ne_eqb}
+use Rattle.std.proofs.Common.{◌≡◌, ◌∙◌, ◌==◌, ◌&&◌, ◌||◌, Bool, true, false, not, ℕ, List, [], ◌∷◌, All, filter, length, refl, ap, append_assoc, IsTrue, arith, ne_eqb}
 use Rattle.std.specs.List.{list_all, list_any, slice_split}
 use Rattle.std.proofs.lemmas.List.Elements.{All-cons, All-nil}
 use Rattle.std.proofs.lemmas.List.Splits.{slice_split_at}
@@ -11,7 +11,7 @@ use Rattle.serde_json.specs.Written.{members_text}
 use Rattle.clr_text.specs.CommandText.{all_said, can_be_sent, command_data, with_said, command_text, has_its_moment}
 use Rattle.clr_text.specs.Lines.{commands_in, with_command}
 use Rattle.clr_text.specs.Reading.{read_command}
-use Rattle.clr_wayback.specs.Text.{command_line, commands_read, reads_back, way_back_text}
+use Rattle.clr_wayback.specs.Text.{commands_read, reads_back, way_back_text}
 
 -- a premise that a test has, as one test
 pub test_of : (a b : Bool) → (IsTrue a → IsTrue b) → IsTrue (not a || b)

@@ -1,12 +1,12 @@
 //! The commands that give a clearance back.
-ghost use Rattle.std.specs.Prelude.{◌≡◌, IfOk, IsTrue};
+ghost use Rattle.std.specs.Prelude.{◌≡◌, [], IfOk, IsTrue, None};
 ghost use Rattle.std.specs.List.{list_all};
 ghost use Rattle.clr_net.specs.Name.{is_name};
 ghost use Rattle.clr_rules.specs.Good.{IsGood};
-ghost use Rattle.clr_rules.specs.Run.{IsReached};
-ghost use Rattle.clr_wayback.specs.Answer.{GivesBack, way_back_answer};
+ghost use Rattle.clr_rules.specs.Checks.{employee};
+ghost use Rattle.clr_rules.specs.Fit.{IsFit};
+ghost use Rattle.clr_wayback.specs.Answer.{GivesBack, IsTried, way_back_answer};
 
-use crate::rows::Rows;
 use crate::walk::walk;
 use clr_book::Book;
 use clr_rules::{ClearanceId, Command, Hold, Items, PointState, Record, StepRow};
@@ -21,17 +21,17 @@ pub enum WayBack {
     Commands(Items<Command>),
     /// There is no such clearance or switch order.
     NoSuch,
-    /// The staff has nobody who gives one of the commands: a step is given out, and there is no
-    /// field employee.
+    /// One of the commands would be refused, as where nobody of the staff can give it.
     NoWay,
 }
 
 /// The commands by which the staff closes the record of a clearance or a switch order, whatever its
 /// phase is, without closing or opening a point. They are all accepted, if they are given one after
-/// the other and no other command between them.
+/// the other and no other command between them: `NoWay` where one of them would be refused.
 ///
-/// The book is used up: the commands are tried in it. The book of every register that is reached is
-/// good.
+/// The book is used up: the commands are tried in it. An opening asks of every register to be good
+/// and staffed. Of such a register there is no way only where a step of the record is given out and
+/// the staff has no field employee.
 pub fn way_back<P, C, T, H>(
     alloc: Global,
     book: Book<P, C, T, H>,
@@ -44,7 +44,9 @@ where
     H: Shelf<Hold>,
     ensures answer { IsGood book.register
         → IfOk result (λ answer. answer ≡ way_back_answer book.register id.now) }
-    ensures closes { IsReached book.register
+    ensures tried { IsGood book.register
+        → IfOk result (IsTried book.register id.now) }
+    ensures closes { IsFit book.register
         → IfOk result (GivesBack book.register id.now) }
 {
     all_named(book.staff().rows());
@@ -63,15 +65,12 @@ where
     C: Shelf<Record>,
     T: Shelf<StepRow>,
     H: Shelf<Hold>,
+    requires { employee book.register.staff [] ≡ None }
     ensures { IsGood book.register
         → IfOk result (λ answer. answer ≡ way_back_answer book.register id.now) }
 {
     if book.record(id).is_none() {
         return Ok(WayBack::NoSuch);
-    }
-    let rows = Rows { alloc, book: &book };
-    if rows.hangs(*id)? {
-        return Ok(WayBack::NoWay);
     }
     match walk(alloc, &mut book, id)? {
         Some(commands) => Ok(WayBack::Commands(Items::new(commands))),

@@ -10,7 +10,7 @@ ghost use Rattle.clr_rules.specs.Steps.{is_active, is_done, is_of_round};
 ghost use Rattle.clr_rules.specs.WayBack.{given_out_at, one_of_role};
 ghost use Rattle.clr_rules.specs.Steps.{steps_in, steps_of};
 ghost use Rattle.clr_rules.specs.Staffed.{has_some_role};
-ghost use Rattle.clr_wayback.specs.Answer.{first_place, hangs, or_nobody};
+ghost use Rattle.clr_wayback.specs.Answer.{first_place, or_nobody};
 ghost use Rattle.std.specs.Option.{is_some};
 
 use clr_book::{Book, all_rows};
@@ -102,16 +102,6 @@ impl<'a, P: Shelf<PointState>, C: Shelf<Record>, T: Shelf<StepRow>, H: Shelf<Hol
     {
         let steps = self.book.steps(&id)?;
         Ok(first_left(&steps, id))
-    }
-
-    /// Whether a step of a clearance is given out, and nobody of the staff can repeat it.
-    pub(crate) fn hangs(&self, id: ClearanceId) -> Result<bool, AllocError>
-        ensures { IfOk result (λ answer. answer ≡ hangs self.now id) }
-    {
-        let Some(_) = self.given_out(id)? else {
-            return Ok(false);
-        };
-        Ok(self.field_employee().is_none())
     }
 
     /// Which clearance has a point in hand.

@@ -1,19 +1,22 @@
 //! A way back that is walked: its commands, each carried out before the next are found.
-ghost use Rattle.std.specs.Prelude.{◌≡◌, ◌*◌, ◌+◌, IfOk, OnOk, filter, length};
+ghost use Rattle.std.specs.Prelude.{◌≡◌, ◌*◌, ◌+◌, [], IfOk, None, OnOk, filter, length, true};
+ghost use Rattle.clr_rules.specs.Answer.{Answer, answer};
+ghost use Rattle.clr_rules.specs.Checks.{employee};
 ghost use Rattle.clr_rules.specs.Good.{IsGood};
 ghost use Rattle.clr_rules.specs.Run.{after, after_all};
 ghost use Rattle.clr_rules.specs.Steps.{is_of_round};
 ghost use Rattle.clr_rules.specs.WayBack.{enough_turns, way_back};
-ghost use Rattle.clr_wayback.specs.Answer.{given, items_of};
+ghost use Rattle.clr_rules.specs.laws.WayBack.{is_accepted};
+ghost use Rattle.clr_wayback.specs.Answer.{are_accepted, items_of, tried};
 
 use crate::moves::next_moves;
 use clr_book::Book;
-use clr_rules::{ClearanceId, Command, Hold, PointState, Record, StepRow};
+use clr_rules::{ClearanceId, Command, Hold, PointState, Record, Reply, StepRow};
 use clr_shelf::Shelf;
 use std::alloc::{AllocError, Global};
 
 /// The commands of the way back of a clearance, which are carried out in the book. There is no list
-/// where the staff has nobody who gives one of them.
+/// where one of them would be refused.
 pub(crate) fn walk<P, C, T, H>(
     alloc: Global,
     book: &mut Book<P, C, T, H>,
@@ -24,8 +27,9 @@ where
     C: Shelf<Record>,
     T: Shelf<StepRow>,
     H: Shelf<Hold>,
+    requires { employee book.old.register.staff [] ≡ None }
     ensures { IsGood book.old.register → IfOk result (λ commands. items_of commands
-        ≡ given (way_back book.old.register id.now)) }
+        ≡ tried book.old.register (way_back book.old.register id.now)) }
 {
     let mut commands = Vec::new(alloc);
     let turns = enough_turns(book, id)?;
@@ -36,7 +40,9 @@ where
         if moves.is_empty() {
             return Ok(Some(commands));
         }
-        carry_out_all(book, &moves)?;
+        if !carry_out_all(book, &moves)? {
+            return Ok(None);
+        }
         commands.append(&mut moves)?;
     }
     Ok(Some(commands))
@@ -67,39 +73,52 @@ fn count_of_round(steps: &[&StepRow], id: ClearanceId, round: u8) -> usize
         .count()
 }
 
-/// Carries out commands, one after the other.
+/// Carries out commands, one after the other, up to the first that is refused. Whether none was.
 fn carry_out_all<P, C, T, H>(
     book: &mut Book<P, C, T, H>,
     commands: &[Command],
-) -> Result<(), AllocError>
+) -> Result<bool, AllocError>
 where
     P: Shelf<PointState>,
     C: Shelf<Record>,
     T: Shelf<StepRow>,
     H: Shelf<Hold>,
-    ensures register { IsGood book.old.register → OnOk result
-        (book.new.register ≡ after_all book.old.register commands.now) }
+    ensures accepted { IsGood book.old.register → IfOk result (λ accepted.
+        accepted ≡ are_accepted book.old.register commands.now) }
+    ensures register { IsGood book.old.register → IfOk result (λ accepted. accepted ≡ true
+        → book.new.register ≡ after_all book.old.register commands.now) }
     ensures good { IsGood book.old.register → OnOk result (IsGood book.new.register) }
 {
     for command in commands {
-        carry_out(book, command)?;
+        if !carry_out(book, command)? {
+            return Ok(false);
+        }
     }
-    Ok(())
+    Ok(true)
 }
 
-/// Carries out a command: it is answered, and its change is made.
-fn carry_out<P, C, T, H>(book: &mut Book<P, C, T, H>, command: &Command) -> Result<(), AllocError>
+/// Carries out a command: it is answered, and its change is made. Whether it was accepted.
+fn carry_out<P, C, T, H>(book: &mut Book<P, C, T, H>, command: &Command) -> Result<bool, AllocError>
 where
     P: Shelf<PointState>,
     C: Shelf<Record>,
     T: Shelf<StepRow>,
     H: Shelf<Hold>,
+    ensures accepted { IsGood book.old.register → IfOk result (λ accepted.
+        accepted ≡ is_accepted (Answer.reply (answer book.old.register command.now))) }
     ensures register { IsGood book.old.register → OnOk result
         (book.new.register ≡ after book.old.register command.now) }
     ensures good { IsGood book.old.register → OnOk result (IsGood book.new.register) }
 {
     let decision = book.answer(command)?;
+    let accepted = is_accepted(&decision.reply);
     book.reserve(&decision.change)?;
     book.apply(decision.change);
-    Ok(())
+    Ok(accepted)
+}
+
+fn is_accepted(reply: &Reply) -> bool
+    ensures { result ≡ is_accepted reply.now }
+{
+    matches!(reply, Reply::Accepted(_))
 }

@@ -1,4 +1,4 @@
-use Rattle.std.proofs.Common.{◌≡◌, ◌∙◌, ap}
+use Rattle.std.proofs.Common.{◌∙◌, ap}
 use Rattle.clr_wayback.proofs.SentBack.{all_sent, lines_read_back}
 use Rattle.clr_wayback.specs.Text.{commands_read}
 use Rattle.clr_wayback.proofs.print.print_way_back.Goals as goal

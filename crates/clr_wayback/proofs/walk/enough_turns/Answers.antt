@@ -1,4 +1,4 @@
-use Rattle.std.proofs.Common.{◌≡◌, ◌∙◌, ◌+◌, ◌*◌, Bor, List, ap, map, length, rules, ℕ}
+use Rattle.std.proofs.Common.{◌≡◌, ◌∙◌, ◌+◌, ◌*◌, Bor, ap, map, length, rules, ℕ}
 use Rattle.clr_rules.specs.Steps.{steps_in, steps_of}
 use Rattle.clr_rules.specs.declared.step_row.StepRow.{StepRow}
 use Rattle.clr_wayback.proofs.Found.{round_length}

@@ -1,7 +1,4 @@
-use Rattle.std.proofs.Common.{◌≡◌, ◌∙◌, ◌&&◌, Bor, List, ap, sym, map, find, filter, option_copied, option_map, rules, Some, None, ℕ, Option}
-use Rattle.clr_order.proofs.Finds.{find_behind}
-use Rattle.clr_rules.specs.Holds.{places_of, same_kind}
-use Rattle.clr_rules.specs.Id.{same_id}
+use Rattle.std.proofs.Common.{◌≡◌, ◌∙◌, Bor, ap, sym, map, option_copied, option_map, rules, Some, None}
 use Rattle.clr_rules.specs.declared.hold.Hold.{Hold}
 use Rattle.clr_wayback.proofs.Found.{first_of_places}
 use Rattle.clr_wayback.proofs.rows.Rows.first_place.Goals as goal

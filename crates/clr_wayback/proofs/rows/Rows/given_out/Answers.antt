@@ -1,9 +1,7 @@
-use Rattle.std.proofs.Common.{◌≡◌, ◌∙◌, ◌&&◌, Bor, rules, List, ap, sym, map, find, filter, not, option_copied, option_map}
-use Rattle.clr_order.proofs.Finds.{find_behind, find-map}
-use Rattle.clr_net.specs.Name.{same_name}
-use Rattle.clr_rules.specs.Steps.{is_active, is_done, is_of_round, steps_in, steps_of}
+use Rattle.std.proofs.Common.{◌≡◌, ◌∙◌, Bor, rules, ap, map, find, option_copied}
+use Rattle.clr_order.proofs.Finds.{find_behind}
+use Rattle.clr_rules.specs.Steps.{is_active, steps_of}
 use Rattle.clr_rules.specs.declared.step_row.StepRow.{StepRow}
-use Rattle.clr_wayback.proofs.Found.{find-filter, first-filter, round_of}
 use Rattle.clr_wayback.proofs.rows.Rows.given_out.Goals as goal
 
 pub returns : goal.returns

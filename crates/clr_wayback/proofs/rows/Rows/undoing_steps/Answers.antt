@@ -1,8 +1,7 @@
-use Rattle.std.proofs.Common.{◌≡◌, ◌∙◌, List, ap, sym, map, filter, rules, flat_map, Bor, ℕ}
+use Rattle.std.proofs.Common.{◌≡◌, ◌∙◌, List, ap, map, filter, rules, flat_map, Bor, ℕ}
 use Rattle.clr_order.specs.Step.{task}
 use Rattle.clr_rules.specs.Holds.{first_of_each, has_hold, held_among, held_at}
 use Rattle.clr_rules.specs.Steps.{points_of, steps_in, steps_of}
-use Rattle.clr_rules.specs.WayBack.{undoing_steps}
 use Rattle.clr_rules.specs.declared.hold_kind.HoldKind.TheVariants.{HeldOpen}
 use Rattle.clr_rules.specs.declared.step_row.StepRow.{StepRow}
 use Rattle.clr_wayback.proofs.Found.{points_lent, steps_undoing}
