@@ -6,6 +6,7 @@ use Rattle.sqlite.specs.Effect.{Database}
 use Rattle.sqlite.specs.State.{State}
 use Rattle.sqlite.specs.Tree.{Trees}
 use Rattle.clr_rules.specs.Answer.{Answer, answer}
+use Rattle.clr_rules.specs.CrewSafety.{CrewsWorkSafely}
 use Rattle.clr_rules.specs.Good.{IsGood}
 use Rattle.clr_rules.specs.Register.{Register}
 use Rattle.clr_rules.specs.Run.{after, after_all, replies}
@@ -13,6 +14,7 @@ use Rattle.clr_rules.specs.RunHeadline.{IsRun, OthersChangeNoReply, OwnStandAlon
 use Rattle.clr_rules.specs.declared.command.Command.{Command}
 use Rattle.clr_rules.specs.declared.reply.Reply.{Reply}
 use Rattle.clr_rules.proofs.edits.Runs.{runs_go_on}
+use Rattle.clr_rules.proofs.good.CrewSafety.{runs_are_safe}
 use Rattle.clr_rules.proofs.isolation.RunReplies.{others_change_no_reply, own_stand_alone}
 use Rattle.clr_load.specs.Contract.{IsSaved}
 use Rattle.clr_load.specs.Stored.{AreTables, HasTables}
@@ -72,6 +74,10 @@ no_reply_changed R commands told S ran c inside T others shown =
 pub standing_alone : (R : Register) (commands : List Command) (told : List Reply) (S : Register) → (IsGood R → IsRun R commands told S)
     → OwnStandAlone R commands told
 standing_alone R commands told S ran c inside alone = own_stand_alone R commands told S (ran alone.good) c inside alone
+
+pub working_safely : (R : Register) (commands : List Command) (told : List Reply) (S : Register) → (IsGood R → IsRun R commands told S)
+    → CrewsWorkSafely R commands S
+working_safely R commands told S ran good = runs_are_safe R commands told S (ran good) good
 
 -- ---- what a crash leaves
 

@@ -1,5 +1,5 @@
--- THE TABLE AT FAULT of a register that is not good: that of the first of its lists that does not
--- fit.
+-- THE TABLE AT FAULT of a register that is not good and staffed: that of the first of its lists
+-- that does not fit the others or the staff.
 use Rattle.std.specs.Prelude.{Option, option_map}
 use Rattle.clr_good.specs.Fault.{list_at_fault}
 use Rattle.clr_good.specs.declared.fault.ListAtFault.{ListAtFault}

@@ -1,6 +1,6 @@
-//! The table at fault of a register that is not good.
+//! The table at fault of a register that is not good and staffed.
 ghost use Rattle.std.specs.Prelude.{◌≡◌, ◌↔◌, None, IfOk, option_map};
-ghost use Rattle.clr_rules.specs.Good.{IsGood};
+ghost use Rattle.clr_rules.specs.Fit.{IsFit};
 ghost use Rattle.clr_desk.specs.AtFault.{table_at_fault, table_of_list};
 
 use crate::book::DeskBook;
@@ -8,10 +8,10 @@ use clr_good::{ListAtFault, list_at_fault};
 use clr_tables::TableName;
 use std::alloc::{AllocError, Global};
 
-/// The first table of a book whose rows do not fit the others, in the order of points, clearances,
-/// steps and holds; none exactly where the register is good.
+/// The first table of a book, in the order of points, clearances, steps and holds, whose rows do not
+/// fit the others or the staff; none exactly where the register is good and staffed.
 pub(crate) fn table_in(alloc: Global, book: &DeskBook) -> Result<Option<TableName>, AllocError>
-    ensures good { IfOk result (λ table. (table ≡ None) ↔ IsGood book.now.register) }
+    ensures good { IfOk result (λ table. (table ≡ None) ↔ IsFit book.now.register) }
     ensures first { IfOk result (λ table. table ≡ table_at_fault book.now.register) }
 {
     let list = list_at_fault(alloc, book)?;

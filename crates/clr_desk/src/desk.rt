@@ -2,6 +2,8 @@
 ghost use Rattle.std.specs.Prelude.{◌≡◌, ◌⊎◌, ◌↔◌, ◌<◌, false, [], ◌∷◌, length, IfErr, IfOk, IfNone};
 ghost use Rattle.std.specs.Prelude.{IfSome, IsErr, IsTrue, MatchResult, None, Ok, Err, true};
 ghost use Rattle.std.specs.List.{list_all, list_any};
+ghost use Rattle.clr_rules.specs.CrewSafety.{CrewsWorkSafely};
+ghost use Rattle.clr_rules.specs.Fit.{IsFit};
 ghost use Rattle.clr_rules.specs.RunHeadline.{IsRun, OthersChangeNoReply, OthersTakeNothing};
 ghost use Rattle.clr_rules.specs.RunHeadline.{OwnStandAlone, with_reply};
 ghost use Rattle.sqlite.specs.Held.{state};
@@ -213,10 +215,10 @@ impl<K: Commit> Desk<K> {
         &self.book
     }
 
-    /// The first table whose rows do not fit the others, in the order of points, clearances, steps
-    /// and holds; none exactly where the register is good.
+    /// The first table, in the order of points, clearances, steps and holds, whose rows do not fit
+    /// the others or the staff; none exactly where the register is good and staffed.
     pub fn table_at_fault(&self, alloc: Global) -> Result<Option<TableName>, AllocError>
-        ensures good { IfOk result (λ table. (table ≡ None) ↔ IsGood self.now.book.register) }
+        ensures good { IfOk result (λ table. (table ≡ None) ↔ IsFit self.now.book.register) }
         ensures first { IfOk result (λ table. table ≡ table_at_fault self.now.book.register) }
     {
         table_in(alloc, &self.book)
@@ -300,6 +302,8 @@ impl<K: Commit> Desk<K> {
             (with_reply (command ∷ []) (replies_of result)) }
         ensures alone { OwnStandAlone self.old.book.register
             (with_reply (command ∷ []) (replies_of result)) (replies_of result) }
+        ensures safe { CrewsWorkSafely self.old.book.register
+            (with_reply (command ∷ []) (replies_of result)) self.new.book.register }
         ensures faults { self.new.faults ≡ count_after (fault_of result) self.old.faults }
         ensures keeps { Keeps (K.kept self.old.store) self.old.book.register
             (K.kept self.new.store) self.new.book.register }
@@ -336,6 +340,8 @@ impl<K: Commit> Desk<K> {
             (with_reply commands.items result.replies.items) }
         ensures alone { OwnStandAlone self.old.book.register
             (with_reply commands.items result.replies.items) result.replies.items }
+        ensures safe { CrewsWorkSafely self.old.book.register
+            (with_reply commands.items result.replies.items) self.new.book.register }
         ensures typed { IsTrue (list_all is_typed_command commands.items) }
         ensures faults { self.new.faults ≡ count_after result.fault self.old.faults }
         ensures cause { IfSome result.fault (IsOfKeeper K.fails) }

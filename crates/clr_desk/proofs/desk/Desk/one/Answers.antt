@@ -4,7 +4,7 @@ use Rattle.clr_rules.proofs.isolation.RunReplies.{others_take_nothing}
 use Rattle.clr_desk.specs.Answering.{replies_of}
 use Rattle.clr_desk.proofs.Givings.{one_leads}
 use Rattle.clr_desk.proofs.Keeping.{one_keeps}
-use Rattle.clr_desk.proofs.RunSteps.{no_reply_changed, one_ran, one_survives, standing_alone}
+use Rattle.clr_desk.proofs.RunSteps.{no_reply_changed, one_ran, one_survives, standing_alone, working_safely}
 use Rattle.clr_desk.proofs.desk.Desk.one.Goals as goal
 
 pub returns-clause-ran : goal.returns-clause-ran
@@ -29,6 +29,11 @@ returns-clause-untouched g c = others_take_nothing c.args.self.now.book.register
 pub returns-clause-alone : goal.returns-clause-alone
 returns-clause-alone g c =
     standing_alone c.args.self.now.book.register (with_reply (c.args.command ∷ []) (replies_of c.answer.result)) (replies_of c.answer.result)
+    c.answer.new.self.book.register (returns-clause-ran g c)
+
+pub returns-clause-safe : goal.returns-clause-safe
+returns-clause-safe g c =
+    working_safely c.args.self.now.book.register (with_reply (c.args.command ∷ []) (replies_of c.answer.result)) (replies_of c.answer.result)
     c.answer.new.self.book.register (returns-clause-ran g c)
 
 pub returns-clause-keeps : goal.returns-clause-keeps

@@ -16,7 +16,7 @@ use Rattle.clr_desk.proofs.Givings.{leads_itself, leads_on, leads_unchanged, one
 use Rattle.clr_desk.proofs.Keeping.{keeps_itself, keeps_on, one_keeps}
 use Rattle.clr_desk.proofs.NearRuns.{near_ran_so_far, near_run_of_next, near_run_of_none, network_of_next, network_of_none, network_so_far, none_before}
 use Rattle.std.specs.List.{list_any}
-use Rattle.clr_desk.proofs.RunSteps.{next_left, no_reply_changed, none_taken, ran_so_far, run_of_next, run_of_none, saved_left, standing_alone}
+use Rattle.clr_desk.proofs.RunSteps.{next_left, no_reply_changed, none_taken, ran_so_far, run_of_next, run_of_none, saved_left, standing_alone, working_safely}
 use Rattle.clr_desk.proofs.desk.Desk.run.Goals as goal
 
 -- ---- no room for the replies
@@ -68,6 +68,11 @@ returns-then-is_err-clause-untouched g c = others_take_nothing c.args.self.now.b
 pub returns-then-is_err-clause-alone : goal.returns-then-is_err-clause-alone
 returns-then-is_err-clause-alone g c =
     standing_alone c.args.self.now.book.register (with_reply c.args.commands.items c.reserve.new.self.items) c.reserve.new.self.items
+    c.args.self.now.book.register (returns-then-is_err-clause-ran g c)
+
+pub returns-then-is_err-clause-safe : goal.returns-then-is_err-clause-safe
+returns-then-is_err-clause-safe g c =
+    working_safely c.args.self.now.book.register (with_reply c.args.commands.items c.reserve.new.self.items) c.reserve.new.self.items
     c.args.self.now.book.register (returns-then-is_err-clause-ran g c)
 
 pub returns-then-is_err-clause-crash : goal.returns-then-is_err-clause-crash
@@ -221,6 +226,15 @@ returns-in-Err-clause-alone g c =
     (λ good. ran_so_far R c.loop-command.self.book.register c.args.commands.items told c.loop-command.command-index c.loop-command.invariant.counted
     (c.loop-command.invariant.ran good))
 
+pub returns-in-Err-clause-safe : goal.returns-in-Err-clause-safe
+returns-in-Err-clause-safe g c =
+    let R = c.args.self.now.book.register in
+    let told = c.loop-command.replies.items in
+    working_safely R (with_reply c.args.commands.items told) told c.answer.new.self.book.register
+    (λ good. subst (λ (S : Register). IsRun R (with_reply c.args.commands.items told) told S) (sym (c.in-Err.ensures.carried.unchanged refl))
+    (ran_so_far R c.loop-command.self.book.register c.args.commands.items told c.loop-command.command-index c.loop-command.invariant.counted
+    (c.loop-command.invariant.ran good)))
+
 pub returns-in-Err-clause-crash : goal.returns-in-Err-clause-crash
 returns-in-Err-clause-crash g c clean saved good has trees may =
     let R = c.args.self.now.book.register in
@@ -277,6 +291,14 @@ returns-clause-alone g c =
     let R = c.args.self.now.book.register in
     let told = c.loop-command.replies.items in
     standing_alone R (with_reply c.args.commands.items told) told c.loop-command.self.book.register
+    (λ good. ran_so_far R c.loop-command.self.book.register c.args.commands.items told c.loop-command.command-index c.loop-command.invariant.counted
+    (c.loop-command.invariant.ran good))
+
+pub returns-clause-safe : goal.returns-clause-safe
+returns-clause-safe g c =
+    let R = c.args.self.now.book.register in
+    let told = c.loop-command.replies.items in
+    working_safely R (with_reply c.args.commands.items told) told c.loop-command.self.book.register
     (λ good. ran_so_far R c.loop-command.self.book.register c.args.commands.items told c.loop-command.command-index c.loop-command.invariant.counted
     (c.loop-command.invariant.ran good))
 
