@@ -14,6 +14,7 @@ use Rattle.clr_rules.specs.Shown.{is_own_command, own_answers}
 use Rattle.clr_rules.specs.declared.command.Command.{Command}
 use Rattle.clr_rules.specs.declared.reply.Reply.{Reply}
 use Rattle.clr_rules.proofs.edits.Runs.{runs_go_on}
+use Rattle.clr_rules.proofs.good.CrewSafety.{runs_are_safe}
 use Rattle.clr_rules.proofs.isolation.RunReplies.{own_replies_are}
 use Rattle.clr_text.specs.Reading.{read_command}
 use Rattle.clr_text.specs.declared.fault.TextFault.{TextFault}
@@ -292,6 +293,7 @@ has_run same nothing alone k l inputs responses carried all =
       headline = same R (commands_asked carried) (replies R (commands_asked carried)) l.register here.run;
       untouched = nothing R (commands_asked carried);
       alone = alone R (commands_asked carried) (replies R (commands_asked carried)) l.register here.run;
+      safe = runs_are_safe R (commands_asked carried) (replies R (commands_asked carried)) l.register here.run;
     }
 
 -- at most one command was carried out

@@ -4,6 +4,7 @@ use Rattle.std.specs.Prelude.{◌≡◌, ◌≤◌, ◌<◌, ◌-◌, ◌^◌, �
 use Rattle.std.specs.Prelude.{Option, None, Some}
 use Rattle.clr_rules.specs.Agreement.{Agree}
 use Rattle.clr_rules.specs.Answer.{Answer, answer}
+use Rattle.clr_rules.specs.CrewSafety.{CrewsWorkSafely}
 use Rattle.clr_rules.specs.Good.{IsGood}
 use Rattle.clr_rules.specs.Id.{Id}
 use Rattle.clr_rules.specs.Isolation.{LeftAlone, ShowTheSame, ShowsOwnAlone, is_others}
@@ -98,7 +99,7 @@ OwnRequestsAlone = (c : Id) (inside : List ℕ → Bool) (k l m n : Keeper)
     → own_among c carried responses ≡ alone
 
 -- what is said of inputs that were served, whatever they are: the commands of them that were carried
--- out, of which the responses are a run, and the three statements hold of it
+-- out, of which the responses are a run; the three statements hold of it, and crews work safely in it
 pub record HasRun (k : Keeper) (inputs responses : List (List ℕ)) (l : Keeper) : Type 0 where
   pub carried : List (Option Command)
   pub served : ServesAll k inputs carried responses l
@@ -107,3 +108,4 @@ pub record HasRun (k : Keeper) (inputs responses : List (List ℕ)) (l : Keeper)
   pub headline : OthersChangeNoReply k.register (commands_asked carried) told l.register
   pub untouched : OthersTakeNothing k.register (commands_asked carried)
   pub alone : OwnStandAlone k.register (commands_asked carried) told
+  pub safe : CrewsWorkSafely k.register (commands_asked carried) l.register
