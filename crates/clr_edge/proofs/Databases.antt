@@ -12,7 +12,7 @@ use Rattle.clr_desk.specs.Opening.{IsRegisterOf, OpensAs}
 use Rattle.clr_desk.specs.Faults.{IsOfCommand, of_store as desk_of_store}
 use Rattle.clr_desk.specs.declared.desk_fault.DeskFault.{DeskFault}
 use Rattle.clr_desk.specs.declared.desk_fault.DeskFault.TheVariants as desk
-use Rattle.clr_rules.specs.Good.{IsGood}
+use Rattle.clr_rules.specs.Fit.{IsFit}
 use Rattle.clr_rules.specs.Register.{Register}
 use Rattle.sqlite.specs.declared.error.Error.{Error}
 use Rattle.sqlite.specs.declared.error.Error.TheVariants.{SqliteFailure}
@@ -140,10 +140,10 @@ OnOk-any (Err fault) P holds = tt
 pub OnOk-was : {T : Type 0} (result : Result T Fault) (value : T) (P : Type 0) → result ≡ Ok value → OnOk result P → P
 OnOk-was {T} result value P was holds = let Q : Result T Fault → Type 0 = λ r. OnOk r P in subst Q was holds
 
--- a good register is not refused, unless memory ran out
-pub IsOfLine-unfit : (R : Register) (cause : StoreFault) → IsGood R → (cause ≡ store.NoMemory) ⊎ IsOfUnfit R cause → IsOfLine (of_store cause)
-IsOfLine-unfit R cause good (inl memory) = rw memory (inl refl)
-IsOfLine-unfit R cause good (inr unfit) = absurd (unfit.bad good)
+-- a register that is good and staffed is not refused, unless memory ran out
+pub IsOfLine-unfit : (R : Register) (cause : StoreFault) → IsFit R → (cause ≡ store.NoMemory) ⊎ IsOfUnfit R cause → IsOfLine (of_store cause)
+IsOfLine-unfit R cause fit (inl memory) = rw memory (inl refl)
+IsOfLine-unfit R cause fit (inr unfit) = absurd (unfit.bad fit)
 
 -- what a register that is not good is refused with has no cause in the database
 pub SqlHasCause-unfit : (R : Register) (cause : StoreFault) (old new : State) → (cause ≡ store.NoMemory) ⊎ IsOfUnfit R cause → SqlHasCause old new cause
@@ -158,9 +158,9 @@ RefusesTables-unfit t book cause opens (inr unfit) = inr (inr (book, opens, unfi
 
 -- a table at fault is that of a register that is not good
 pub unfit_told : (R : Register) (found : Option TableName) (table : TableName) → found ≡ Some table → found ≡ table_at_fault R
-    → (found ≡ None) ↔ IsGood R → IsOfUnfit R (store.BadRow table)
+    → (found ≡ None) ↔ IsFit R → IsOfUnfit R (store.BadRow table)
 unfit_told R found table is told exact = record {
-  bad = λ good. none-some table (sym (exact.1 good) ∙ is);
+  bad = λ fit. none-some table (sym (exact.1 fit) ∙ is);
   table = table;
   first = sym told ∙ is;
   named = refl;

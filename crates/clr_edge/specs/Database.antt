@@ -7,7 +7,9 @@ use Rattle.sqlite.specs.Order.{Row}
 use Rattle.sqlite.specs.State.{HasCleanDisk, Survives}
 use Rattle.sqlite.specs.declared.error.Error.{Error}
 use Rattle.sqlite_trees.specs.declared.store.Store.{Ghosts}
+use Rattle.clr_rules.specs.Fit.{IsFit}
 use Rattle.clr_rules.specs.Good.{IsGood}
+use Rattle.clr_rules.specs.Staffed.{IsStaffed}
 use Rattle.clr_rules.specs.Register.{Register}
 use Rattle.clr_load.specs.Cause.{SqlHasCause, fault_of}
 use Rattle.clr_load.specs.Contract.{IsSaved, old_points}
@@ -52,11 +54,12 @@ HasNoBytes has_size lacks_size path fault = (has_size path 0 × (fault ≡ Store
 abbrev pub IsShutBy : (Error → Type 0) → Fault → Type 0
 IsShutBy shut fault = (error : Error) × (fault ≡ of_store (fault_of error)) × shut error
 
--- What is known of a database: it has the tables of a good register, whose values are of their
--- types.
+-- What is known of a database: it has the tables of a register that is good and staffed, whose
+-- values are of their types.
 pub record HasRegister {S : Type 0} (g : Ghosts S) (R : Register) (connection : Held S)
     : Type 0 where
   pub good : IsGood R
+  pub staffed : IsStaffed R
   pub typed : IsTyped R
   pub tables : HasTables (state g connection).now (tables_of R)
 
@@ -93,20 +96,21 @@ pub record IsUnmade {S : Type 0} (g : Ghosts S) (before : Held S) (R : Register)
   pub survives : Survives (state g before) (state g after)
       (λ trees. AreTables trees (tables_of R))
 
--- the fault of a register that is not good: it names the table of the first list that does not fit
+-- the fault of a register that is not good and staffed: it names the table of the first list that
+-- does not fit
 pub record IsOfUnfit (R : Register) (cause : StoreFault) : Type 0 where
-  pub bad : IsGood R → ⊥
+  pub bad : IsFit R → ⊥
   pub table : TableName
   pub first : table_at_fault R ≡ Some table
   pub named : cause ≡ BadRow table
 
--- the rows of tables give a register, but not a good one
+-- the rows of tables give a register, but not one that is good and staffed
 abbrev pub RefusesUnfit : Tables → StoreFault → Type 0
 RefusesUnfit t cause = (book : Shelved)
     × OpensAs (λ (b : Shelved). b.register) (rows_read t) (Ok book) × IsOfUnfit book.register cause
 
 -- why tables are not opened: the database refuses them, their version does not read or is not 2,
--- their rows give no register, or one that is not good
+-- their rows give no register, or one that is not good and staffed
 abbrev pub RefusesTables : Tables → StoreFault → Type 0
 RefusesTables t cause = RefusesVersion (read_version t.meta) cause
     ⊎ OpensAs (λ (book : Shelved). book.register) (rows_read t) (Err cause)

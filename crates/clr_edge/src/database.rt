@@ -9,6 +9,7 @@ ghost use Rattle.sqlite_disk.specs.declared.Files.{Files as DiskFiles};
 ghost use Rattle.clr_disk.specs.Opened.{AreLetGo, HasBytes, IsOpenedAt, IsShutAt};
 ghost use Rattle.clr_load.specs.Cause.{fault_of};
 ghost use Rattle.clr_rules.specs.Good.{IsGood};
+ghost use Rattle.clr_rules.specs.Staffed.{IsStaffed};
 ghost use Rattle.clr_rules.specs.Register.{Register, opening};
 ghost use Rattle.clr_edge.specs.Database.{HasNoBytes, HasRegister, IsMade, IsMoved, IsOfLine};
 ghost use Rattle.clr_edge.specs.Database.{IsOfStore, IsOfUnfit, IsOnlyRead, IsRefused, IsShutBy};
@@ -294,13 +295,14 @@ fn register_moved<S: Alter + Drop>(connection: Connection<S>) -> (Result<(), Fau
 /// Opens a desk over the register that a database has, which is only read. A fault gives the
 /// database back.
 ///
-/// `Store(BadRow)` also where the rows give a register that is not good: it names the first table
-/// whose rows do not fit the others.
+/// `Store(BadRow)` also where the rows give a register that is not good and staffed: it names the
+/// first table whose rows do not fit the others or the staff.
 pub fn desk_over<S: Alter + Drop>(
     alloc: Global,
     connection: Connection<S>,
 ) -> Result<Desk<Store<S>>, (Fault, Connection<S>)>
     ensures good { IfOk result (λ desk. IsGood desk.book.register) }
+    ensures staffed { IfOk result (λ desk. IsStaffed desk.book.register) }
     ensures register { (R : Register) → HasRegister S.Store R connection → IfOk result (λ desk.
         HasCleanDisk (state S.Store desk.store) → desk.book.register ≡ R) }
     ensures reads { IfOk result (λ desk.
@@ -326,9 +328,10 @@ pub fn desk_over<S: Alter + Drop>(
     }
 }
 
-/// Refuses a register that is not good.
+/// Refuses a register that is not good and staffed.
 fn expect_good<S: Alter + Drop>(alloc: Global, desk: &Desk<Store<S>>) -> Result<(), StoreFault>
     ensures good { OnOk result (IsGood desk.now.book.register) }
+    ensures staffed { OnOk result (IsStaffed desk.now.book.register) }
     ensures fault { IfErr result (λ cause. (cause ≡ StoreFault.NoMemory)
         ⊎ IsOfUnfit desk.now.book.register cause) }
 {

@@ -1,7 +1,7 @@
 use Rattle.std.proofs.Common.{◌≡◌, ◌∙◌, ⊎_elim, ap, inl, inr, subst, sym}
 use Rattle.sqlite.specs.Held.{Held, state}
 use Rattle.sqlite.specs.State.{HasCleanDisk, Survives}
-use Rattle.clr_rules.specs.Good.{IsGood}
+use Rattle.clr_rules.specs.Fit.{IsFit}
 use Rattle.clr_rules.specs.Register.{Register}
 use Rattle.clr_load.specs.Cause.{SqlHasCause}
 use Rattle.clr_load.specs.Stored.{HasTables}
@@ -92,7 +92,7 @@ returns-in-Ok-expect_good-clause-read g c = record {
   survives = survives_on _ _ _ c.in-Ok.ensures.crash_opened c.in-Ok-open.ensures.survives;
 }
 
--- a register that is known is good
+-- a register that is known is good and staffed
 pub returns-in-Err-expect_good-clause-fault : goal.returns-in-Err-expect_good-clause-fault
 returns-in-Err-expect_good-clause-fault g c R known clean_back =
     let back : c.end-in-Err-expect_good-2.result ≡ c.in-Ok-open.desk.store = cc in
@@ -104,7 +104,7 @@ returns-in-Err-expect_good-clause-fault g c R known clean_back =
     (subst (λ db. HasTables db (tables_of R)) (sym same) known.tables) in
     subst (λ fault. IsOfLine fault) (sym c.from-in-Err-expect_good.ensures)
     (IsOfLine-unfit c.in-Ok-open.desk.book.register c.in-Err-expect_good.cause
-    (subst (λ (r : Register). IsGood r) (sym is) known.good) c.in-Err-expect_good.ensures.fault)
+    (subst (λ (r : Register). IsFit r) (sym is) (known.good, known.staffed)) c.in-Err-expect_good.ensures.fault)
 
 -- the tables are those of a register that is not good
 pub returns-in-Err-expect_good-clause-told : goal.returns-in-Err-expect_good-clause-told
