@@ -12,6 +12,7 @@ use Rattle.clr_rules.specs.RunHeadline.{IsRun, RunsChangeNoReply, RunsStandAlone
 use Rattle.clr_rules.specs.Shown.{is_own_command}
 use Rattle.clr_rules.specs.declared.command.Command.{Command}
 use Rattle.clr_rules.specs.declared.reply.Reply.{Reply}
+use Rattle.clr_rules.proofs.good.CrewSafety.{runs_are_safe}
 use Rattle.clr_rules.proofs.isolation.RunReplies.{own_replies_are}
 use Rattle.clr_http.specs.Asked.{MayAskAt, commands_asked, own_among, reply_bytes, with_asked}
 use Rattle.clr_http.specs.Carried.{CarriesAt, IsToldAt}
@@ -177,6 +178,7 @@ module _ {D M L R W : Type 0} (by : registrar.Ghosts D) (net : loopback.Ghosts M
         headline = same (by.keeper k).register (commands_asked all.carried) told (by.keeper k').register run;
         untouched = nothing (by.keeper k).register (commands_asked all.carried);
         alone = alone (by.keeper k).register (commands_asked all.carried) told (by.keeper k').register run;
+        safe = runs_are_safe (by.keeper k).register (commands_asked all.carried) told (by.keeper k').register run;
       }
 
   -- and so it is once all were taken

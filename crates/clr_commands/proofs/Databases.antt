@@ -5,7 +5,10 @@ use Rattle.std.specs.declared.alloc.Global.{Global}
 use Rattle.sqlite.specs.Held.{Held, state}
 use Rattle.sqlite.specs.State.{HasCleanDisk, Survives}
 use Rattle.sqlite_trees.specs.declared.store.Store.{Ghosts}
+use Rattle.clr_rules.specs.CrewSafety.{CrewsAreSafe}
+use Rattle.clr_rules.specs.Fit.{IsFit}
 use Rattle.clr_rules.specs.Good.{IsGood}
+use Rattle.clr_rules.proofs.good.CrewSafety.{crews_are_safe}
 use Rattle.clr_rules.specs.Register.{Register}
 use Rattle.clr_edge.specs.Database.{HasRegister, IsOfLine, IsOnlyRead, IsRefused, ReadsAs}
 use Rattle.clr_edge.specs.declared.fault.Fault.{Fault}
@@ -38,19 +41,19 @@ unanswered g IsOwn before after Q (Err fault) own reads read = record { cause = 
 
 -- what is printed is of that register
 printed_of : {S : Type 0} (g : Ghosts S) (Is : Register → Result (List ℕ) Fault → Type 0) (result : Result (String Global) Fault) (before after : Held S) (Q : Register)
-    → IsGood Q → ReadsAs g before after Q → Prints IsMemory (Is Q) result
-    → IfOk result (λ text. (R : Register) × IsGood R × ReadsAs g before after R × Is R (Ok (string_bytes text)))
-printed_of g Is (Ok text) before after Q good reads gives = (Q, good, reads, gives)
-printed_of g Is (Err fault) before after Q good reads gives = tt
+    → IsFit Q → ReadsAs g before after Q → Prints IsMemory (Is Q) result
+    → IfOk result (λ text. (R : Register) × IsFit R × CrewsAreSafe R × ReadsAs g before after R × Is R (Ok (string_bytes text)))
+printed_of g Is (Ok text) before after Q fit reads gives = (Q, fit, crews_are_safe Q (IsGood.said fit.0), reads, gives)
+printed_of g Is (Err fault) before after Q fit reads gives = tt
 
 -- what is answered of the register Q that was read from a database
 pub AnswersOf-read : {S : Type 0} (g : Ghosts S) (IsOwn : Fault → Type 0) (Is : Register → Result (List ℕ) Fault → Type 0) (result : Result (String Global) Fault)
     (before after : Held S) (Q : Register) → ((R : Register) → HasRegister g R before → HasCleanDisk (state g after) → Q ≡ R)
-    → IsGood Q → ReadsAs g before after Q → IsOnlyRead g before after → Prints IsMemory (Is Q) result → IfErr result IsOwn
+    → IsFit Q → ReadsAs g before after Q → IsOnlyRead g before after → Prints IsMemory (Is Q) result → IfErr result IsOwn
     → AnswersOf g IsOwn Is result before after
-AnswersOf-read g IsOwn Is result before after Q is_register good reads read gives own = record {
+AnswersOf-read g IsOwn Is result before after Q is_register fit reads read gives own = record {
   known = λ R has clean. gives_line (Is Q) (Is R) result (λ known is. subst (λ (P : Register). Is P known) (is_register R has clean) is) gives;
-  printed = printed_of g Is result before after Q good reads gives;
+  printed = printed_of g Is result before after Q fit reads gives;
   read = OnOk-any result (IsOnlyRead g before after) read;
   refused = unanswered g IsOwn before after Q result own reads read;
 }
@@ -69,10 +72,10 @@ AnswersOf-refused g IsOwn Is fault before after line refused survives = record {
 -- the same of an answer that is computed
 pub PrintsOf-read : {S : Type 0} (g : Ghosts S) (IsOwn : Fault → Type 0) (answer : Register → Result (List ℕ) Fault) (result : Result (String Global) Fault)
     (before after : Held S) (Q : Register) → ((R : Register) → HasRegister g R before → HasCleanDisk (state g after) → Q ≡ R)
-    → IsGood Q → ReadsAs g before after Q → IsOnlyRead g before after → GivesText IsMemory (answer Q) result → IfErr result IsOwn
+    → IsFit Q → ReadsAs g before after Q → IsOnlyRead g before after → GivesText IsMemory (answer Q) result → IfErr result IsOwn
     → PrintsOf g IsOwn answer result before after
-PrintsOf-read g IsOwn answer result before after Q is_register good reads read gives own =
-    AnswersOf-read g IsOwn (λ R known. answer R ≡ known) result before after Q is_register good reads read gives own
+PrintsOf-read g IsOwn answer result before after Q is_register fit reads read gives own =
+    AnswersOf-read g IsOwn (λ R known. answer R ≡ known) result before after Q is_register fit reads read gives own
 
 pub PrintsOf-refused : {S : Type 0} (g : Ghosts S) (IsOwn : Fault → Type 0) (answer : Register → Result (List ℕ) Fault) (fault : Fault)
     (before after : Held S) → ((R : Register) → HasRegister g R before → HasCleanDisk (state g after) → IsOfLine fault)

@@ -14,4 +14,5 @@ pub mod RunAnswers
 pub mod RunOfInput
 pub mod Serving
 pub mod Verifies
+pub mod WaysBack
 pub mod Written

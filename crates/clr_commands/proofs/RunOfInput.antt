@@ -2,6 +2,7 @@
 use Rattle.std.proofs.Common.{◌≡◌, ◌<◌, ℕ, List, length, subst}
 use Rattle.std.specs.Prelude.{IfNone, IfSome}
 use Rattle.sqlite.specs.State.{HasCleanDisk, State}
+use Rattle.clr_rules.specs.CrewSafety.{CrewsWorkSafely}
 use Rattle.clr_rules.specs.Good.{IsGood}
 use Rattle.clr_rules.specs.RunHeadline.{IsRun, OthersChangeNoReply, OthersTakeNothing, OwnStandAlone, with_reply}
 use Rattle.clr_rules.specs.declared.command.Command.{Command}
@@ -31,6 +32,7 @@ pub record RunsAll {K : Type 0} (fails : DeskFault → Type 0) (kept : K → Sta
   pub headline : OthersChangeNoReply old.book.register (with_reply commands run.replies.items) run.replies.items new.book.register
   pub untouched : OthersTakeNothing old.book.register (with_reply commands run.replies.items)
   pub alone : OwnStandAlone old.book.register (with_reply commands run.replies.items) run.replies.items
+  pub safe : CrewsWorkSafely old.book.register (with_reply commands run.replies.items) new.book.register
   pub taken : TakesRun takes new.book.register old.store commands run.replies.items run.fault new.store
   pub keeps : Keeps (kept old.store) old.book.register (kept new.store) new.book.register
   pub crash : HasCleanDisk (kept new.store)
@@ -57,6 +59,7 @@ answers_over fails kept takes old new input run commands readings printed asked 
           headline = on.headline;
           untouched = on.untouched;
           alone = on.alone;
+          safe = on.safe;
           prints = subst (λ (rs : List Reading). PrintsAnswers (answers rs run.replies.items) run.fault printed) read prints;
           lines = λ good. answers_are old.book.register new.book.register (asked_lines input) run.replies.items (on.ran good);
         };

@@ -5,6 +5,7 @@ use Rattle.std.specs.Prelude.{Option, None, Some, Result}
 use Rattle.clr_stream.specs.Streams.{Stream}
 use Rattle.clr_rules.specs.Agreement.{Agree}
 use Rattle.clr_rules.specs.Answer.{Answer, answer}
+use Rattle.clr_rules.specs.CrewSafety.{CrewsWorkSafely}
 use Rattle.clr_rules.specs.Id.{Id}
 use Rattle.clr_rules.specs.Isolation.{ShowTheSame}
 use Rattle.clr_rules.specs.Register.{Register}
@@ -70,8 +71,8 @@ module _ {D M L R W : Type 0} (by : registrar.Ghosts D) (net : loopback.Ghosts M
   CarriesAll number d d' errors errors' old new [] (response ∷ others) = ⊥
   CarriesAll number d d' errors errors' old new (carried ∷ later) [] = ⊥
 
-  -- WHAT IS SAID OF THE FIRST CONNECTIONS: what each carries out, of which the responses are a run,
-  -- and the three statements hold of it
+  -- WHAT IS SAID OF THE FIRST CONNECTIONS: what each carries out, of which the responses are a run;
+  -- the three statements hold of it, and crews work safely in it
   pub record ConnectionsHaveRun (n : ℕ) (d d' : D) (errors errors' : Stream) (old new : M)
       : Type 0 where
     pub carried : List (Option Command)
@@ -84,6 +85,8 @@ module _ {D M L R W : Type 0} (by : registrar.Ghosts D) (net : loopback.Ghosts M
         (by.keeper d').register
     pub untouched : OthersTakeNothing (by.keeper d).register (commands_asked carried)
     pub alone : OwnStandAlone (by.keeper d).register (commands_asked carried) told
+    pub safe : CrewsWorkSafely (by.keeper d).register (commands_asked carried)
+        (by.keeper d').register
 
 -- TWO RUNS THAT SHOW A CLEARANCE THE SAME, of connections of ports or of requests in memory: the
 -- responses to its own requests are the same bytes, and the registers that are left agree again

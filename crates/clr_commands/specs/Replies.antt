@@ -5,6 +5,7 @@ use Rattle.std.specs.Prelude.{IfNone, IfSome, Option, Some, Result, Ok, Err, fil
 use Rattle.std.specs.Prelude.{map, option_map, string_bytes, take}
 use Rattle.std.specs.List.{flat_map, slice_split}
 use Rattle.sqlite.specs.State.{HasCleanDisk, State}
+use Rattle.clr_rules.specs.CrewSafety.{CrewsWorkSafely}
 use Rattle.clr_rules.specs.Good.{IsGood}
 use Rattle.clr_rules.specs.Register.{Register}
 use Rattle.clr_rules.specs.RunHeadline.{IsRun, OthersChangeNoReply, OthersTakeNothing}
@@ -100,8 +101,9 @@ pub record AnswerLines (R : Register) (lines texts : List (List ℕ)) (S : Regis
 -- ---- the run
 
 -- THE RUN of an input over the register R: `told` are the replies to its commands, up to a fault,
--- and S is what these leave. Each line has its answer printed, and what others ask changes no reply
--- and takes nothing away. A fault is one that what keeps the changes has, or memory ran out.
+-- and S is what these leave. Each line has its answer printed, what others ask changes no reply and
+-- takes nothing away, and crews work safely. A fault is one that what keeps the changes has, or
+-- memory ran out.
 pub record AnswersInput (fails : DeskFault → Type 0) (R S : Register) (input : List ℕ)
     (told : List Reply) (printed : Printed) : Type 0 where
   pub ended : Option DeskFault
@@ -113,6 +115,7 @@ pub record AnswersInput (fails : DeskFault → Type 0) (R S : Register) (input :
   pub headline : OthersChangeNoReply R (answered_commands input told) told S
   pub untouched : OthersTakeNothing R (answered_commands input told)
   pub alone : OwnStandAlone R (answered_commands input told) told
+  pub safe : CrewsWorkSafely R (answered_commands input told) S
   pub prints : PrintsAnswers (answers (readings_of (asked_lines input)) told) ended printed
   pub lines : IsGood R
       → AnswerLines R (asked_lines input) (answers (readings_of (asked_lines input)) told) S

@@ -7,7 +7,8 @@ use Rattle.sqlite.specs.Held.{Held, state}
 use Rattle.sqlite.specs.State.{HasCleanDisk, Survives}
 use Rattle.sqlite_disk.specs.declared.Disk as disk
 use Rattle.sqlite_trees.specs.declared.store.Store.{Ghosts}
-use Rattle.clr_rules.specs.Good.{IsGood}
+use Rattle.clr_rules.specs.CrewSafety.{CrewsAreSafe}
+use Rattle.clr_rules.specs.Fit.{IsFit}
 use Rattle.clr_rules.specs.Register.{Register}
 use Rattle.clr_print.specs.Printed.{board_text}
 use Rattle.clr_args.specs.declared.asked.BoardArgs.{BoardArgs}
@@ -33,15 +34,16 @@ pub record IsUnanswered {S : Type 0} (g : Ghosts S) (before after : Held S)
   pub survives : Survives (state g before) (state g after) (λ _. ⊥)
 
 -- WHAT IS ANSWERED OF A DATABASE while it is open: of the register that it is known to have, unless
--- the database refuses or memory runs out. What is printed is of a good register that its tables
--- read as, on a clean disk: of tables that read as none nothing is printed there. It was only read
+-- the database refuses or memory runs out. What is printed is of a good and staffed register that
+-- its tables read as, on a clean disk, and in which crews are safe: of tables that read as none
+-- nothing is printed there. It was only read
 pub record AnswersOf {S : Type 0} (g : Ghosts S) (IsOwn : Fault → Type 0)
     (Is : Register → Result (List ℕ) Fault → Type 0) (result : Result (String Global) Fault)
     (before after : Held S) : Type 0 where
   pub known : (R : Register) → HasRegister g R before → HasCleanDisk (state g after)
       → Prints IsOfLine (Is R) result
-  pub printed : IfOk result (λ text. (R : Register) × IsGood R × ReadsAs g before after R
-      × Is R (Ok (string_bytes text)))
+  pub printed : IfOk result (λ text. (R : Register) × IsFit R × CrewsAreSafe R
+      × ReadsAs g before after R × Is R (Ok (string_bytes text)))
   pub read : OnOk result (IsOnlyRead g before after)
   pub refused : IfErr result (IsUnanswered g before after IsOwn)
 

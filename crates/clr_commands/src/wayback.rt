@@ -2,11 +2,12 @@
 ghost use Rattle.std.specs.Prelude.{◌≡◌, IfErr};
 ghost use Rattle.clr_rules.specs.Good.{IsGood};
 ghost use Rattle.clr_rules.specs.IdText.{read_id};
-ghost use Rattle.clr_commands.specs.Answers.{GivesText, IsMemory};
+ghost use Rattle.clr_rules.specs.Staffed.{IsStaffed};
+ghost use Rattle.clr_commands.specs.Answers.{GivesText, IsMemory, Prints};
 ghost use Rattle.clr_commands.specs.Faults.{IsOfSubcommand};
-ghost use Rattle.clr_commands.specs.Stored.{PrintsOf};
-ghost use Rattle.clr_commands.specs.WayBack.{IsOfWayBack, PrintsWayBack, way_back_asked_for};
-ghost use Rattle.clr_commands.specs.WayBack.{way_back_to};
+ghost use Rattle.clr_commands.specs.Stored.{AnswersOf};
+ghost use Rattle.clr_commands.specs.WayBack.{GivesBackTo, IsOfWayBack, IsWayBackOf};
+ghost use Rattle.clr_commands.specs.WayBack.{PrintsWayBack, way_back_to};
 ghost use Rattle.clr_edge.specs.Visit.{Comes};
 
 use clr_args::asked::WayBackArgs;
@@ -44,8 +45,8 @@ fn wayback_over<S: Alter + Drop>(
     connection: Connection<S>,
     args: &WayBackArgs<'_>,
 ) -> (Result<String, Fault>, Connection<S>)
-    ensures printed { PrintsOf S.Store IsOfWayBack (λ Q. way_back_asked_for Q args.now) result.0
-        connection result.1 }
+    ensures printed { AnswersOf S.Store IsOfWayBack (IsWayBackOf args.now) result.0 connection
+        result.1 }
     ensures faults { IfErr result.0 IsOfSubcommand }
 {
     match desk_over(alloc, connection) {
@@ -60,8 +61,9 @@ fn wayback_over<S: Alter + Drop>(
 
 /// The way back of the clearance that a word names, in a good book, which is used up.
 ///
-/// `NoSuch` where the word names no clearance, or the book has no such clearance; `NoWay` where a
-/// step of it is given out and the staff has no field employee.
+/// `NoSuch` where the word names no clearance, or the book has no such clearance; `NoWay` where one
+/// of the commands would be refused. Of a book that is staffed too, that is only where a step of the
+/// clearance is given out and the staff has no field employee.
 pub fn wayback_of<P, C, T, H>(
     alloc: Global,
     book: Book<P, C, T, H>,
@@ -75,6 +77,8 @@ where
     requires { IsGood book.register }
     ensures answer { GivesText IsMemory
         (way_back_to book.register (read_id clearance.now)) result }
+    ensures back { IsStaffed book.register → Prints IsMemory (λ known.
+        GivesBackTo book.register (read_id clearance.now)) result }
     ensures faults { IfErr result IsOfWayBack }
 {
     let Ok(id) = ClearanceId::read(clearance) else {

@@ -19,7 +19,7 @@ returns-in-Ok-clause-printed g c =
     PrintsOf-read g.S.Store (λ fault. IsOfOrder fault) (λ (Q : Register). order_asked_for Q c.args.args.now) c.order_of-printed.result
     c.args.connection c.end-in-Ok.result c.in-Ok.desk.book.register
     (λ R has clean. c.in-Ok.ensures.register R has (subst (λ (h : Held g.row.S.Denot). HasCleanDisk (state g.S.Store h)) same clean))
-    c.in-Ok.ensures.good (subst (λ (h : Held g.row.S.Denot). ReadsAs g.S.Store c.args.connection h c.in-Ok.desk.book.register) (sym same) c.in-Ok.ensures.reads)
+    (c.in-Ok.ensures.good, c.in-Ok.ensures.staffed) (subst (λ (h : Held g.row.S.Denot). ReadsAs g.S.Store c.args.connection h c.in-Ok.desk.book.register) (sym same) c.in-Ok.ensures.reads)
     (subst (λ (h : Held g.row.S.Denot). IsOnlyRead g.S.Store c.args.connection h) (sym same) c.in-Ok.ensures.read)
     (subst (λ (Q : Register). GivesText IsMemory (order_asked_for Q c.args.args.now) c.order_of-printed.result) register
     c.order_of-printed.ensures.answer)

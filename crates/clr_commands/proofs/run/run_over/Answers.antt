@@ -29,6 +29,7 @@ returns-clause-answer g c =
       near = c.run-run.ensures.near;
       ran = c.run-run.ensures.ran;
       headline = c.run-run.ensures.headline;
+      safe = c.run-run.ensures.safe;
       untouched = c.run-run.ensures.untouched;
       alone = c.run-run.ensures.alone;
       taken = c.run-run.ensures.taken;

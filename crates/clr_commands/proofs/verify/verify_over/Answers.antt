@@ -18,7 +18,7 @@ returns-in-Ok-clause-printed g c =
     AnswersOf-read g.S.Store (λ fault. IsOfVerify fault) (IsVerified c.args.rerun.now) c.verified-printed.result
     c.args.connection c.end-in-Ok.result c.in-Ok.desk.book.register
     (λ R has clean. c.in-Ok.ensures.register R has (subst (λ (h : Held g.row.S.Denot). HasCleanDisk (state g.S.Store h)) same clean))
-    c.in-Ok.ensures.good (subst (λ (h : Held g.row.S.Denot). ReadsAs g.S.Store c.args.connection h c.in-Ok.desk.book.register) (sym same) c.in-Ok.ensures.reads)
+    (c.in-Ok.ensures.good, c.in-Ok.ensures.staffed) (subst (λ (h : Held g.row.S.Denot). ReadsAs g.S.Store c.args.connection h c.in-Ok.desk.book.register) (sym same) c.in-Ok.ensures.reads)
     (subst (λ (h : Held g.row.S.Denot). IsOnlyRead g.S.Store c.args.connection h) (sym same) c.in-Ok.ensures.read)
     (subst (λ (Q : Register). Prints IsMemory (IsVerified c.args.rerun.now Q) c.verified-printed.result) register c.verified-printed.ensures.answer)
     c.verified-printed.ensures.faults
