@@ -20,13 +20,15 @@ use Rattle.clr_edge.specs.TakenUp.{Logs}
 use Rattle.clr_edge.specs.declared.loopback.Loopback as loopback
 use Rattle.clr_journal.specs.Line.{Entry}
 use Rattle.clr_journaled.specs.Redo.{IsRead, redone_by}
-use Rattle.clr_commands.specs.Answers.{GivesText}
+use Rattle.clr_commands.specs.Answers.{GivesText, Prints}
 use Rattle.clr_commands.specs.Connections.{ReportsConnection, Seen, TakesFirst, TakesNext}
 use Rattle.clr_commands.specs.Desks.{over_store, with_journal}
 use Rattle.clr_commands.specs.Logins.{NamesLogins, terms_with}
 use Rattle.clr_commands.specs.Paths.{AtPaths}
 use Rattle.clr_commands.specs.Serve.{ServesAt, ServesKeeper, ServesKept, ServesLogged, ServesOver, ServesRead}
+use Rattle.clr_args.specs.declared.asked.WayBackArgs.{WayBackArgs}
 use Rattle.clr_commands.specs.Stored.{PrintsOf, WhileOpen}
+use Rattle.clr_commands.specs.WayBack.{IsWayBackOf, PrintsWayBack, way_back_asked_for}
 use Rattle.clr_known.specs.Known.{IsAlwaysClean, IsAskedForBoard, IsBoardResponse, KnowsJones, ServesOnce, fresh, jones_register, once_at}
 use Rattle.clr_known.proofs.BoardServed.{begins, board_sent}
 
@@ -51,6 +53,18 @@ module _ {M D : Type 0} (g : disk.Ghosts D) (clean : IsAlwaysClean g)
       subst (λ (r : Result (String Global) Fault). GivesText IsOfLine (answer jones_register) r) (sym is) (λ other. absurd (other of_line))
   answer_given path IsOwn answer result old new (inr visit) =
       visit.does.1.known jones_register (knows _ _ _ _ visit.opened) (clean visit.after)
+
+  -- the same of a way back, which closes its record alone besides
+  pub way_back_given : (path : List ℕ) (args : WayBackArgs) (result : Result (String Global) Fault) (old new : M)
+      → Comes g opens shuts ends path (PrintsWayBack args) result old new → GivesText IsOfLine (way_back_asked_for jones_register args) result
+  way_back_given path args result old new (inl (fault, is, of_line, shut)) =
+      subst (λ (r : Result (String Global) Fault). GivesText IsOfLine (way_back_asked_for jones_register args) r) (sym is) (λ other. absurd (other of_line))
+  way_back_given path args result old new (inr visit) =
+      told result (visit.does.1.known jones_register (knows _ _ _ _ visit.opened) (clean visit.after))
+    where
+      told : (result : Result (String Global) Fault) → Prints IsOfLine (IsWayBackOf args jones_register) result → GivesText IsOfLine (way_back_asked_for jones_register args) result
+      told (Ok text) prints = prints.0
+      told (Err fault) prints = λ other. (prints other).0
 
   module _ {L R W J C : Type 0} (logs : Logs M J C) (net : loopback.Ghosts M L R W) (seen : Seen R W) (response : M → List ℕ)
       (asked : IsAskedForBoard ends logs.steps net seen response) where

@@ -4,6 +4,7 @@ ghost use Rattle.sqlite.specs.Files.{over_files};
 ghost use Rattle.sqlite.specs.Held.{state};
 ghost use Rattle.sqlite.specs.State.{HasCleanDisk};
 ghost use Rattle.clr_rules.specs.Good.{IsGood};
+ghost use Rattle.clr_rules.specs.Run.{IsReached};
 ghost use Rattle.clr_examples.specs.Worked.{worked_net, worked_opening, worked_staff};
 ghost use Rattle.clr_rules.specs.declared.command.Command.{Command as AnyCommand};
 ghost use Rattle.clr_load.specs.Contract.{IsSaved};
@@ -159,6 +160,7 @@ fn jones_desk<S: Alter + Drop>(
     connection: Connection<S>,
 ) -> Result<Desk<Store<S>>, Fault>
     ensures good { OnOk result (IsGood jones_register) }
+    ensures reached { OnOk result (IsReached jones_register) }
     ensures typed { OnOk result (IsTyped jones_register) }
     ensures tables { IfOk result (λ desk. HasCleanDisk (state S.Store desk.store)
         → HasTables (state S.Store desk.store).now (tables_of jones_register)) }
@@ -178,6 +180,7 @@ fn opening_desk<S: Alter + Drop>(
 ) -> Result<Desk<Store<S>>, Fault>
     ensures register { IfOk result (λ desk. desk.book.register ≡ worked_opening) }
     ensures good { OnOk result (IsGood worked_opening) }
+    ensures reached { OnOk result (IsReached worked_opening) }
     ensures typed { OnOk result (IsTyped worked_opening) }
     ensures made { IfOk result (λ desk. HasCleanDisk (state S.Store desk.store)
         → IsSaved (state S.Store desk.store)

@@ -1,10 +1,8 @@
 use Rattle.std.specs.Prelude.{codes}
-use Rattle.clr_rules.specs.IdText.{read_id}
-use Rattle.clr_commands.specs.WayBack.{way_back_to}
-use Rattle.clr_known.proofs.KnownVisits.{answer_given}
+use Rattle.clr_known.proofs.KnownVisits.{way_back_given}
 use Rattle.clr_known.proofs.answers.way_back_of_jones.Goals as goal
 
 pub returns : goal.returns
-returns g c = answer_given g.R.Medium.Disk g.met.R.JonesMachine.clean g.R.Databases.opens g.R.Databases.shuts g.R.Databases.ends
-    g.met.R.JonesMachine.knows (codes "jones.db") _ (λ Q. way_back_to Q (read_id (codes "JONES/1"))) c.wayback.result c.args.machine.now
+returns g c = way_back_given g.R.Medium.Disk g.met.R.JonesMachine.clean g.R.Databases.opens g.R.Databases.shuts g.R.Databases.ends
+    g.met.R.JonesMachine.knows (codes "jones.db") _ c.wayback.result c.args.machine.now
     c.wayback.new.rt c.wayback.ensures.visit

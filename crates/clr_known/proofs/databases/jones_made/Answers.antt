@@ -2,6 +2,7 @@ use Rattle.std.proofs.Common.{◌∙◌, subst, sym}
 use Rattle.sqlite.specs.Held.{Held, state}
 use Rattle.sqlite.specs.State.{HasCleanDisk}
 use Rattle.clr_load.specs.Stored.{HasTables}
+use Rattle.clr_rules.proofs.staffed.EveryKind.{reached_are_staffed}
 use Rattle.clr_tables.specs.Tables.{tables_of}
 use Rattle.clr_known.specs.Known.{jones_register}
 use Rattle.clr_known.proofs.databases.jones_made.Goals as goal
@@ -10,6 +11,7 @@ pub returns-in-Ok : goal.returns-in-Ok
 returns-in-Ok g c clean =
     let same = c.end-in-Ok.ensures.connection ∙ c.end.ensures in record {
       good = c.in-Ok.ensures.good;
+      staffed = reached_are_staffed jones_register c.in-Ok.ensures.reached;
       typed = c.in-Ok.ensures.typed;
       tables = subst (λ (h : Held g.row.S.Denot). HasTables (state g.S.Store h).now (tables_of jones_register)) (sym same)
           (c.in-Ok.ensures.tables (subst (λ (h : Held g.row.S.Denot). HasCleanDisk (state g.S.Store h)) same clean));
