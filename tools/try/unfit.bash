@@ -1,6 +1,6 @@
 # Databases whose rows read, but give a register that no commands lead to: each is refused by the name of the first
-# table, in the order network_point, clearance, step, hold, whose rows do not fit the others. Read by tools/try-program,
-# after databases.bash.
+# table, in the order network_point, clearance, step, hold, whose rows do not fit the others, and then of the first whose
+# rows the staff does not fit. Read by tools/try-program, after databases.bash.
 
 # after COUNT PATH: the register that the first commands of the shift leave.
 after() {
@@ -51,6 +51,27 @@ unfit granted hold 'a crew without a ground' "DELETE FROM hold WHERE kind = 'Gro
 unfit granted hold 'a test outside the fence' "INSERT INTO hold VALUES ('Tested', 'L3', 'JONES', 1)"
 unfit granted hold 'a crew of a clearance that is released' "UPDATE clearance SET phase = 'Released' WHERE $of_jones"
 unfit restoring hold 'a hold that the restoring steps leave on' "INSERT INTO hold VALUES ('Control', 'S2', 'JONES', 1)"
+
+# The staff has to be able to end each clearance.
+unfit granted clearance 'a holder who is not in the staff' "UPDATE clearance SET holder = 'NOBODY' WHERE $of_jones"
+unfit granted clearance 'a holder who is in the field' "UPDATE clearance SET holder = 'REED' WHERE $of_jones"
+unfit given step 'steps, and no operator' "DELETE FROM staff WHERE role = 'operator'"
+unfit restoring step 'a restoring order with nothing left to do' \
+  "UPDATE step SET state = 'Done', reader = 'REED' WHERE round = 2" 'DELETE FROM hold' \
+  'UPDATE network_point SET hand_requester = NULL, hand_number = NULL'
+unfit granted hold 'a held point, and nobody in the field' "DELETE FROM staff WHERE role = 'field'"
+
+# Only what is open binds: a closed record may name a section, a point and a holder that are gone.
+after 53 "$work/closed.db"
+opens() {
+  cp "$work/closed.db" "$place/room.db"
+  write_to "$place/room.db" "$2"
+  try "the board, with $1" 0 "~BOARD 0$feed" '' board "$place/room.db"
+  rm -f "$place"/*
+}
+opens 'a closed record whose section is gone' "UPDATE clearance SET work = 'ZZ' WHERE phase = 'Closed' AND work IS NOT NULL"
+opens 'a closed record with a step at a point that is gone' "UPDATE step SET point = 'ZZ' WHERE $of_jones AND ordinal = 1"
+opens 'a closed record whose holder is gone' "UPDATE clearance SET holder = 'NOBODY' WHERE phase = 'Closed'"
 
 # An administrator puts an older file back, and leaves the newer log beside it. The file has the order, the log the page
 # of the clearances alone, on which the order is granted: its steps wait, and nothing is held.
