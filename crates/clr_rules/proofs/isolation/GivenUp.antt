@@ -1,11 +1,11 @@
 -- A good and staffed register stays so without the steps of some closed records.
-use Rattle.std.proofs.Common.{◌≡◌, ◌∙◌, ◌⊎◌, ℕ, Bool, true, false, not, ◌&&◌, IsTrue, List, [], ◌∷◌, Some, All, refl, sym, ap, subst, filter}
+use Rattle.std.proofs.Common.{◌≡◌, ◌∙◌, ◌⊎◌, ℕ, Bool, true, false, not, ◌&&◌, IsTrue, List, [], ◌∷◌, Some, refl, sym, ap, subst, filter}
 use Rattle.std.proofs.lemmas.List.Elements.{All-filter, All-nil, All-weaker, filter_passes}
-use Rattle.clr_rules.proofs.Common.{AreAtPoints, Grid, IsGood, IsGoodByPhase, IsInPlace, Outlook, active_at, all_done, and_parts, any_from, both_ways, false≢true, false_from_ne_true, filter-filter_wider, go_in_turn, has_hold}
-use Rattle.clr_rules.proofs.Common.{has_in_hand, has_name, is_active, is_closing_at, is_open, is_point_kind, is_some_step, not-true, of_round, one_id, outlook_of, point_names, same_id, same_name, same_Some}
-use Rattle.clr_rules.proofs.Common.{some_active, some_from, steps_in, steps_of, list_any}
+use Rattle.clr_rules.proofs.Common.{AreAtPoints, Grid, IsGood, IsGoodByPhase, IsInPlace, active_at, all_done, and_parts, any_from, both_ways, false≢true, false_from_ne_true, filter-filter_wider, go_in_turn}
+use Rattle.clr_rules.proofs.Common.{has_name, is_active, is_closing_at, is_open, is_some_step, not-true, one_id, outlook_of, point_names, same_id, same_name, same_Some}
+use Rattle.clr_rules.proofs.Common.{some_active, some_from, steps_in, steps_of}
 use Rattle.clr_rules.specs.GoodByPhase.{InClosed, InPhase, InPlaceAs}
-use Rattle.clr_rules.specs.Prelude.{HoldKind, HeldOpen, Phase, Closed, Record, StepRow, Id, Register, record_of, is_restoring}
+use Rattle.clr_rules.specs.Prelude.{Phase, Closed, Record, StepRow, Id, Register, record_of, is_restoring}
 use Rattle.clr_rules.specs.Records.{is_closed}
 use Rattle.clr_rules.specs.Staffed.{IsStaffed}
 use Rattle.clr_rules.specs.laws.ClosedSteps.{AreClosed, AreOneBut, ClosedStepsMayGo, without_steps_of}
