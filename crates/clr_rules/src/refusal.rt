@@ -95,7 +95,7 @@ pub enum Refusal {
 }
 
 impl Refusal {
-    /// The refusal's number, from 1 to 35.
+    /// The refusal's number; they count from 1.
     pub fn number(self) -> u8
         ensures { result ≡ number_of self }
     {
