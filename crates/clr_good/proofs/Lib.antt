@@ -6,5 +6,6 @@ pub mod StepsSay
 pub mod HoldsSay
 pub mod ByPhase
 pub mod TestIsExact
+pub mod StaffedSay
 pub mod CodeFacts
 pub mod FaultSays

@@ -1,6 +1,6 @@
 -- What it says that the list of steps fits.
 use Rattle.std.proofs.Common.{◌≡◌, ℕ, Bool, true, false, not, ◌&&◌, ◌||◌, nat_eq, List, [], ◌∷◌, Option, Some, None, is_some, IsTrue, All, Contains, refl, sym, ◌∙◌, ap, subst, eqb-true, eq-eqb}
-use Rattle.clr_rules.proofs.Common.{list_all, list_any, and_from, and_parts, both_ways, false≢true, false_from_ne_true, not-true, not_from_false, All-contains, fence_of, Grid, point_names, same_name}
+use Rattle.clr_rules.proofs.Common.{AreAtPoints, list_all, list_any, and_from, and_parts, both_ways, false≢true, false_from_ne_true, not-true, not_from_false, All-contains, fence_of, Grid, point_names, same_name}
 use Rattle.clr_rules.proofs.Common.{list_all-from_each, has_name, any_from, one_name, same_itself, some_from, IsSoundOrder, isolating_fault, list_all-contains, member-row_of, row_of-member}
 use Rattle.clr_rules.proofs.Common.{in_key_order, has_record, is_closing_at, ActiveInRound, active_at, all_waiting, go_in_turn, of_round, hinders, Id, Register, has_in_hand, id_cmp, id_cmp_total}
 use Rattle.clr_rules.proofs.Common.{record_key, record_of, same_id, hold_cmp, hold_key, is_active, is_done, points_of, steps_of, tasks_of, is_point_kind, has_hold, hold_of, first_of_each, same_kind}
@@ -9,8 +9,9 @@ use Rattle.clr_order.proofs.SoundOrders.{no_fault_from_sound, sound_from_no_faul
 use Rattle.clr_order.specs.declared.order_fault.OrderFault.{OrderFault}
 use Rattle.clr_rules.proofs.lists.HoldMembers.{hold_had, hold_there}
 use Rattle.clr_rules.proofs.lists.RoundSteps.{All-from_each, among_own, one_id, own_id, record_id}
-use Rattle.clr_good.specs.Steps.{active_within, closing_fits, isolates, record_steps_fit, round_waits, rounds_go_in_turn, step_fits, steps_fit, steps_suit}
-use Rattle.clr_good.proofs.Tests.{asked, asked_from}
+use Rattle.clr_rules.specs.Records.{is_closed, is_open}
+use Rattle.clr_good.specs.Steps.{active_within, closing_fits, found_closed, isolates, point_fits, record_steps_fit, round_waits, rounds_go_in_turn, step_fits, steps_fit, steps_suit}
+use Rattle.clr_good.proofs.Tests.{asked, asked_from, unless_closed, unless_closed_from}
 use Rattle.clr_rules.specs.declared.hold_kind.HoldKind.{HoldKind}
 use Rattle.clr_rules.specs.declared.record.Record.{Record}
 use Rattle.clr_rules.specs.declared.step_row.StepRow.{StepRow}
@@ -18,7 +19,7 @@ use Rattle.clr_rules.specs.declared.hold_kind.HoldKind.TheVariants.{HeldOpen, Bl
 
 pub record StepsSay (R : Register) : Type 0 where
   pub recorded : All (λ row. IsTrue (has_record R.records row.id)) R.steps
-  pub known : All (λ row. IsTrue (has_name (point_names (Grid.points R.net)) row.step.point)) R.steps
+  pub known : (c : Id) (r : Record) → record_of R.records c ≡ Some r → is_open r.phase ≡ true → AreAtPoints R.net (steps_of R.steps c)
   pub in_hand : (c : Id) (p : List ℕ) → active_at (steps_of R.steps c) p ≡ true → has_in_hand R.states c p ≡ true
   pub closing : (c : Id) (p : List ℕ) → is_closing_at R.steps c p ≡ true
       → (d : Id) (kind : HoldKind) → is_point_kind kind ≡ true → has_hold R.holds d kind p ≡ true
@@ -29,11 +30,11 @@ pub record StepsSay (R : Register) : Type 0 where
 -- ---- one step
 
 step_parts : (R : Register) (row : StepRow) → step_fits R row ≡ true
-    → (has_record R.records row.id ≡ true) × (has_name (point_names (Grid.points R.net)) row.step.point ≡ true)
+    → (has_record R.records row.id ≡ true) × (point_fits R row ≡ true)
     × (is_active row.step.state ≡ true → has_in_hand R.states row.id row.step.point ≡ true) × (closing_fits R row ≡ true)
 step_parts R row fits =
     let recorded = has_record R.records row.id in
-    let known = has_name (point_names (Grid.points R.net)) row.step.point in
+    let known = point_fits R row in
     let handed = not (is_active row.step.state) || has_in_hand R.states row.id row.step.point in
     let closing = closing_fits R row in
     let one = and_parts recorded (known && (handed && closing)) fits in
@@ -41,11 +42,11 @@ step_parts R row fits =
     let three = and_parts handed closing two.1 in
     (one.0, two.0, asked (is_active row.step.state) (has_in_hand R.states row.id row.step.point) three.0, three.1)
 
-step_back : (R : Register) (row : StepRow) → has_record R.records row.id ≡ true → has_name (point_names (Grid.points R.net)) row.step.point ≡ true
+step_back : (R : Register) (row : StepRow) → has_record R.records row.id ≡ true → point_fits R row ≡ true
     → (is_active row.step.state ≡ true → has_in_hand R.states row.id row.step.point ≡ true) → closing_fits R row ≡ true → step_fits R row ≡ true
 step_back R row is_recorded is_known hand closes =
     let recorded = has_record R.records row.id in
-    let known = has_name (point_names (Grid.points R.net)) row.step.point in
+    let known = point_fits R row in
     let handed = not (is_active row.step.state) || has_in_hand R.states row.id row.step.point in
     let closing = closing_fits R row in
     and_from recorded (known && (handed && closing)) is_recorded (and_from known (handed && closing) is_known
@@ -57,6 +58,22 @@ unfolding steps_of
 own_row steps c row there =
     let kept = kept_there (λ (row : StepRow). same_id c row.id) steps row there in
     (kept.0, one_id c row.id kept.1)
+
+-- its point, by its record
+point_of : (R : Register) (c : Id) (r : Record) → record_of R.records c ≡ Some r → is_open r.phase ≡ true → (row : StepRow) → c ≡ row.id → point_fits R row ≡ true
+    → has_name (point_names (Grid.points R.net)) row.step.point ≡ true
+point_of R c r found unclosed row own fits =
+    let closed : found_closed (record_of R.records row.id) ≡ is_closed r.phase = ap (λ (d : Id). found_closed (record_of R.records d)) (sym own) ∙ ap found_closed found in
+    unless_closed r.phase (has_name (point_names (Grid.points R.net)) row.step.point)
+    (subst (λ (b : Bool). (b || has_name (point_names (Grid.points R.net)) row.step.point) ≡ true) closed fits) unclosed
+
+point_from : (R : Register) (row : StepRow) → ((r : Record) → record_of R.records row.id ≡ Some r → is_open r.phase ≡ true → has_name (point_names (Grid.points R.net)) row.step.point ≡ true)
+    → has_record R.records row.id ≡ true → point_fits R row ≡ true
+point_from R row known = at (record_of R.records row.id) refl
+  where
+    at : (o : Option Record) → record_of R.records row.id ≡ o → is_some o ≡ true → (found_closed o || has_name (point_names (Grid.points R.net)) row.step.point) ≡ true
+    at None none there = absurd (false≢true there)
+    at (Some r) found there = unless_closed_from r.phase (has_name (point_names (Grid.points R.net)) row.step.point) (known r found)
 
 hand_there : (R : Register) → list_all (step_fits R) R.steps ≡ true → (c : Id) (p : List ℕ) → active_at (steps_of R.steps c) p ≡ true → has_in_hand R.states c p ≡ true
 hand_there R all c p active =
@@ -223,7 +240,9 @@ record_steps R c r found all =
 pub steps_say : (R : Register) → steps_fit R ≡ true → StepsSay R
 steps_say R fits = record {
   recorded = All-from_each (λ (row : StepRow). has_record R.records row.id ≡ true) R.steps (λ row there. (of_row row there).0);
-  known = All-from_each (λ (row : StepRow). has_name (point_names (Grid.points R.net)) row.step.point ≡ true) R.steps (λ row there. (of_row row there).1);
+  known = λ c r found unclosed. All-from_each (λ (row : StepRow). has_name (point_names (Grid.points R.net)) row.step.point ≡ true) (steps_of R.steps c) (λ row among.
+      let own = own_row R.steps c row among in
+      point_of R c r found unclosed row own.1 (of_row row own.0).1);
   in_hand = hand_there R parts.0;
   closing = closing_there R parts.0;
   in_turn = λ c r found. turns_say (steps_of R.steps c) (record_steps R c r found parts.1).0;
@@ -234,7 +253,7 @@ steps_say R fits = record {
     parts = and_parts (list_all (step_fits R) R.steps) (list_all (record_steps_fit R) R.records) fits
 
     of_row : (row : StepRow) → Contains R.steps row
-        → (has_record R.records row.id ≡ true) × (has_name (point_names (Grid.points R.net)) row.step.point ≡ true)
+        → (has_record R.records row.id ≡ true) × (point_fits R row ≡ true)
         × (is_active row.step.state ≡ true → has_in_hand R.states row.id row.step.point ≡ true) × (closing_fits R row ≡ true)
     of_row row there = step_parts R row (list_all-contains (step_fits R) R.steps row parts.0 there)
 
@@ -249,7 +268,9 @@ steps_said R ordered holds_ordered say =
     (list_all-from_each (step_fits R) R.steps (λ row there.
     step_back R row
     (All-contains (λ (row : StepRow). has_record R.records row.id ≡ true) R.steps row say.recorded there)
-    (All-contains (λ (row : StepRow). has_name (point_names (Grid.points R.net)) row.step.point ≡ true) R.steps row say.known there)
+    (point_from R row (λ r found unclosed. All-contains (λ (row : StepRow). has_name (point_names (Grid.points R.net)) row.step.point ≡ true) (steps_of R.steps row.id) row
+    (say.known row.id r found unclosed) (among_own R.steps row there))
+    (All-contains (λ (row : StepRow). has_record R.records row.id ≡ true) R.steps row say.recorded there))
     (λ active. say.in_hand row.id row.step.point (active_here R.steps row there active))
     (closing_back R holds_ordered say.closing row there)))
     (list_all-from_each (record_steps_fit R) R.records (λ r there.

@@ -1,6 +1,9 @@
 -- Tests over whole lists, and tests that ask for one thing where another holds.
 use Rattle.std.proofs.Common.{◌≡◌, Bool, true, false, not, ◌||◌, List, All, refl}
 use Rattle.clr_rules.proofs.Common.{list_all, false≢true, All-contains, list_all-contains, list_all-from_each, All-from_each}
+use Rattle.clr_rules.specs.declared.phase.Phase.{Phase}
+use Rattle.clr_rules.specs.declared.phase.Phase.TheVariants.{Closed}
+use Rattle.clr_rules.specs.Records.{is_closed, is_open}
 
 pub All_from_list_all : {X : Type 0} (p : X → Bool) (xs : List X) → list_all p xs ≡ true → All (λ x. p x ≡ true) xs
 All_from_list_all p xs all = All-from_each (λ x. p x ≡ true) xs (λ x there. list_all-contains p xs x all there)
@@ -16,3 +19,12 @@ asked false b h is = absurd (false≢true is)
 pub asked_from : (a b : Bool) → (a ≡ true → b ≡ true) → (not a || b) ≡ true
 asked_from true b h = h refl
 asked_from false b h = refl
+
+-- what is asked of an open record alone
+pub unless_closed : (phase : Phase) (b : Bool) → (is_closed phase || b) ≡ true → is_open phase ≡ true → b ≡ true
+unless_closed Closed b h unclosed = absurd (false≢true unclosed)
+unless_closed _ b h unclosed = h
+
+pub unless_closed_from : (phase : Phase) (b : Bool) → (is_open phase ≡ true → b ≡ true) → (is_closed phase || b) ≡ true
+unless_closed_from Closed b h = refl
+unless_closed_from _ b h = h refl

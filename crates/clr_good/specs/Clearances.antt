@@ -1,11 +1,11 @@
--- THE LIST OF CLEARANCES FITS: a requester's clearances are numbered 1, 2, 3 and so on; a work
--- section is one of the network's; a record has none exactly where its requester is an operator,
--- and then it is Switching or Closed; and only such a record is Switching.
-use Rattle.std.specs.Prelude.{ℕ, ◌+◌, Bool, true, not, ◌&&◌, ◌==◌, if◌then◌else◌, List, [], ◌∷◌}
+-- THE LIST OF CLEARANCES FITS: a requester's clearances are numbered 1, 2, 3 and so on; the work
+-- section of an open record is one of the network's; an open record has none exactly where its
+-- requester is an operator; and the Switching records are the open ones without a work section.
+use Rattle.std.specs.Prelude.{ℕ, ◌+◌, Bool, true, not, ◌&&◌, ◌||◌, ◌==◌, if◌then◌else◌, List, [], ◌∷◌}
 use Rattle.std.specs.Prelude.{Option, None, Some}
 use Rattle.clr_rules.specs.Prelude.{list_all, Grid, section_names, same_name, Id, Register}
 use Rattle.clr_rules.specs.Good.{is_known_work, is_operators}
-use Rattle.clr_rules.specs.Records.{is_switch_order, lacks_work}
+use Rattle.clr_rules.specs.Records.{is_closed, is_switch_order, lacks_work}
 use Rattle.clr_rules.specs.declared.phase.Phase.{Phase}
 use Rattle.clr_rules.specs.declared.record.Record.{Record}
 use Rattle.clr_rules.specs.declared.phase.Phase.TheVariants.{Requested, Ordered, Granted, Released}
@@ -25,10 +25,14 @@ work_fits Closed work = true
 abbrev pub answers_alike : Bool → Bool → Bool
 answers_alike a b = if a then b else not b
 
+-- whether the network has the work section of a record, and the staff has its requester's role
+abbrev pub names_fit : Register → Record → Bool
+names_fit R r = is_known_work (section_names (Grid.sections R.net)) r.work
+    && answers_alike (is_switch_order r) (is_operators R r.id.requester)
+
+-- a closed record binds neither network nor staff
 abbrev pub record_fits : Register → Record → Bool
-record_fits R r = work_fits r.phase r.work
-    && (is_known_work (section_names (Grid.sections R.net)) r.work
-    && answers_alike (is_switch_order r) (is_operators R r.id.requester))
+record_fits R r = work_fits r.phase r.work && (is_closed r.phase || names_fit R r)
 
 -- the number that comes after a clearance, for a clearance of this requester
 abbrev pub number_after : Option Id → List ℕ → ℕ

@@ -3,6 +3,7 @@ pub mod Clearances
 pub mod Steps
 pub mod Holds
 pub mod Around
+pub mod Staffed
 pub mod Whole
 pub mod Fault
 pub mod Laws

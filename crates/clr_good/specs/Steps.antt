@@ -1,11 +1,11 @@
--- THE LIST OF STEPS FITS: each step has a record, is at a point of the network, and has its
--- point in hand while it is given out; while a Close is given out, nothing is at its point but
--- the clearance's own HeldOpen; the steps of each record go in turn, and are as its phase wants
--- them.
+-- THE LIST OF STEPS FITS: each step has a record, is at a point of the network, if its record is
+-- open, and has its point in hand while it is given out; while a Close is given out, nothing is at
+-- its point but the clearance's own HeldOpen; the steps of each record go in turn, and are as its
+-- phase wants them.
 use Rattle.std.specs.Prelude.{ℕ, Bool, true, false, not, ◌&&◌, ◌||◌, ◌==◌, List, [], ◌∷◌, Option}
 use Rattle.std.specs.Prelude.{None, Some, is_some}
 use Rattle.clr_rules.specs.Prelude.{list_all, list_any, fence_of, Grid, point_names, has_name}
-use Rattle.clr_rules.specs.Prelude.{Register, has_in_hand, all_done, is_active, is_done}
+use Rattle.clr_rules.specs.Prelude.{Register, has_in_hand, record_of, all_done, is_active, is_done}
 use Rattle.clr_rules.specs.Prelude.{is_some_step, is_waiting, points_of, steps_of, tasks_of}
 use Rattle.clr_rules.specs.Prelude.{first_of_each}
 use Rattle.clr_order.specs.Action.{is_switching}
@@ -13,6 +13,7 @@ use Rattle.clr_order.specs.Isolating.{isolating_fault}
 use Rattle.clr_rules.specs.Good.{has_record}
 use Rattle.clr_rules.specs.GoodByPhase.{of_round, present_of}
 use Rattle.clr_rules.specs.Holds.{hinders}
+use Rattle.clr_rules.specs.Records.{is_closed}
 use Rattle.clr_rules.specs.Steps.{is_close, some_active}
 use Rattle.clr_rules.specs.declared.phase.Phase.{Phase}
 use Rattle.clr_rules.specs.declared.record.Record.{Record}
@@ -25,9 +26,19 @@ abbrev pub closing_fits : Register → StepRow → Bool
 closing_fits R row = not (is_active row.step.state && is_close row.step.action)
     || not (list_any (hinders row.id row.step.point) R.holds)
 
+-- whether the record of a clearance is Closed
+abbrev pub found_closed : Option Record → Bool
+found_closed None = false
+found_closed (Some r) = is_closed r.phase
+
+-- whether a step is at a point of the network, or of a closed record
+abbrev pub point_fits : Register → StepRow → Bool
+point_fits R row = found_closed (record_of R.records row.id)
+    || has_name (point_names (Grid.points R.net)) row.step.point
+
 abbrev pub step_fits : Register → StepRow → Bool
 step_fits R row = has_record R.records row.id
-    && (has_name (point_names (Grid.points R.net)) row.step.point
+    && (point_fits R row
     && ((not (is_active row.step.state) || has_in_hand R.states row.id row.step.point)
     && closing_fits R row))
 

@@ -5,7 +5,8 @@ ghost use Rattle.clr_net.specs.Grid.{section_names};
 ghost use Rattle.clr_net.specs.Names.{has_name};
 ghost use Rattle.clr_rules.specs.Good.{is_known_work, is_operators};
 ghost use Rattle.clr_good.specs.Clearances.{answers_alike, clearances_fit, number_after};
-ghost use Rattle.clr_good.specs.Clearances.{numbers_fit, record_fits, work_fits};
+ghost use Rattle.clr_rules.specs.Records.{is_closed};
+ghost use Rattle.clr_good.specs.Clearances.{names_fit, numbers_fit, record_fits, work_fits};
 
 use crate::shelves::Shelves;
 use clr_book::all_rows;
@@ -22,8 +23,8 @@ impl<'a, P: Shelf<PointState>, C: Shelf<Record>, T: Shelf<StepRow>, H: Shelf<Hol
     T,
     H,
 > {
-    /// Whether clearances are numbered without gaps, work sections are the network's, and records
-    /// without one are those of operators, Switching or Closed.
+    /// Whether clearances are numbered without gaps, the work sections of open records are the
+    /// network's, and records without one are Switching, of an operator, or Closed.
     pub(crate) fn clearances_fit(&self) -> Result<bool, AllocError>
         ensures { IfOk result (λ fit. fit ≡ clearances_fit self.now) }
     {
@@ -45,10 +46,17 @@ impl<'a, P: Shelf<PointState>, C: Shelf<Record>, T: Shelf<StepRow>, H: Shelf<Hol
     fn record_fits(&self, clearance: &Record) -> bool
         ensures { result ≡ record_fits self.now clearance.now }
     {
+        let works = work_fits(clearance.phase, clearance.work);
+        works && (is_closed(clearance.phase) || self.names_fit(clearance))
+    }
+
+    /// Whether the network has the work section of a record, and the staff its requester's role.
+    fn names_fit(&self, clearance: &Record) -> bool
+        ensures { result ≡ names_fit self.now clearance.now }
+    {
         let switches = clearance.is_switch_order();
         let operator = self.is_operator(clearance.id.requester());
-        let known = self.is_known(clearance.work);
-        work_fits(clearance.phase, clearance.work) && (known && alike(switches, operator))
+        self.is_known(clearance.work) && alike(switches, operator)
     }
 
     /// Whether a work section, if there is one, is the network's.
@@ -75,6 +83,12 @@ impl<'a, P: Shelf<PointState>, C: Shelf<Record>, T: Shelf<StepRow>, H: Shelf<Hol
             None => false,
         }
     }
+}
+
+pub(crate) fn is_closed(phase: Phase) -> bool
+    ensures { result ≡ is_closed phase }
+{
+    matches!(phase, Phase::Closed)
 }
 
 fn alike(a: bool, b: bool) -> bool

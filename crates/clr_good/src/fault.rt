@@ -1,6 +1,7 @@
 //! Which list of a register is at fault.
 ghost use Rattle.std.specs.Prelude.{◌≡◌, ◌↔◌, IfOk, None};
 ghost use Rattle.clr_rules.specs.Good.{IsGood};
+ghost use Rattle.clr_rules.specs.Staffed.{IsStaffed};
 ghost use Rattle.clr_good.specs.Fault.{list_at_fault};
 
 use crate::shelves::Shelves;
@@ -23,7 +24,7 @@ pub enum ListAtFault {
 }
 
 /// The first list of a book that does not fit, in the order of points, clearances, steps and
-/// holds; none exactly where the register is good.
+/// holds; none exactly where the register is good and staffed.
 pub fn list_at_fault<P, C, T, H>(
     alloc: Global,
     book: &Book<P, C, T, H>,
@@ -33,7 +34,8 @@ where
     C: Shelf<Record>,
     T: Shelf<StepRow>,
     H: Shelf<Hold>,
-    ensures good { IfOk result (λ fault. (fault ≡ None) ↔ IsGood book.now.register) }
+    ensures good { IfOk result (λ fault. (fault ≡ None)
+        ↔ (IsGood book.now.register × IsStaffed book.now.register)) }
     ensures first { IfOk result (λ fault. fault ≡ list_at_fault book.now.register) }
 {
     let shelves = Shelves::of(alloc, book);
@@ -56,13 +58,13 @@ impl<'a, P: Shelf<PointState>, C: Shelf<Record>, T: Shelf<StepRow>, H: Shelf<Hol
         if !self.points_fit()? {
             return Ok(Some(ListAtFault::Points));
         }
-        if !self.clearances_fit()? {
+        if !self.clearances_fit()? || !self.holders_fit()? {
             return Ok(Some(ListAtFault::Clearances));
         }
-        if !self.steps_fit()? {
+        if !self.steps_fit()? || !self.steps_staffed()? {
             return Ok(Some(ListAtFault::Steps));
         }
-        if !self.holds_fit()? {
+        if !self.holds_fit()? || !self.holds_staffed()? {
             return Ok(Some(ListAtFault::Holds));
         }
         Ok(None)

@@ -115,7 +115,7 @@ impl<'a, P: Shelf<PointState>, C: Shelf<Record>, T: Shelf<StepRow>, H: Shelf<Hol
         }
     }
 
-    fn has_hold(&self, id: ClearanceId, kind: HoldKind, place: Name) -> bool
+    pub(crate) fn has_hold(&self, id: ClearanceId, kind: HoldKind, place: Name) -> bool
         ensures { result ≡ has_hold self.now.holds id kind place }
     {
         self.holds.get(&Hold { kind, place, id }).is_some()

@@ -1,4 +1,5 @@
-//! Whether a register is good: the test of it, list by list, and that the test is exact.
+//! Whether a register is good and staffed: the test of it, list by list, and that the test is
+//! exact.
 #![tactic(auto)]
 
 mod around;
@@ -9,6 +10,7 @@ pub mod laws;
 mod points;
 mod rounds;
 mod shelves;
+mod staffed;
 mod steps;
 mod undoing;
 

@@ -11,9 +11,11 @@ ghost use Rattle.clr_rules.specs.GoodByPhase.{of_round, present_of};
 ghost use Rattle.clr_rules.specs.Holds.{hinders};
 ghost use Rattle.clr_rules.specs.States.{has_in_hand};
 ghost use Rattle.clr_rules.specs.declared.step_row.StepRow.{StepRow};
-ghost use Rattle.clr_good.specs.Steps.{closing_fits, isolates, record_steps_fit, step_fits};
-ghost use Rattle.clr_good.specs.Steps.{steps_fit, steps_suit};
+ghost use Rattle.clr_rules.specs.Records.{record_of};
+ghost use Rattle.clr_good.specs.Steps.{closing_fits, found_closed, isolates, point_fits};
+ghost use Rattle.clr_good.specs.Steps.{record_steps_fit, step_fits, steps_fit, steps_suit};
 
+use crate::clearances::is_closed;
 use crate::rounds::{
     active_within, all_done, has_steps, is_closing, of_round, only_switch, rounds_go_in_turn,
     some_active,
@@ -63,7 +65,7 @@ impl<'a, P: Shelf<PointState>, C: Shelf<Record>, T: Shelf<StepRow>, H: Shelf<Hol
     fn step_fits(&self, row: &StepRow) -> Result<bool, AllocError>
         ensures { IfOk result (λ fits. fits ≡ step_fits self.now row.now) }
     {
-        let placed = self.has_record(row.id) && self.has_point(row.step.point);
+        let placed = self.has_record(row.id) && self.point_fits(row);
         if !placed {
             return Ok(false);
         }
@@ -78,6 +80,22 @@ impl<'a, P: Shelf<PointState>, C: Shelf<Record>, T: Shelf<StepRow>, H: Shelf<Hol
         ensures { result ≡ has_record self.now.records id }
     {
         self.records.get(&id).is_some()
+    }
+
+    /// Whether a step is at a point of the network, or of a closed record.
+    fn point_fits(&self, row: &StepRow) -> bool
+        ensures { result ≡ point_fits self.now row.now }
+    {
+        self.is_of_closed(row.id) || self.has_point(row.step.point)
+    }
+
+    fn is_of_closed(&self, id: ClearanceId) -> bool
+        ensures { result ≡ found_closed (record_of self.now.records id) }
+    {
+        match self.records.get(&id) {
+            Some(record) => is_closed(record.phase),
+            None => false,
+        }
     }
 
     fn has_point(&self, name: Name) -> bool
