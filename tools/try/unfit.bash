@@ -1,6 +1,6 @@
 # Databases whose rows read, but give a register that no commands lead to: each is refused by the name of the first
-# table, in the order network_point, clearance, step, hold, whose rows do not fit the others, and then of the first whose
-# rows the staff does not fit. Read by tools/try-program, after databases.bash.
+# table, in the order network_point, clearance, step, hold, whose rows do not fit the others or the staff. Read by
+# tools/try-program, after databases.bash.
 
 # after COUNT PATH: the register that the first commands of the shift leave.
 after() {
