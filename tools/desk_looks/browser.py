@@ -10,7 +10,7 @@ import time
 import urllib.error
 import urllib.request
 
-NEEDED = {"chromium": "chromium", "chromedriver": "chromium-driver", "nginx": "nginx"}
+NEEDED = {"chromium": "chromium", "chromedriver": "chromium-driver", "nginx": "nginx", "openssl": "openssl", "rsync": "rsync"}
 TAB, ENTER, ALT, SHIFT = "\ue004", "\ue007", "\ue00a", "\ue008"
 ALL = "\ue009a\ue000"  # what is in a field, chosen, so that the next sign takes its place
 REBOUND = "rebound.example"  # a foreign name that leads to this machine
@@ -82,7 +82,7 @@ class Browser:
         data = None if body is None else json.dumps(body).encode()
         request = urllib.request.Request(self.base + path, data, {"Content-Type": "application/json"}, method=method)
         try:
-            with direct.open(request, timeout=180) as answer:
+            with direct.open(request, timeout=6 * LONG) as answer:
                 return json.load(answer)["value"]
         except urllib.error.HTTPError as fault:
             raise Differs(f"the browser: {json.load(fault)['value']['message'].splitlines()[0]}") from None
