@@ -4,7 +4,7 @@ import datetime
 import re
 from concurrent.futures import ThreadPoolExecutor
 
-from desk_looks.browser import LONG, Differs, say, wait_until
+from desk_looks.browser import Differs, say, wait_until
 from desk_looks.look_log import ROWS
 from desk_looks.look_register import drawn
 
@@ -104,7 +104,7 @@ def steps_words(view):
     if not card["steps"]:
         return "no steps"
     step = next(((number, one) for number, one in enumerate(view["steps"], 1) if one["state"] != "Done"), None)
-    return f"{card['done']} of {card['steps']} steps done" + (f"; {step[0]} {step[1]['text']} {STATES[step[1]['state']]}" if step else "")
+    return f"{card['done']} of {card['steps']} done" + (f"; {step[0]} {step[1]['text']} {STATES[step[1]['state']]}" if step else "")
 
 
 def work_words(view):
@@ -133,7 +133,7 @@ def differing(shown, wanted):
 def waited(where, hand, what, look, wanted):
     """Waits until the page shows it; then what it shows instead is named."""
     try:
-        wait_until(lambda: look() == wanted, what, min(LONG, 60))
+        wait_until(lambda: look() == wanted, what)
     except Differs:
         shown = look()
         found = differing(sorted(shown.items()), sorted(wanted.items())) if isinstance(wanted, dict) else differing(shown, wanted)
