@@ -75,12 +75,10 @@ class Machine(guide_place.Place):
         wait_until(lambda: socket.socket().connect_ex(("127.0.0.1", self.page)) == 0, "the page of the machine")
 
     def lose(self):
-        """The machine is lost: all of its programs are killed."""
+        """The machine is lost: its register is killed, and its nginx ended, whose worker would serve on after a SIGKILL."""
         self.ends = True
-        for one in self.programs:
-            if one.poll() is None:
-                one.kill()
-                one.wait(LONG)
+        self.stop_register(signal.SIGKILL)
+        self.end()
 
     def stop(self):
         self.end()
