@@ -119,7 +119,7 @@ def shown_row(cells, moment):
     if moment is None:
         return cells, None
     steps, work = re.sub(r" out (?:\d|<|less).*$", "", cells[3]), [part.strip() for part in cells[4].split("; ")]
-    return [*cells[:3], steps, sorted(part for part in work if part and not part.endswith("not tested")), cells[5]], seconds(moment)
+    return [*cells[:2], cells[2].removesuffix(" fence hatched"), steps, sorted(part for part in work if part and not part.endswith("not tested")), cells[5]], seconds(moment)
 
 
 def differing(shown, wanted):
