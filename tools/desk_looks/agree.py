@@ -84,7 +84,10 @@ class Facts:
         return [self.log_row(*one.groups()) for one in found]
 
     def log_row(self, number, moment, clearance, who, what, reply):
-        at = self.entries[int(number) - 1]["received"] if moment == "-" else seconds(moment)
+        entry = self.entries[int(number) - 1]
+        at = entry["received"] if moment == "-" else seconds(moment)
+        if entry["reply"]["reply"] == "added":
+            reply = "added"  # which the program prints as accepted
         return [number, at, clearance.replace("-", "–") if clearance == "-" else clearance, who.replace("(", "(login "), page_words(what), reply.replace("refused ", "refused: ")]
 
 
