@@ -22,11 +22,13 @@ const LOOKS = 1200;   // an hour of looks, then the operator has to look
 
 const newestNumber = () => journal.entries.at(-1)?.number ?? 0;
 
+const lineOf = (command) => boardLine(command.clearance)?.line ?? null;
+
 // What is known before a command is sent, for the case that its outcome is not known afterwards.
 export function knownBefore(command) {
   const view = command.clearance ? viewOf(command.clearance) ?? null : null;
   const ids = [...room.closed.keys(), ...room.board.map((row) => row.id)];
-  return { view, ids, had: network.points.has(command.point), number: newestNumber(), near: isNear(command.at) };
+  return { view, ids, had: network.points.has(command.point), number: newestNumber(), near: isNear(command.at), line: lineOf(command) };
 }
 
 // What is new of this caller: a request or a switch order has no name before it is answered.
@@ -48,17 +50,23 @@ function entriesSince(number) {
   return journal.entries.filter((entry) => entry.number > (newestNumber() < number ? 0 : number));
 }
 
-async function judgedByLog(command, number) {
+// A second command of one second leaves the record's line as it was. While the register takes no command, one that was
+// answered with 503 is not carried out.
+function lacksUnseen({ command, known, isRefused }) {
+  return isRefused && contact.refused !== null && known.line !== null && known.line === lineOf(command);
+}
+
+async function judgedByLog(asked) {
   await newest();
   if (journal.state !== "read") return null;
-  const found = judgeLogged(command, entriesSince(number), loginUsed());
-  const lacks = found.entry && isLacking(found.entry, room);
+  const found = judgeLogged(asked.command, entriesSince(asked.known.number), loginUsed());
+  const lacks = found.entry && (isLacking(found.entry, room) || lacksUnseen(asked));
   return lacks ? { ...found, found: "waits", text: `${found.text} The board lacks it.` } : found;
 }
 
 // What the log says, where it can: one that has nothing of what the board shows is not this register's.
-async function judged({ command, known, isRefused }) {
-  const seen = await judgedByBoard(command, known), logged = await judgedByLog(command, known.number);
+async function judged(asked) {
+  const { command, known, isRefused } = asked, seen = await judgedByBoard(command, known), logged = await judgedByLog(asked);
   const isOther = logged?.found === "no" && seen.found === "yes" && !logged.explains;
   return !logged || isOther ? { ...seen, by: isRefused ? "The board" : `The board at ${shortTime(room.read)}` } : { ...logged, by: "The log", isLogged: true };
 }
