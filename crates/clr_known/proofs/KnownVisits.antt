@@ -8,6 +8,7 @@ use Rattle.sqlite_disk.specs.declared.Disk as disk
 use Rattle.sqlite_disk.specs.declared.Files.{Files}
 use Rattle.clr_stream.specs.Streams.{Stream}
 use Rattle.clr_rules.specs.Good.{IsGood}
+use Rattle.clr_rules.specs.Id.{Id}
 use Rattle.clr_rules.specs.Register.{Register}
 use Rattle.clr_http.specs.declared.registrar.Registrar as registrar
 use Rattle.clr_logins.specs.declared.logins.LoginRow.{LoginRow}
@@ -26,11 +27,14 @@ use Rattle.clr_commands.specs.Desks.{over_store, with_journal}
 use Rattle.clr_commands.specs.Logins.{NamesLogins, terms_with}
 use Rattle.clr_commands.specs.Paths.{AtPaths}
 use Rattle.clr_commands.specs.Serve.{ServesAt, ServesKeeper, ServesKept, ServesLogged, ServesOver, ServesRead}
-use Rattle.clr_args.specs.declared.asked.WayBackArgs.{WayBackArgs}
-use Rattle.clr_commands.specs.Stored.{PrintsOf, WhileOpen}
-use Rattle.clr_commands.specs.WayBack.{IsWayBackOf, PrintsWayBack, way_back_asked_for}
+use Rattle.clr_commands.specs.Stored.{AnswersOf, PrintsOf, WhileOpen}
+use Rattle.clr_commands.specs.WayBack.{GivesBackTo, IsOfWayBack, way_back_to}
 use Rattle.clr_known.specs.Known.{IsAlwaysClean, IsAskedForBoard, IsBoardResponse, KnowsJones, ServesOnce, fresh, jones_register, once_at}
 use Rattle.clr_known.proofs.BoardServed.{begins, board_sent}
+
+-- what is answered of a register that was opened, for the clearance that a word names
+abbrev IsWayBackTo : Option Id → Register → Result (List ℕ) Fault → Type 0
+IsWayBackTo o R known = (way_back_to R o ≡ known) × GivesBackTo R o
 
 -- what holds where the first of two faults is none, and no more where there is one
 of_both : (served closed : Done) (P : Type 0) → OnOk served P → OnOk (both served closed) P
@@ -55,14 +59,14 @@ module _ {M D : Type 0} (g : disk.Ghosts D) (clean : IsAlwaysClean g)
       visit.does.1.known jones_register (knows _ _ _ _ visit.opened) (clean visit.after)
 
   -- the same of a way back, which closes its record alone besides
-  pub way_back_given : (path : List ℕ) (args : WayBackArgs) (result : Result (String Global) Fault) (old new : M)
-      → Comes g opens shuts ends path (PrintsWayBack args) result old new → GivesText IsOfLine (way_back_asked_for jones_register args) result
-  way_back_given path args result old new (inl (fault, is, of_line, shut)) =
-      subst (λ (r : Result (String Global) Fault). GivesText IsOfLine (way_back_asked_for jones_register args) r) (sym is) (λ other. absurd (other of_line))
-  way_back_given path args result old new (inr visit) =
+  pub way_back_given : (path : List ℕ) (o : Option Id) (result : Result (String Global) Fault) (old new : M)
+      → Comes g opens shuts ends path (WhileOpen (AnswersOf over_files IsOfWayBack (IsWayBackTo o))) result old new → GivesText IsOfLine (way_back_to jones_register o) result
+  way_back_given path o result old new (inl (fault, is, of_line, shut)) =
+      subst (λ (r : Result (String Global) Fault). GivesText IsOfLine (way_back_to jones_register o) r) (sym is) (λ other. absurd (other of_line))
+  way_back_given path o result old new (inr visit) =
       told result (visit.does.1.known jones_register (knows _ _ _ _ visit.opened) (clean visit.after))
     where
-      told : (result : Result (String Global) Fault) → Prints IsOfLine (IsWayBackOf args jones_register) result → GivesText IsOfLine (way_back_asked_for jones_register args) result
+      told : (result : Result (String Global) Fault) → Prints IsOfLine (IsWayBackTo o jones_register) result → GivesText IsOfLine (way_back_to jones_register o) result
       told (Ok text) prints = prints.0
       told (Err fault) prints = λ other. (prints other).0
 
