@@ -11,6 +11,9 @@ after() {
 after 6 "$work/given.db"
 after 28 "$work/granted.db"
 after 37 "$work/restoring.db"
+after 2 "$work/ordered.db"
+after 22 "$work/switching.db"
+after 23 "$work/switched.db"
 for base in given granted restoring; do
   try "the board of a register that is $base" 0 "~BOARD 1$feed" '' board "$work/$base.db"
 done
@@ -31,7 +34,7 @@ unfit granted network_point 'a point in hand without a step that is given out' \
 unfit granted clearance 'a gap in the numbers' "INSERT INTO clearance VALUES ('KIM', 2, 'KIM', 'L3', 'Requested', 100)"
 unfit granted clearance 'a clearance without a work section' "UPDATE clearance SET work = NULL WHERE $of_jones"
 unfit granted clearance 'a work section that is not in the network' "UPDATE clearance SET work = 'ZZ' WHERE $of_jones"
-unfit granted clearance 'a switch order with a work section' "UPDATE clearance SET work = 'L2' WHERE requester = 'OPS'"
+unfit switching clearance 'a switch order with a work section' "UPDATE clearance SET work = 'L2' WHERE requester = 'OPS'"
 unfit given step 'a step given out whose point is in nobody'"'"'s hand' \
   'UPDATE network_point SET hand_requester = NULL, hand_number = NULL'
 unfit given step 'a step given out before its turn' "UPDATE step SET state = 'Waiting', reader = NULL WHERE ordinal = 1"
@@ -39,7 +42,7 @@ unfit given step 'steps of a clearance that is only asked for' "UPDATE clearance
 unfit granted step 'a granted clearance with a step that waits' \
   "UPDATE step SET state = 'Waiting', reader = NULL WHERE $of_jones AND ordinal = 6"
 unfit granted step 'steps without their clearance' "DELETE FROM clearance WHERE $of_jones" "DELETE FROM hold"
-unfit granted step 'a step at a point that is not in the network' "UPDATE step SET point = 'ZZ' WHERE requester = 'OPS'"
+unfit switching step 'a step at a point that is not in the network' "UPDATE step SET point = 'ZZ' WHERE requester = 'OPS'"
 unfit granted step 'an order that does not isolate' "DELETE FROM step WHERE $of_jones AND point = 'S3'"
 unfit restoring step 'a granted clearance with restoring steps' "UPDATE clearance SET phase = 'Granted' WHERE $of_jones"
 unfit granted hold 'a granted clearance without a HeldOpen' "DELETE FROM hold WHERE kind = 'HeldOpen' AND place = 'S2'"
@@ -55,6 +58,8 @@ unfit restoring hold 'a hold that the restoring steps leave on' "INSERT INTO hol
 # The staff has to be able to end each clearance.
 unfit granted clearance 'a holder who is not in the staff' "UPDATE clearance SET holder = 'NOBODY' WHERE $of_jones"
 unfit granted clearance 'a holder who is in the field' "UPDATE clearance SET holder = 'REED' WHERE $of_jones"
+unfit switched step 'a step that is given out, of no round' "UPDATE step SET round = 0 WHERE requester = 'OPS'"
+unfit ordered hold 'a released clearance that holds nothing' "UPDATE clearance SET phase = 'Released'"
 unfit given step 'steps, and no operator' "DELETE FROM staff WHERE role = 'operator'"
 unfit restoring step 'a restoring order with nothing left to do' \
   "UPDATE step SET state = 'Done', reader = 'REED' WHERE round = 2" 'DELETE FROM hold' \
