@@ -125,6 +125,7 @@ def replies(hand, access):
     hand.turn("clearance/KIM/1")
     with hanging(hand.desk.register()):
         hand.press("instruct")
+        hand.answer("send")
         hand.reply("lost", "504")
         hand.shows("does not answer", "#contact")
         time.sleep(0.8)
