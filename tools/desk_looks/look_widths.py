@@ -96,6 +96,8 @@ def silent(hand):
         hand.number = hand.newest()[0]
         with hanging(hand.desk.register()):
             hand.press("instruct")
+            if text.startswith("OPEN TIE"):  # which is open already
+                hand.answer("send")
             hand.reply("lost", "504")
             screen.taken("silent")
         hand.found("it was carried out")
