@@ -1,5 +1,5 @@
--- Refusals and their numbers.
-use Rattle.std.specs.Prelude.{ℕ}
+-- Refusals, their numbers and their names.
+use Rattle.std.specs.Prelude.{ℕ, List, codes}
 use Rattle.clr_rules.specs.declared.refusal.Refusal.{Refusal}
 use Rattle.clr_rules.specs.declared.refusal.Refusal.TheVariants.{UnknownCaller, WrongRole}
 use Rattle.clr_rules.specs.declared.refusal.Refusal.TheVariants.{UnknownSection, TooManyClearances}
@@ -53,3 +53,41 @@ number_of PointExists = 32
 number_of (CrossesFence by) = 33
 number_of NetworkFull = 34
 number_of SameEnds = 35
+
+-- the name of a refusal, in capitals
+abbrev pub refusal_name : Refusal → List ℕ
+refusal_name UnknownCaller = codes "UNKNOWN_CALLER"
+refusal_name WrongRole = codes "WRONG_ROLE"
+refusal_name UnknownSection = codes "UNKNOWN_SECTION"
+refusal_name TooManyClearances = codes "TOO_MANY_CLEARANCES"
+refusal_name UnknownClearance = codes "UNKNOWN_CLEARANCE"
+refusal_name NotHolder = codes "NOT_HOLDER"
+refusal_name Earlier = codes "EARLIER"
+refusal_name WrongPhase = codes "WRONG_PHASE"
+refusal_name EmptyOrder = codes "EMPTY_ORDER"
+refusal_name LongOrder = codes "LONG_ORDER"
+refusal_name PointTwice = codes "POINT_TWICE"
+refusal_name (SourceInside section) = codes "SOURCE_INSIDE"
+refusal_name (NotOnFence point) = codes "NOT_ON_FENCE"
+refusal_name (StepsWrong point) = codes "STEPS_WRONG"
+refusal_name (UnknownPoint point) = codes "UNKNOWN_POINT"
+refusal_name NoStep = codes "NO_STEP"
+refusal_name OutOfTurn = codes "OUT_OF_TURN"
+refusal_name StepState = codes "STEP_STATE"
+refusal_name (InHand by) = codes "IN_HAND"
+refusal_name (Held by kind) = codes "HELD"
+refusal_name RepeatDiffers = codes "REPEAT_DIFFERS"
+refusal_name WrongReporter = codes "WRONG_REPORTER"
+refusal_name StepsLeft = codes "STEPS_LEFT"
+refusal_name OutsideFence = codes "OUTSIDE_FENCE"
+refusal_name NotTested = codes "NOT_TESTED"
+refusal_name Grounded = codes "GROUNDED"
+refusal_name NotGrounded = codes "NOT_GROUNDED"
+refusal_name CrewsOn = codes "CREWS_ON"
+refusal_name CrewState = codes "CREW_STATE"
+refusal_name BadTransfer = codes "BAD_TRANSFER"
+refusal_name NotAttested = codes "NOT_ATTESTED"
+refusal_name PointExists = codes "POINT_EXISTS"
+refusal_name (CrossesFence by) = codes "CROSSES_FENCE"
+refusal_name NetworkFull = codes "NETWORK_FULL"
+refusal_name SameEnds = codes "SAME_ENDS"

@@ -1,6 +1,6 @@
 //! Why a command is refused.
 ghost use Rattle.std.specs.Prelude.{◌≡◌};
-ghost use Rattle.clr_rules.specs.Refusal.{number_of};
+ghost use Rattle.clr_rules.specs.Refusal.{number_of, refusal_name};
 
 use crate::clearance_id::ClearanceId;
 use crate::hold_kind::HoldKind;
@@ -135,6 +135,49 @@ impl Refusal {
             Refusal::CrossesFence(_) => 33,
             Refusal::NetworkFull => 34,
             Refusal::SameEnds => 35,
+        }
+    }
+
+    /// The refusal's name, in capitals.
+    pub fn name(self) -> &'static str
+        ensures { result.now ≡ refusal_name self }
+    {
+        match self {
+            Refusal::UnknownCaller => "UNKNOWN_CALLER",
+            Refusal::WrongRole => "WRONG_ROLE",
+            Refusal::UnknownSection => "UNKNOWN_SECTION",
+            Refusal::TooManyClearances => "TOO_MANY_CLEARANCES",
+            Refusal::UnknownClearance => "UNKNOWN_CLEARANCE",
+            Refusal::NotHolder => "NOT_HOLDER",
+            Refusal::Earlier => "EARLIER",
+            Refusal::WrongPhase => "WRONG_PHASE",
+            Refusal::EmptyOrder => "EMPTY_ORDER",
+            Refusal::LongOrder => "LONG_ORDER",
+            Refusal::PointTwice => "POINT_TWICE",
+            Refusal::SourceInside(_) => "SOURCE_INSIDE",
+            Refusal::NotOnFence(_) => "NOT_ON_FENCE",
+            Refusal::StepsWrong(_) => "STEPS_WRONG",
+            Refusal::UnknownPoint(_) => "UNKNOWN_POINT",
+            Refusal::NoStep => "NO_STEP",
+            Refusal::OutOfTurn => "OUT_OF_TURN",
+            Refusal::StepState => "STEP_STATE",
+            Refusal::InHand(_) => "IN_HAND",
+            Refusal::Held(_, _) => "HELD",
+            Refusal::RepeatDiffers => "REPEAT_DIFFERS",
+            Refusal::WrongReporter => "WRONG_REPORTER",
+            Refusal::StepsLeft => "STEPS_LEFT",
+            Refusal::OutsideFence => "OUTSIDE_FENCE",
+            Refusal::NotTested => "NOT_TESTED",
+            Refusal::Grounded => "GROUNDED",
+            Refusal::NotGrounded => "NOT_GROUNDED",
+            Refusal::CrewsOn => "CREWS_ON",
+            Refusal::CrewState => "CREW_STATE",
+            Refusal::BadTransfer => "BAD_TRANSFER",
+            Refusal::NotAttested => "NOT_ATTESTED",
+            Refusal::PointExists => "POINT_EXISTS",
+            Refusal::CrossesFence(_) => "CROSSES_FENCE",
+            Refusal::NetworkFull => "NETWORK_FULL",
+            Refusal::SameEnds => "SAME_ENDS",
         }
     }
 }
