@@ -10,12 +10,12 @@ use Rattle.clr_examples.specs.Isolation.{register_one, register_two, two_net}
 use Rattle.clr_examples.specs.Worked.{worked_net, worked_staff}
 use Rattle.clr_rules.proofs.edits.Runs.{opening_is_reached}
 
-each_false : {X : Type 0} (p : X → Bool) (xs : List X) → list_all (λ x. not (p x)) xs ≡ true → All (λ x. p x ≡ false) xs
+pub each_false : {X : Type 0} (p : X → Bool) (xs : List X) → list_all (λ x. not (p x)) xs ≡ true → All (λ x. p x ≡ false) xs
 each_false p [] all = All-nil (λ x. p x ≡ false)
 each_false p (x ∷ xs) all = let parts = and_parts (not (p x)) (list_all (λ x. not (p x)) xs) all in
     All-cons (λ x. p x ≡ false) x xs (not-true (p x) parts.0) (each_false p xs parts.1)
 
-worked_is_network : IsNetwork worked_net
+pub worked_is_network : IsNetwork worked_net
 unfolding IsStrictlySortedBy
 worked_is_network = record {
   some_section = omega arith;
@@ -39,7 +39,7 @@ two_is_network = record {
   ends_differ = each_false has_one_section (Grid.points (two_net true Closed)) refl;
 }
 
-worked_is_staff : IsStaff worked_staff
+pub worked_is_staff : IsStaff worked_staff
 unfolding IsStrictlySortedBy
 worked_is_staff = record {
   rows_fit = omega arith;

@@ -16,3 +16,4 @@ pub mod Sequence
 pub mod Sight
 pub mod Twice
 pub mod WayBack
+pub mod Updates

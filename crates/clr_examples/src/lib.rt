@@ -17,4 +17,5 @@ pub mod runs;
 pub mod sequence;
 pub mod sight;
 pub mod twice;
+pub mod updates;
 pub mod way_back;

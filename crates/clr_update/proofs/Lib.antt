@@ -1,0 +1,12 @@
+pub mod Common
+pub mod Rows
+pub mod Free
+pub mod Filed
+pub mod Staying
+pub mod Fences
+pub mod Good
+pub mod Left
+pub mod Near
+pub mod Agreeing
+pub mod EntryFacts
+pub mod Entries

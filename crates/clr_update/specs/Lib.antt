@@ -1,0 +1,5 @@
+pub mod Rows
+pub mod Changes
+pub mod Update
+pub mod Entries
+pub mod Laws

@@ -1,0 +1,8 @@
+//! Network and staff of a register change under open clearances: what an update is, what is in its
+//! way, and its laws.
+#![tactic(auto)]
+
+pub mod laws;
+mod obstacle;
+
+pub use obstacle::Obstacle;
