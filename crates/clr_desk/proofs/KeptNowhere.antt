@@ -2,7 +2,8 @@
 use Rattle.std.proofs.Common.{◌≡◌, List, Ok, ap, arith, inl, refl}
 use Rattle.sqlite.specs.Schema.{Schema}
 use Rattle.clr_rules.specs.declared.change.Edit.{Edit}
-use Rattle.clr_load.specs.Layout.{AsMade, AsMoved, Layout, OfOne}
+use Rattle.clr_load.specs.declared.layout.Layout.{Layout}
+use Rattle.clr_load.specs.declared.layout.Layout.TheVariants.{AsMade, AsMoved, OfOne}
 use Rattle.clr_load.specs.Schema.{no_schema, schema_in}
 use Rattle.clr_load.specs.Stored.{HasTables}
 use Rattle.clr_tables.specs.Tables.{Tables}

@@ -29,7 +29,7 @@ use Rattle.clr_desk.specs.Faults.{IsOfCommand, of_store}
 use Rattle.clr_desk.specs.declared.desk_fault.DeskFault.{DeskFault}
 use Rattle.clr_load.specs.Fault.{IsOfDatabase}
 use Rattle.clr_load.specs.declared.fault.StoreFault.{StoreFault}
-use Rattle.clr_load.specs.declared.fault.StoreFault.TheVariants.{Sql, WrongVersion, BadRow, NoMemory}
+use Rattle.clr_load.specs.declared.fault.StoreFault.TheVariants.{Sql, WrongVersion, BadRow, NoMemory, OtherTables}
 
 -- ---- a command that is not accepted
 
@@ -86,6 +86,7 @@ of_database Sql h = tt
 of_database NoMemory h = tt
 of_database (WrongVersion n) h = absurd h
 of_database (BadRow name) h = absurd h
+of_database OtherTables h = absurd h
 
 pub of_command : (cause : StoreFault) (fault : DeskFault) → IsOfDatabase cause → fault ≡ of_store cause → IsOfCommand fault
 of_command cause fault h is = subst IsOfCommand (sym is) (of_database cause h)

@@ -13,10 +13,10 @@ use Rattle.clr_rules.proofs.keeps.EveryKind.{commands_keep_good}
 use Rattle.clr_load.specs.Fault.{IsOfDatabase}
 use Rattle.clr_load.specs.Stored.{AreTables}
 use Rattle.clr_load.specs.declared.fault.StoreFault.{StoreFault}
-use Rattle.clr_load.specs.declared.fault.StoreFault.TheVariants.{Sql, WrongVersion, BadRow, NoMemory}
+use Rattle.clr_load.specs.declared.fault.StoreFault.TheVariants.{Sql, WrongVersion, BadRow, NoMemory, OtherTables}
 use Rattle.clr_load.proofs.AllGiven.{gives_back}
 use Rattle.clr_load.proofs.Reopened.{opened_with}
-use Rattle.clr_store.specs.Contract.{RefusesVersion}
+use Rattle.clr_store.specs.Contract.{RefusesOpening}
 use Rattle.clr_tables.specs.RowsRead.{read_version, rows_read}
 use Rattle.clr_tables.specs.Tables.{tables_of}
 use Rattle.clr_tables.specs.TypedRows.{IsTyped}
@@ -31,11 +31,12 @@ version_is : (S : Register) → read_version (tables_of S).meta ≡ Ok (pos 2)
 unfolding read_version
 version_is S = refl
 
-refused_by_database : (fault : StoreFault) → RefusesVersion (Ok (pos 2)) fault → IsOfDatabase fault
-refused_by_database Sql refused = tt
-refused_by_database (WrongVersion n) (is, other) = absurd (other (cc is))
-refused_by_database (BadRow table) refused = absurd (cc refused)
-refused_by_database NoMemory refused = tt
+refused_by_database : (S : Register) (fault : StoreFault) → RefusesOpening (tables_of S) fault → IsOfDatabase fault
+refused_by_database S Sql refused = tt
+refused_by_database S (WrongVersion n) (is, other) = let both = sym (version_is S) ∙ is in absurd (other (cc both))
+refused_by_database S (BadRow table) refused = let both = sym (version_is S) ∙ refused in absurd cc
+refused_by_database S NoMemory refused = tt
+refused_by_database S OtherTables refused = absurd (refused refl)
 
 opens_back : (S : Register) → IsGood S → IsTyped S → (told : Result Shelved StoreFault)
     → OpensAs (λ (book : Shelved). book.register) (rows_read (tables_of S)) told → OpensBack S told
@@ -45,7 +46,7 @@ opens_back S good typed (Err fault) opens = fails_by_database S good typed fault
 pub tables_come_back : TablesComeBack
 tables_come_back S good typed db is are = record {
   has = opened_with db.trees (tables_of S) db are is refl;
-  opens = λ fault refused. refused_by_database fault (subst (λ read. RefusesVersion read fault) (version_is S) refused);
+  opens = refused_by_database S;
   loads = λ told gives. gives_back S (rows_read (tables_of S)) told (tables_are_read S good.besides.points_known.states good.said.in_order typed) gives;
   register = opens_back S good typed;
 }

@@ -10,7 +10,7 @@ use Rattle.clr_load.specs.Cause.{SqlHasCause}
 use Rattle.clr_load.specs.Filling.{GivesInto}
 use Rattle.clr_load.specs.Fault.{IsOfDatabase}
 use Rattle.clr_load.specs.declared.fault.StoreFault.{StoreFault}
-use Rattle.clr_load.specs.declared.fault.StoreFault.TheVariants.{Sql, WrongVersion, BadRow, NoMemory}
+use Rattle.clr_load.specs.declared.fault.StoreFault.TheVariants.{Sql, WrongVersion, BadRow, NoMemory, OtherTables}
 use Rattle.clr_tables.specs.RowsRead.{Rows, rows_of, rows_read}
 use Rattle.clr_tables.specs.Tables.{tables_of}
 use Rattle.clr_tables.specs.TypedRows.{IsTyped}
@@ -33,6 +33,7 @@ not_loaded has (Err bad) Sql gives = tt
 not_loaded has (Ok rows) NoMemory gives = tt
 not_loaded has (Err bad) NoMemory gives = tt
 not_loaded has told (WrongVersion n) gives = absurd gives
+not_loaded has told OtherTables gives = absurd gives
 
 -- rows that were loaded, and gave no book
 pub fails_to_open : (told : Result Rows TableName) (rows : Rows) (fault : StoreFault) → told ≡ Ok rows → FailsToOpen rows fault
@@ -76,6 +77,7 @@ opens_good R good (BadRow name) opens =
     let bad : None ≡ Some name = sym (opens_again R good).no_fault ∙ opens in
     absurd cc
 opens_good R good (WrongVersion n) opens = absurd opens
+opens_good R good OtherTables opens = absurd opens
 
 -- so are its tables, where each value is of its type
 pub fails_by_database : (R : Register) → IsGood R → IsTyped R → (fault : StoreFault)

@@ -21,7 +21,7 @@ use Rattle.clr_tables.specs.declared.table_name.TableName.TheVariants as table
 use Rattle.clr_desk.specs.Filling.{filling}
 use Rattle.clr_load.specs.declared.fault.StoreFault.{StoreFault}
 use Rattle.clr_load.specs.declared.fault.StoreFault.TheVariants.{Sql, WrongVersion, BadRow}
-use Rattle.clr_load.specs.declared.fault.StoreFault.TheVariants.{NoMemory}
+use Rattle.clr_load.specs.declared.fault.StoreFault.TheVariants.{NoMemory, OtherTables}
 
 -- THE REGISTER OF ROWS: their network and staff are opened, and filled with the other rows
 pub record IsRegisterOf (rows : Rows) (R : Register) : Type 0 where
@@ -86,3 +86,4 @@ OpensAs register (Err bad) (Err (BadRow name)) = bad ≡ name
 OpensAs register told (Err Sql) = ⊤
 OpensAs register told (Err NoMemory) = ⊤
 OpensAs register told (Err (WrongVersion n)) = ⊥
+OpensAs register told (Err OtherTables) = ⊥

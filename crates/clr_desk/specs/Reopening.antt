@@ -14,8 +14,8 @@ use Rattle.clr_load.specs.Fault.{IsOfDatabase}
 use Rattle.clr_load.specs.Stored.{AreTables, HasTables}
 use Rattle.clr_load.specs.declared.fault.StoreFault.{StoreFault}
 use Rattle.clr_load.specs.declared.rows.Rows.{Rows as Loaded}
-use Rattle.clr_store.specs.Contract.{RefusesVersion}
-use Rattle.clr_tables.specs.RowsRead.{read_version, rows_read}
+use Rattle.clr_store.specs.Contract.{RefusesOpening}
+use Rattle.clr_tables.specs.RowsRead.{rows_read}
 use Rattle.clr_tables.specs.Tables.{tables_of}
 use Rattle.clr_tables.specs.TypedRows.{IsTyped, is_typed_command}
 use Rattle.clr_desk.specs.Crash.{AreAfterSome}
@@ -31,7 +31,7 @@ OpensBack S (Err fault) = IsOfDatabase fault
 pub record ComesBack (S : Register) (db : Database) : Type 0 where
   pub has : HasTables db (tables_of S)
   -- the store is opened,
-  pub opens : (fault : StoreFault) → RefusesVersion (read_version (tables_of S).meta) fault
+  pub opens : (fault : StoreFault) → RefusesOpening (tables_of S) fault
       → IsOfDatabase fault
   -- it loads the rows of the register,
   pub loads : (told : Result Loaded StoreFault) → GivesRows (rows_read (tables_of S)) told

@@ -19,7 +19,7 @@ use Rattle.clr_load.specs.Contract.{GivesBack, GivesRows}
 use Rattle.clr_load.specs.Filling.{GivesInto}
 use Rattle.clr_load.specs.Reading.{in_fields, point_values}
 use Rattle.clr_load.specs.declared.fault.StoreFault.{StoreFault}
-use Rattle.clr_load.specs.declared.fault.StoreFault.TheVariants.{Sql, WrongVersion, BadRow, NoMemory}
+use Rattle.clr_load.specs.declared.fault.StoreFault.TheVariants.{Sql, WrongVersion, BadRow, NoMemory, OtherTables}
 use Rattle.clr_load.specs.declared.rows.Rows.{Rows as Loaded}
 use Rattle.clr_load.specs.declared.table_row.PointRead.{PointRead}
 use Rattle.clr_load.proofs.AllRead.{same_value}
@@ -30,6 +30,7 @@ gives_rows has read Sql h = tt
 gives_rows has read NoMemory h = tt
 gives_rows has read (BadRow t) h = h
 gives_rows has read (WrongVersion n) h = absurd h
+gives_rows has read OtherTables h = absurd h
 
 -- tables that read as the rows of a register give these rows
 pub gives_back : (R : Register) (read : Result Rows TableName) (result : Result Loaded StoreFault) → read ≡ Ok (rows_of R)
@@ -39,6 +40,7 @@ gives_back R read (Err Sql) is gives = tt
 gives_back R read (Err NoMemory) is gives = tt
 gives_back R read (Err (BadRow t)) is gives = let h : Ok (rows_of R) ≡ Err t = sym is ∙ gives in absurd cc
 gives_back R read (Err (WrongVersion n)) is gives = absurd gives
+gives_back R read (Err OtherTables) is gives = absurd gives
 
 -- ---- switching points, whose rows are read into two fields
 abbrev all_viewed : {A B : Type 0} → (A → B) → Result (List A) TableName → Result (List B) TableName

@@ -25,7 +25,7 @@ use Rattle.clr_load.specs.Layout.{AsMade, AsMoved, Layout, OfOne, has_table}
 use Rattle.clr_load.specs.Schema.{behind_meta, schema_in}
 use Rattle.clr_load.specs.Sql.{select_sql}
 use Rattle.clr_load.specs.declared.fault.StoreFault.{StoreFault}
-use Rattle.clr_load.specs.declared.fault.StoreFault.TheVariants.{Sql, WrongVersion, BadRow, NoMemory}
+use Rattle.clr_load.specs.declared.fault.StoreFault.TheVariants.{Sql, WrongVersion, BadRow, NoMemory, OtherTables}
 use Rattle.clr_load.proofs.Texts.{all_of, meta_known, meta_unlisted, select_known, select_unlisted, selecting}
 
 -- ---- what a fault says
@@ -39,6 +39,7 @@ has_cause old new Sql so = so refl
 has_cause old new NoMemory so = tt
 has_cause old new (WrongVersion n) so = tt
 has_cause old new (BadRow table) so = tt
+has_cause old new OtherTables so = tt
 
 -- ---- what the kit leaves as causes
 store_cause : (old new : State) (cause : StoreError) → IsAble old → HasCause old new ⊥ cause → fault_of (store_error cause) ≡ Sql → MoreFaults old.faults new.faults

@@ -1,3 +1,5 @@
+mod Versioned
+mod Alike
 pub mod Inside
 pub mod Texts
 pub mod Columns

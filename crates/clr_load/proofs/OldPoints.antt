@@ -14,7 +14,7 @@ use Rattle.clr_load.specs.Layout.{AsMade, AsMoved, Layout, OfOne, has_table, is_
 use Rattle.clr_load.specs.Reading.{old_point, old_values}
 use Rattle.clr_load.specs.Stored.{Holds, IsInOrder, rows_in}
 use Rattle.clr_load.specs.declared.fault.StoreFault.{StoreFault}
-use Rattle.clr_load.specs.declared.fault.StoreFault.TheVariants.{Sql, WrongVersion, BadRow, NoMemory}
+use Rattle.clr_load.specs.declared.fault.StoreFault.TheVariants.{Sql, WrongVersion, BadRow, NoMemory, OtherTables}
 use Rattle.clr_load.specs.declared.table_row.OldPoint.{OldPoint}
 use Rattle.clr_load.proofs.AllGiven.{rows_fail, rows_give}
 use Rattle.clr_load.proofs.Blamed.{placed_blame}
@@ -55,6 +55,7 @@ module _ (old new : State) (rows given : List Row) (same : given ≡ rows) (foun
       caused NoMemory yields = tt
       caused (BadRow t) yields = tt
       caused (WrongVersion n) yields = tt
+      caused OtherTables yields = tt
 
   pub old_refused : (fault : StoreFault) → Yields (λ (xs : List OldPoint). xs) (all_read old_values given) (Err fault) → (t : Tables) → Holds OfOne old.now t → IsInOrder OfOne t
       → RefusesPoints (old_points t) fault
@@ -63,6 +64,7 @@ module _ (old new : State) (rows given : List Row) (same : given ≡ rows) (foun
   old_refused (BadRow table) yields t has ordered =
       ap (all_read (read_placed Point)) (sym (same ∙ (listed_are old new rows found OfOne refl t has ordered).0)) ∙ rows_fail old_point (read_placed Point) given table yields
   old_refused (WrongVersion n) yields t has ordered = absurd yields
+  old_refused OtherTables yields t has ordered = absurd yields
 
 -- the table is `point`
 pub old_blame : (given : List Row) (fault : StoreFault) → Yields (λ (xs : List OldPoint). xs) (all_read old_values given) (Err fault) → IsOfPoints fault
@@ -70,15 +72,18 @@ old_blame given Sql yields = tt
 old_blame given NoMemory yields = tt
 old_blame given (BadRow table) yields = placed_blame Point given table (rows_fail old_point (read_placed Point) given table yields)
 old_blame given (WrongVersion n) yields = absurd yields
+old_blame given OtherTables yields = absurd yields
 
 pub early_blame : (fault : StoreFault) → IsOfDatabase fault → IsOfPoints fault
 early_blame Sql h = tt
 early_blame NoMemory h = tt
 early_blame (BadRow table) h = absurd h
 early_blame (WrongVersion n) h = absurd h
+early_blame OtherTables h = absurd h
 
 pub refused_early : (t : Tables) (fault : StoreFault) → IsOfDatabase fault → RefusesPoints (old_points t) fault
 refused_early t Sql h = tt
 refused_early t NoMemory h = tt
 refused_early t (BadRow table) h = absurd h
 refused_early t (WrongVersion n) h = absurd h
+refused_early t OtherTables h = absurd h

@@ -14,7 +14,7 @@ use Rattle.clr_load.specs.Layout.{Layout}
 use Rattle.clr_load.specs.Loads.{Loads, Stays}
 use Rattle.clr_load.specs.Stored.{HasTablesIn}
 use Rattle.clr_load.specs.declared.fault.StoreFault.{StoreFault}
-use Rattle.clr_load.specs.declared.fault.StoreFault.TheVariants.{Sql, WrongVersion, BadRow, NoMemory}
+use Rattle.clr_load.specs.declared.fault.StoreFault.TheVariants.{Sql, WrongVersion, BadRow, NoMemory, OtherTables}
 use Rattle.clr_load.proofs.Causes.{then_cause}
 use Rattle.clr_load.proofs.Inside.{both_survive}
 
@@ -37,6 +37,7 @@ pub gives_fault : {B Z : Type 0} (has : Z → B → Type 0) (read : Result B Tab
 gives_fault has read Sql of = tt
 gives_fault has read NoMemory of = tt
 gives_fault has read (WrongVersion n) of = absurd of
+gives_fault has read OtherTables of = absurd of
 gives_fault has read (BadRow table) of = absurd of
 
 module _ {S A X : Type 0} (g : Ghosts S) (a b : Held S) (fits : Layout → Bool) (f : Layout → Tables → Result A TableName) (shows : X → A → Type 0) where
@@ -57,6 +58,7 @@ module _ {S A X : Type 0} (g : Ghosts S) (a b : Held S) (fits : Layout → Bool)
       given p q Sql so h = tt
       given p q NoMemory so h = tt
       given p q (WrongVersion n) so h = absurd h
+      given p q OtherTables so h = absurd h
       given p q (BadRow table) so h = so table h
 
   -- after one call the whole is given, or fails without the database
@@ -137,6 +139,7 @@ module _ {S A X : Type 0} (g : Ghosts S) (a b : Held S) (fits : Layout → Bool)
         given p q Sql so h = tt
         given p q NoMemory so h = tt
         given p q (WrongVersion n) so h = absurd h
+        given p q OtherTables so h = absurd h
         given p q (BadRow table) so h = so table h
 
 -- a call that fails for the database has given nothing

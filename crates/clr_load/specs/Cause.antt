@@ -7,7 +7,7 @@ use Rattle.sqlite.specs.declared.error.ErrorCode.TheVariants as code
 use Rattle.sqlite_disk.specs.Disk.{MoreFaults}
 use Rattle.clr_load.specs.declared.fault.StoreFault.{StoreFault}
 use Rattle.clr_load.specs.declared.fault.StoreFault.TheVariants.{Sql, WrongVersion, BadRow}
-use Rattle.clr_load.specs.declared.fault.StoreFault.TheVariants.{NoMemory}
+use Rattle.clr_load.specs.declared.fault.StoreFault.TheVariants.{NoMemory, OtherTables}
 
 -- the fault by which an error of the database is reported
 abbrev pub fault_of : Error → StoreFault
@@ -25,3 +25,4 @@ SqlHasCause old new Sql = IsAble old → MoreFaults old.faults new.faults
 SqlHasCause old new NoMemory = ⊤
 SqlHasCause old new (WrongVersion n) = ⊤
 SqlHasCause old new (BadRow table) = ⊤
+SqlHasCause old new OtherTables = ⊤

@@ -1,5 +1,5 @@
 -- What a call that reads promises.
-use Rattle.std.specs.Prelude.{◌≡◌, IsTrue, List, Result, Ok, Err, ⊤}
+use Rattle.std.specs.Prelude.{◌≡◌, ◌≤◌, ℕ, ℤ, pos, IsTrue, List, Result, Ok, Err, ⊤}
 use Rattle.sqlite.specs.State.{State}
 use Rattle.clr_rules.specs.Register.{Register}
 use Rattle.clr_tables.specs.RowsRead.{PointRead, Rows, all_read, read_placed, rows_of}
@@ -9,7 +9,7 @@ use Rattle.clr_tables.specs.declared.table_name.TableName.TheVariants.{Point}
 use Rattle.clr_load.specs.Fault.{IsOfDatabase}
 use Rattle.clr_load.specs.declared.fault.StoreFault.{StoreFault}
 use Rattle.clr_load.specs.declared.fault.StoreFault.TheVariants.{Sql, WrongVersion, BadRow}
-use Rattle.clr_load.specs.declared.fault.StoreFault.TheVariants.{NoMemory}
+use Rattle.clr_load.specs.declared.fault.StoreFault.TheVariants.{NoMemory, OtherTables}
 use Rattle.clr_load.specs.declared.rows.Rows.{Rows as Loaded}
 
 -- the connection is open, and what it shows is committed
@@ -24,6 +24,7 @@ Gives view read (Err (BadRow table)) = read ≡ Err table
 Gives view read (Err (WrongVersion n)) = ⊥
 Gives view read (Err Sql) = ⊤
 Gives view read (Err NoMemory) = ⊤
+Gives view read (Err OtherTables) = ⊥
 
 -- the same of rows that lie in memory, where no database is asked
 abbrev pub Yields : {A X : Type 0} → (X → A) → Result A TableName → Result X StoreFault → Type 0
@@ -32,10 +33,22 @@ Yields view read (Err (BadRow table)) = read ≡ Err table
 Yields view read (Err (WrongVersion n)) = ⊥
 Yields view read (Err Sql) = ⊥
 Yields view read (Err NoMemory) = ⊤
+Yields view read (Err OtherTables) = ⊥
 
 -- what a database gives, where the value shows as itself
 abbrev pub Tells : {A : Type 0} → Result A TableName → Result A StoreFault → Type 0
 Tells read result = Gives (λ value. value) read result
+
+-- the same of a version, which is looked for from one version on: where that is found, the tables may
+-- be others
+abbrev pub TellsVersion : ℕ → Result ℤ TableName → Result ℤ StoreFault → Type 0
+TellsVersion oldest read (Ok version) = read ≡ Ok version
+TellsVersion oldest read (Err (BadRow table)) = read ≡ Err table
+TellsVersion oldest read (Err (WrongVersion n)) = ⊥
+TellsVersion oldest read (Err Sql) = ⊤
+TellsVersion oldest read (Err NoMemory) = ⊤
+TellsVersion oldest read (Err OtherTables) =
+    (n : ℕ) × (read ≡ Ok (pos n)) × (oldest ≤ n) × (n ≤ 2)
 
 -- the rows that were loaded
 abbrev pub rows_told : Loaded → Rows
@@ -70,3 +83,4 @@ RefusesPoints read Sql = ⊤
 RefusesPoints read NoMemory = ⊤
 RefusesPoints read (BadRow table) = read ≡ Err table
 RefusesPoints read (WrongVersion n) = ⊥
+RefusesPoints read OtherTables = ⊥

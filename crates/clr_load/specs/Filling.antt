@@ -7,7 +7,7 @@ use Rattle.clr_tables.specs.RowsRead.{Rows}
 use Rattle.clr_tables.specs.declared.table_name.TableName.{TableName}
 use Rattle.clr_load.specs.declared.fault.StoreFault.{StoreFault}
 use Rattle.clr_load.specs.declared.fault.StoreFault.TheVariants.{Sql, WrongVersion, BadRow}
-use Rattle.clr_load.specs.declared.fault.StoreFault.TheVariants.{NoMemory}
+use Rattle.clr_load.specs.declared.fault.StoreFault.TheVariants.{NoMemory, OtherTables}
 use Rattle.clr_load.specs.declared.rows.Loaded.{Loaded}
 
 -- what was read into has, as `has` says, the value that is read, unless the database refuses, memory
@@ -19,6 +19,7 @@ GivesInto has read (Err (BadRow table)) = read ≡ Err table
 GivesInto has read (Err (WrongVersion n)) = ⊥
 GivesInto has read (Err Sql) = ⊤
 GivesInto has read (Err NoMemory) = ⊤
+GivesInto has read (Err OtherTables) = ⊥
 
 -- what was loaded has these rows
 pub record IsLoaded {C T H : Type 0} (records : C → List Record → Type 0)

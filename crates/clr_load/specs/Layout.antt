@@ -4,14 +4,14 @@ use Rattle.clr_tables.specs.declared.table_name.TableName.{TableName}
 use Rattle.clr_tables.specs.declared.table_name.TableName.TheVariants.{Meta, Section, Point, Staff}
 use Rattle.clr_tables.specs.declared.table_name.TableName.TheVariants.{Clearance, Step, Hold}
 use Rattle.clr_tables.specs.declared.table_name.TableName.TheVariants.{NetworkPoint}
+pub use Rattle.clr_load.specs.declared.layout.Layout.{Layout}
+pub use Rattle.clr_load.specs.declared.layout.Layout.TheVariants.{OfOne, AsMade, AsMoved}
 
-pub data Layout : Type 0 where
-  -- version 1
-  OfOne : Layout
-  -- version 2, made in an empty database
-  AsMade : Layout
-  -- version 2, moved from version 1: `point` stays, and is empty
-  AsMoved : Layout
+-- the version that `meta` has
+abbrev pub version_of : Layout → ℕ
+version_of OfOne = 1
+version_of AsMade = 2
+version_of AsMoved = 2
 
 abbrev pub is_two : Layout → Bool
 is_two OfOne = false

@@ -1,5 +1,6 @@
 pub mod Layout
 pub mod Schema
+pub mod Forms
 pub mod Sql
 pub mod Stored
 pub mod Fault

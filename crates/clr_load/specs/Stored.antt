@@ -1,6 +1,6 @@
 -- WHAT A DATABASE HOLDS: the tables of a register, each row once, in any order.
 use Rattle.std.specs.Prelude.{◌≡◌, ℕ, Bool, true, false, ◌&&◌, ◌==◌, length, List, [], ◌∷◌, map}
-use Rattle.std.specs.Prelude.{drop, take}
+use Rattle.std.specs.Prelude.{None, drop, take}
 use Rattle.std.specs.List.{list_all}
 use Rattle.std.specs.List.Sorted.{IsPermutation}
 use Rattle.sqlite.specs.Effect.{Database, IsDatabase}
@@ -16,12 +16,14 @@ use Rattle.sqlite_catalog.specs.Listing.{IsSound}
 use Rattle.sqlite_schema.specs.declared.schema.Column.{Column}
 use Rattle.sqlite_trees.specs.declared.store.Shape.TheVariants.{Table}
 use Rattle.clr_shelf.specs.Rows.{in_key_order}
-use Rattle.clr_tables.specs.Tables.{Tables}
+use Rattle.sqlite_schema.specs.Names.{table_named}
+use Rattle.clr_tables.specs.TableText.{table_text}
+use Rattle.clr_tables.specs.Tables.{Tables, version_row}
 use Rattle.clr_tables.specs.declared.table_name.TableName.{TableName}
 use Rattle.clr_tables.specs.declared.table_name.TableName.TheVariants.{Meta, Section, Point, Staff}
 use Rattle.clr_tables.specs.declared.table_name.TableName.TheVariants.{Clearance, Step, Hold}
 use Rattle.clr_tables.specs.declared.table_name.TableName.TheVariants.{NetworkPoint}
-use Rattle.clr_load.specs.Layout.{AsMade, AsMoved, Layout, OfOne, has_table, is_two, tree_in}
+use Rattle.clr_load.specs.Layout.{AsMade, AsMoved, Layout, OfOne, has_table, is_two, tree_in, version_of}
 use Rattle.clr_load.specs.Schema.{behind_meta, columns_in, keys_in, schema_in}
 
 -- the rows of a table. In version 2 `point` has none
@@ -115,6 +117,25 @@ pub record HasTables (db : Database) (t : Tables) : Type 0 where
   pub layout : Layout
   pub two : is_two layout ≡ true
   pub here : HasTablesIn layout db t
+
+-- THE DATABASE IS LAID OUT AS A REGISTER of this version: its schema is one of the layouts, with no
+-- other table, index, view or trigger
+pub record IsLaidOut (version : ℕ) (db : Database) : Type 0 where
+  pub layout : Layout
+  pub version_is : version_of layout ≡ version
+  pub schema : db.schema ≡ schema_in layout
+
+-- AND NO OTHER ROWS: the database has tables of this version, and `meta` has its one row
+pub record HasVersion (version : ℕ) (db : Database) : Type 0 where
+  pub layout : Layout
+  pub version_is : version_of layout ≡ version
+  pub tables : Tables
+  pub here : HasTablesIn layout db tables
+  pub told : tables.meta ≡ version_row version ∷ []
+
+-- the database has no table that could have the version, whatever its other tables are
+abbrev pub LacksMeta : Database → Type 0
+LacksMeta db = table_named db.schema (table_text Meta) ≡ None
 
 -- THE DATABASE HAS THESE TABLES, of version 1
 abbrev pub HasOldTables : Database → Tables → Type 0

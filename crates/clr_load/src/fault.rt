@@ -16,6 +16,10 @@ pub enum StoreFault {
     WrongVersion(i64),
     /// A row of the table reads no value of its type.
     BadRow(TableName),
+    /// The tables are not those of a register: there is another table, index, view or trigger, one
+    /// is missing or is of another form, `meta` has another row, or `point` has rows beside
+    /// `network_point`.
+    OtherTables,
     /// Memory ran out.
     NoMemory,
 }

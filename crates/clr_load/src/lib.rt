@@ -2,11 +2,15 @@
 //! the first row that does not read.
 #![tactic(auto)]
 
+mod column_forms;
+mod expected;
 mod fault;
 mod fill;
 mod laws;
+mod layout;
 mod listing;
 mod load;
+mod looks;
 mod old;
 mod reading;
 mod rows;
@@ -14,9 +18,12 @@ mod table;
 mod table_row;
 mod version;
 
+pub use column_forms::ColumnForm;
+pub use expected::expect_version;
 pub use fault::StoreFault;
 pub use fill::Fill;
 pub use laws::tables_open_again;
+pub use layout::Layout;
 pub use load::{load_into, load_rows};
 pub use old::check_old_points;
 pub use rows::{Loaded, Rows};

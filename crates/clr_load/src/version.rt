@@ -1,21 +1,24 @@
 //! The version that the tables say they are of.
-ghost use Rattle.std.specs.Prelude.{◌≡◌, false, find, List, IsTrue, IfErr, IsErrAnd};
+ghost use Rattle.std.specs.Prelude.{◌≡◌, ◌↔◌, false, find, Err, List, IsTrue, IfErr, None};
 ghost use Rattle.std.specs.Option.{option_copied};
 ghost use Rattle.sqlite.specs.Held.{state};
 ghost use Rattle.sqlite.specs.Order.{Row, column};
 ghost use Rattle.sqlite.specs.State.{HasCleanDisk, Survives};
+ghost use Rattle.sqlite_schema.specs.Names.{table_named};
+ghost use Rattle.clr_tables.specs.TableText.{table_text};
 ghost use Rattle.clr_tables.specs.RowsRead.{integer_of, is_version_name, read_version};
 ghost use Rattle.clr_load.specs.Cause.{SqlHasCause};
 ghost use Rattle.clr_load.specs.Contract.{Tells};
-ghost use Rattle.clr_load.specs.Fault.{IsOfDatabase, IsOfVersion};
-ghost use Rattle.clr_load.specs.Schema.{no_schema};
-ghost use Rattle.clr_load.specs.Stored.{HasMeta};
+ghost use Rattle.clr_load.specs.Fault.{IsOfVersion};
+ghost use Rattle.clr_load.specs.Stored.{HasMeta, LacksMeta};
+ghost use Rattle.clr_load.specs.declared.fault.StoreFault.TheVariants.{Sql};
 
 use crate::fault::StoreFault;
 use crate::listing::list_rows;
 use clr_tables::TableName;
 use sqlite::types::ValueRef;
 use sqlite::{Alter, Connection, Row};
+use sqlite_schema::schema::Schema;
 
 /// Whether a row is that of the version.
 fn is_version(row: &Row) -> bool
@@ -54,25 +57,37 @@ pub(crate) fn version_in(rows: &[Row]) -> Result<i64, TableName>
     }
 }
 
+/// Whether there is a table that could have the version.
+fn has_meta(schema: &Schema) -> bool
+    ensures { IsTrue result ↔ ((table_named schema.now (table_text TableName.Meta) ≡ None) → ⊥) }
+{
+    schema.table_named(b"meta").is_some()
+}
+
 /// Reads the version, in a transaction that changes nothing.
 ///
-/// `Sql` where a transaction is open, no table has a version, or the database fails; `NoMemory`
+/// `Sql` where a transaction is open, there is no table `meta`, or the database fails; `NoMemory`
 /// where memory runs out; `BadRow` of `meta` where that table has no version.
 pub fn read_version<S: Alter>(conn: &mut Connection<S>) -> Result<i64, StoreFault>
     ensures mode { conn.new.in_transaction ≡ conn.old.in_transaction }
     ensures version { HasCleanDisk (state S.Store conn.new) → (meta : List Row)
         → HasMeta (state S.Store conn.old).now meta → Tells (read_version meta) result }
-    ensures bare { HasCleanDisk (state S.Store conn.new)
-        → (state S.Store conn.old).now.schema ≡ no_schema → IsErrAnd result IsOfDatabase }
+    ensures bare { LacksMeta (state S.Store conn.old).now → result ≡ Err Sql }
     ensures fault { IfErr result IsOfVersion }
     ensures cause { conn.old.in_transaction ≡ false → HasCleanDisk (state S.Store conn.new)
         → (meta : List Row) → HasMeta (state S.Store conn.old).now meta
         → IfErr result (SqlHasCause (state S.Store conn.old) (state S.Store conn.new)) }
     ensures same { HasCleanDisk (state S.Store conn.new) → IsTrue (state S.Store conn.new).is_open
         → (state S.Store conn.new).now ≡ (state S.Store conn.old).now }
+    ensures committed { HasCleanDisk (state S.Store conn.new)
+        → IsTrue (state S.Store conn.new).is_open
+        → (state S.Store conn.new).committed ≡ (state S.Store conn.old).committed }
     ensures survives { Survives (state S.Store conn.old) (state S.Store conn.new) (λ _. ⊥) }
 {
     if !conn.is_autocommit() {
+        return Err(StoreFault::Sql);
+    }
+    if !has_meta(conn.schema()) {
         return Err(StoreFault::Sql);
     }
     let mut tx = conn.transaction();

@@ -41,7 +41,9 @@ use Rattle.clr_tables.specs.Tables.{Tables, jumper_row, section_row, staff_row, 
 use Rattle.clr_tables.specs.declared.table_name.TableName.{TableName}
 use Rattle.clr_tables.specs.declared.table_name.TableName.TheVariants.{Meta, Section, Point, Staff, Clearance, Step, Hold, NetworkPoint}
 use Rattle.clr_store.specs.Change.{Changes, Does, HasEmpty, Makes, Reaches, added, filled, opening_points, tables_with, with_rows}
-use Rattle.clr_load.specs.Layout.{AsMade, AsMoved, Layout, OfOne, has_table, is_two, names_before, names_in, place_in, tree_in}
+use Rattle.clr_load.specs.Layout.{has_table, is_two, names_before, names_in, place_in, tree_in}
+use Rattle.clr_load.specs.declared.layout.Layout.{Layout}
+use Rattle.clr_load.specs.declared.layout.Layout.TheVariants.{AsMade, AsMoved, OfOne}
 use Rattle.clr_load.specs.Schema.{columns_in, no_schema, schema_of, table_at, table_in}
 use Rattle.clr_load.specs.Sql.{create_sql}
 use Rattle.clr_load.specs.Stored.{HasEachRow, HasRows, HasTables, Holds, IsInOrder, rows_in}

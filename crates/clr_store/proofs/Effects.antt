@@ -35,7 +35,8 @@ use Rattle.sqlite_trees.specs.View.{IsShaped}
 use Rattle.sqlite_trees.specs.declared.store.Shape.TheVariants as Shape
 use Rattle.clr_tables.specs.declared.table_name.TableName.{TableName}
 use Rattle.clr_tables.specs.declared.table_name.TableName.TheVariants.{Meta, Section, Point, Staff, Clearance, Step, Hold, NetworkPoint}
-use Rattle.clr_load.specs.Layout.{Layout, has_table, names_in, place_in, tree_in}
+use Rattle.clr_load.specs.Layout.{has_table, names_in, place_in, tree_in}
+use Rattle.clr_load.specs.declared.layout.Layout.{Layout}
 use Rattle.clr_load.specs.Schema.{columns_in, schema_in, table_in}
 use Rattle.clr_load.specs.Sql.{insert_sql, delete_sql}
 use Rattle.clr_load.specs.Stored.{fits_columns}

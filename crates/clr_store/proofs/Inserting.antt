@@ -32,7 +32,8 @@ use Rattle.clr_tables.specs.Tables.{Tables}
 use Rattle.clr_tables.specs.declared.table_name.TableName.{TableName}
 use Rattle.clr_store.specs.Change.{Changes, Does, Inserts, after_insert, with_rows}
 use Rattle.clr_load.specs.Fault.{IsOfDatabase}
-use Rattle.clr_load.specs.Layout.{AsMade, has_table, tree_in}
+use Rattle.clr_load.specs.Layout.{has_table, tree_in}
+use Rattle.clr_load.specs.declared.layout.Layout.TheVariants.{AsMade}
 use Rattle.clr_load.specs.Schema.{columns_in, first_columns, keys_in}
 use Rattle.clr_load.specs.Sql.{insert_sql}
 use Rattle.clr_load.specs.Stored.{HasRows, Holds, fits_columns, rows_in}

@@ -45,7 +45,9 @@ use Rattle.clr_store.specs.Change.{Changes, Does, Replaces, after_replace, with_
 use Rattle.clr_load.specs.Cause.{fault_of}
 use Rattle.clr_load.specs.Fault.{IsOfDatabase}
 use Rattle.clr_load.specs.Inside.{RunsInside}
-use Rattle.clr_load.specs.Layout.{AsMade, Layout, has_table, is_two, tree_in}
+use Rattle.clr_load.specs.Layout.{has_table, is_two, tree_in}
+use Rattle.clr_load.specs.declared.layout.Layout.{Layout}
+use Rattle.clr_load.specs.declared.layout.Layout.TheVariants.{AsMade}
 use Rattle.clr_load.specs.Schema.{columns_in, keys_in}
 use Rattle.clr_load.specs.Sql.{insert_sql, delete_sql}
 use Rattle.clr_load.specs.declared.fault.StoreFault.{StoreFault}

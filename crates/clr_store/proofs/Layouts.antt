@@ -11,7 +11,9 @@ use Rattle.sqlite.specs.Tree.{Trees}
 use Rattle.clr_tables.specs.Tables.{Tables}
 use Rattle.clr_tables.specs.declared.table_name.TableName.{TableName}
 use Rattle.clr_tables.specs.declared.table_name.TableName.TheVariants.{Meta, Section, Point, Staff, Clearance, Step, Hold, NetworkPoint}
-use Rattle.clr_load.specs.Layout.{AsMade, AsMoved, Layout, OfOne, has_table, is_two, names_in, place_in, tree_in}
+use Rattle.clr_load.specs.Layout.{has_table, is_two, names_in, place_in, tree_in}
+use Rattle.clr_load.specs.declared.layout.Layout.{Layout}
+use Rattle.clr_load.specs.declared.layout.Layout.TheVariants.{AsMade, AsMoved, OfOne}
 use Rattle.clr_load.specs.Schema.{schema_in, table_in}
 use Rattle.clr_load.specs.Stored.{rows_in}
 use Rattle.clr_store.specs.Change.{change_at, is_same, rows_changed, tables_with, with_rows}

@@ -47,7 +47,9 @@ use Rattle.clr_store.specs.Moving.{AreMoved, IsMoving, LeavesMoved, Moves, Moves
 use Rattle.clr_load.specs.Cause.{SqlHasCause}
 use Rattle.clr_load.specs.Contract.{old_points}
 use Rattle.clr_load.specs.Found.{Finds, Lists}
-use Rattle.clr_load.specs.Layout.{AsMoved, Layout, OfOne, has_table, is_one, place_in, tree_in}
+use Rattle.clr_load.specs.Layout.{has_table, is_one, place_in, tree_in}
+use Rattle.clr_load.specs.declared.layout.Layout.{Layout}
+use Rattle.clr_load.specs.declared.layout.Layout.TheVariants.{AsMoved, OfOne}
 use Rattle.clr_load.specs.Schema.{columns_in, needed, schema_in, table_at, table_in}
 use Rattle.clr_load.specs.Sql.{copy_sql, create_sql, empty_sql}
 use Rattle.clr_load.specs.Stored.{HasEachRow, HasMeta, HasOldTables, HasRows, HasTables, Holds, IsInOrder, Keeps, bodies, fits_columns, is_of_kind, rows_in}

@@ -23,7 +23,9 @@ use Rattle.clr_rules.specs.declared.change.Edit.TheVariants.{SetPosition, SetHan
 use Rattle.clr_tables.specs.TableEdits.{changed_point, handed_row, placed_row, table_edited, tables_edited}
 use Rattle.clr_tables.specs.Tables.{position_value}
 use Rattle.clr_store.specs.Change.{Changes, Does}
-use Rattle.clr_load.specs.Layout.{AsMade, AsMoved, Layout, OfOne, is_two}
+use Rattle.clr_load.specs.Layout.{is_two}
+use Rattle.clr_load.specs.declared.layout.Layout.{Layout}
+use Rattle.clr_load.specs.declared.layout.Layout.TheVariants.{AsMade, AsMoved, OfOne}
 use Rattle.clr_load.specs.Schema.{schema_in}
 use Rattle.clr_load.specs.Stored.{Holds, fits_columns}
 use Rattle.clr_load.specs.declared.fault.StoreFault.{StoreFault}

@@ -46,7 +46,9 @@ use Rattle.clr_tables.specs.TableEdits.{with_table_row, without_table_row}
 use Rattle.clr_tables.specs.declared.table_name.TableName.{TableName}
 use Rattle.clr_tables.specs.declared.table_name.TableName.TheVariants.{Meta, Section, Point, Staff, Clearance, Step, Hold, NetworkPoint}
 use Rattle.clr_store.specs.Change.{Changes, after_replace, with_rows}
-use Rattle.clr_load.specs.Layout.{AsMade, AsMoved, Layout, OfOne, has_table, tree_in}
+use Rattle.clr_load.specs.Layout.{has_table, tree_in}
+use Rattle.clr_load.specs.declared.layout.Layout.{Layout}
+use Rattle.clr_load.specs.declared.layout.Layout.TheVariants.{AsMade, AsMoved, OfOne}
 use Rattle.clr_load.specs.Schema.{columns_in, first_columns, keys_in, schema_in, table_in}
 use Rattle.clr_load.specs.Sql.{replace_sql}
 use Rattle.clr_load.specs.Stored.{HasRows, bodies, fits_columns, is_set, rows_in}

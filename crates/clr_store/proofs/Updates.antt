@@ -37,7 +37,8 @@ use Rattle.clr_tables.specs.TableEdits.{changed_point, handed_row, placed_row, t
 use Rattle.clr_tables.specs.Tables.{position_value}
 use Rattle.clr_tables.specs.declared.table_name.TableName.TheVariants.{NetworkPoint}
 use Rattle.clr_store.specs.Change.{Changes, with_rows}
-use Rattle.clr_load.specs.Layout.{Layout, is_two, tree_in}
+use Rattle.clr_load.specs.Layout.{is_two, tree_in}
+use Rattle.clr_load.specs.declared.layout.Layout.{Layout}
 use Rattle.clr_load.specs.Schema.{columns_in, schema_in, table_in}
 use Rattle.clr_load.specs.Stored.{HasRows, bodies, fits_columns, is_of_kind, rows_in}
 use Rattle.clr_load.proofs.Columns.{both_true, cast_fits, values_all, values_from, fits_length}

@@ -22,7 +22,9 @@ use Rattle.clr_tables.specs.declared.table_name.TableName.TheVariants.{Clearance
 use Rattle.clr_tables.specs.declared.table_name.TableName.TheVariants.{NetworkPoint}
 use Rattle.clr_load.specs.Fault.{IsOfDatabase}
 use Rattle.clr_load.specs.Inside.{RunsInside}
-use Rattle.clr_load.specs.Layout.{AsMade, AsMoved, Layout, is_two, place_in, tree_in}
+use Rattle.clr_load.specs.Layout.{is_two, place_in, tree_in}
+use Rattle.clr_load.specs.declared.layout.Layout.{Layout}
+use Rattle.clr_load.specs.declared.layout.Layout.TheVariants.{AsMade, AsMoved}
 use Rattle.clr_load.specs.Schema.{keys_in, schema_of}
 use Rattle.clr_load.specs.Stored.{Holds, rows_in}
 use Rattle.clr_load.specs.declared.fault.StoreFault.{StoreFault}

@@ -1,5 +1,5 @@
 -- What the statements of a move from version 1 make of the tables.
-use Rattle.std.specs.Prelude.{false, ℤ, pos, ◌≡◌, ◌≢◌, ⊤, List, [], ◌∷◌, ◌++◌, map, Result, Ok, Err}
+use Rattle.std.specs.Prelude.{false, ℤ, pos, ◌≡◌, ◌≢◌, ◌⊎◌, ⊤, List, [], ◌∷◌, ◌++◌, map, Result, Ok, Err}
 use Rattle.std.specs.Prelude.{IsTrue, is_ok}
 use Rattle.sqlite.specs.Effect.{Database}
 use Rattle.sqlite.specs.Held.{state}
@@ -10,7 +10,7 @@ use Rattle.sqlite.specs.Tree.{Trees}
 use Rattle.sqlite.specs.declared.transaction.Transaction.{Transaction}
 use Rattle.clr_tables.specs.RowsRead.{read_version}
 use Rattle.clr_tables.specs.TableEdits.{tables_moved}
-use Rattle.clr_tables.specs.Tables.{Tables, flag_value}
+use Rattle.clr_tables.specs.Tables.{Tables, flag_value, version_row}
 use Rattle.clr_tables.specs.declared.table_name.TableName.{TableName}
 use Rattle.clr_tables.specs.declared.table_name.TableName.TheVariants.{Meta, Section, Point, Staff}
 use Rattle.clr_tables.specs.declared.table_name.TableName.TheVariants.{Clearance, Step, Hold}
@@ -18,11 +18,11 @@ use Rattle.clr_tables.specs.declared.table_name.TableName.TheVariants.{NetworkPo
 use Rattle.clr_store.specs.Change.{Makes}
 use Rattle.clr_load.specs.Contract.{old_points}
 use Rattle.clr_load.specs.Inside.{RunsInside}
-use Rattle.clr_load.specs.Layout.{AsMoved}
+use Rattle.clr_load.specs.declared.layout.Layout.TheVariants.{AsMoved}
 use Rattle.clr_load.specs.Stored.{AreTables, HasMeta, HasOldTables, HasTables, Keeps}
 use Rattle.clr_load.specs.declared.fault.StoreFault.{StoreFault}
 use Rattle.clr_load.specs.declared.fault.StoreFault.TheVariants.{Sql, WrongVersion, BadRow}
-use Rattle.clr_load.specs.declared.fault.StoreFault.TheVariants.{NoMemory}
+use Rattle.clr_load.specs.declared.fault.StoreFault.TheVariants.{NoMemory, OtherTables}
 
 -- the rows of points as they are in version 2
 abbrev pub moved_points : List Row → List Row
@@ -68,7 +68,8 @@ pub record LeavesMoved (before : Database) (trees : Trees) : Type 0 where
   pub moved : AreMoved before trees
 
 -- why tables of version 1 are not moved: the database refused or failed, memory ran out, the
--- version does not read or is neither 1 nor 2, or a point does not read
+-- version does not read or is neither 1 nor 2, the tables are not those of a register of the version,
+-- or a point does not read
 abbrev pub RefusesMove : Tables → StoreFault → Type 0
 RefusesMove t Sql = ⊤
 RefusesMove t NoMemory = ⊤
@@ -76,6 +77,7 @@ RefusesMove t (BadRow Meta) = read_version t.meta ≡ Err Meta
 RefusesMove t (BadRow Point) = (read_version t.meta ≡ Ok (pos 1)) × (old_points t ≡ Err Point)
 RefusesMove t (BadRow _) = ⊥
 RefusesMove t (WrongVersion n) = (read_version t.meta ≡ Ok n) × (n ≢ pos 1) × (n ≢ pos 2)
+RefusesMove t OtherTables = t.meta ≢ version_row 1 ∷ []
 
 -- the same, of any tables that have a version
 abbrev pub RefusesToMove : Result ℤ TableName → StoreFault → Type 0
@@ -85,6 +87,7 @@ RefusesToMove read (BadRow Meta) = read ≡ Err Meta
 RefusesToMove read (BadRow Point) = read ≡ Ok (pos 1)
 RefusesToMove read (BadRow _) = ⊥
 RefusesToMove read (WrongVersion n) = (read ≡ Ok n) × (n ≢ pos 1) × (n ≢ pos 2)
+RefusesToMove read OtherTables = (read ≡ Ok (pos 1)) ⊎ (read ≡ Ok (pos 2))
 
 -- why a database is not moved, whatever it has
 abbrev pub IsOfMove : StoreFault → Type 0
@@ -94,3 +97,4 @@ IsOfMove (BadRow Meta) = ⊤
 IsOfMove (BadRow Point) = ⊤
 IsOfMove (BadRow _) = ⊥
 IsOfMove (WrongVersion n) = (n ≢ pos 1) × (n ≢ pos 2)
+IsOfMove OtherTables = ⊤

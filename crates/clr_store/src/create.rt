@@ -9,7 +9,8 @@ ghost use Rattle.clr_store.specs.Change.{Does, HasEmpty, Reaches, added, opening
 ghost use Rattle.clr_store.specs.Change.{with_rows};
 ghost use Rattle.clr_load.specs.Fault.{IsOfDatabase};
 ghost use Rattle.clr_load.specs.Contract.{IsSaved};
-ghost use Rattle.clr_load.specs.Layout.{AsMade, has_table, names_before, names_in};
+ghost use Rattle.clr_load.specs.Layout.{has_table, names_before, names_in};
+ghost use Rattle.clr_load.specs.declared.layout.Layout.TheVariants.{AsMade};
 ghost use Rattle.clr_load.specs.Schema.{no_schema};
 ghost use Rattle.clr_load.specs.Stored.{AreTables, HasTables};
 
@@ -189,6 +190,9 @@ pub(crate) fn make_register<S: Alter>(
     ensures fault { IfErr result IsOfDatabase }
     ensures none { HasCleanDisk (state S.Store conn.new) → IsTrue (state S.Store conn.new).is_open
         → OnErr result ((state S.Store conn.new).now ≡ (state S.Store conn.old).now) }
+    ensures committed { HasCleanDisk (state S.Store conn.new)
+        → IsTrue (state S.Store conn.new).is_open → OnErr result
+        ((state S.Store conn.new).committed ≡ (state S.Store conn.old).committed) }
     ensures crash { Survives (state S.Store conn.old) (state S.Store conn.new)
         (λ trees. AreTables trees (tables_of (opening network.now staff.now))) }
 {

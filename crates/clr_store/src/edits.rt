@@ -9,7 +9,8 @@ ghost use Rattle.clr_rules.specs.declared.change.Edit.TheVariants.{AddSection, A
 ghost use Rattle.clr_tables.specs.TableEdits.{table_edited, tables_edited, with_table_row};
 ghost use Rattle.clr_store.specs.Change.{Does, with_rows};
 ghost use Rattle.clr_load.specs.Fault.{IsOfDatabase};
-ghost use Rattle.clr_load.specs.Layout.{AsMade, has_table};
+ghost use Rattle.clr_load.specs.Layout.{has_table};
+ghost use Rattle.clr_load.specs.declared.layout.Layout.TheVariants.{AsMade};
 ghost use Rattle.clr_load.specs.Schema.{columns_in, keys_in};
 ghost use Rattle.clr_load.specs.Stored.{fits_columns, has_key};
 

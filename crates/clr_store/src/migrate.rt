@@ -10,7 +10,7 @@ ghost use Rattle.clr_store.specs.Moving.{AreMoved, IsMoving, Moves, MovesTables,
 ghost use Rattle.clr_load.specs.Cause.{SqlHasCause};
 ghost use Rattle.clr_load.specs.Contract.{IsSaved, RefusesPoints, old_points};
 ghost use Rattle.clr_load.specs.Fault.{IsOfDatabase, IsOfPoints};
-ghost use Rattle.clr_load.specs.Layout.{OfOne};
+ghost use Rattle.clr_load.specs.declared.layout.Layout.TheVariants.{OfOne};
 ghost use Rattle.clr_load.specs.Stored.{HasOldTables, HasTables, Holds};
 
 use crate::edits::put_row;
@@ -109,6 +109,9 @@ pub(crate) fn move_tables<S: Alter>(conn: &mut Connection<S>) -> Result<(), Stor
         → IfErr result (RefusesPoints (old_points t)) }
     ensures none { HasCleanDisk (state S.Store conn.new) → IsTrue (state S.Store conn.new).is_open
         → OnErr result ((state S.Store conn.new).now ≡ (state S.Store conn.old).now) }
+    ensures committed { HasCleanDisk (state S.Store conn.new)
+        → IsTrue (state S.Store conn.new).is_open → OnErr result
+        ((state S.Store conn.new).committed ≡ (state S.Store conn.old).committed) }
     ensures crash { Survives (state S.Store conn.old) (state S.Store conn.new)
         (λ trees. IsTrue (state S.Store conn.old).is_open
         × AreMoved (state S.Store conn.old).now trees) }

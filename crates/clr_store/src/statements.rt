@@ -6,7 +6,8 @@ ghost use Rattle.sqlite.specs.Values.{bound};
 ghost use Rattle.clr_tables.specs.TableEdits.{without_table_row};
 ghost use Rattle.clr_store.specs.Change.{Does, Inserts, Replaces, with_rows};
 ghost use Rattle.clr_load.specs.Fault.{IsOfDatabase};
-ghost use Rattle.clr_load.specs.Layout.{AsMade, has_table};
+ghost use Rattle.clr_load.specs.Layout.{has_table};
+ghost use Rattle.clr_load.specs.declared.layout.Layout.TheVariants.{AsMade};
 ghost use Rattle.clr_load.specs.Schema.{columns_in, keys_in};
 ghost use Rattle.clr_load.specs.Stored.{fits_columns, has_key};
 

@@ -1,6 +1,6 @@
 //! The store: the register of a database, over a connection to it.
-ghost use Rattle.std.specs.Prelude.{◌≡◌, ◌≢◌, ◌⊎◌, false, true, is_ok, pos, List, IsTrue, IfErr};
-ghost use Rattle.std.specs.Prelude.{IfOk, IsErrAnd, MatchResult, Ok, OnErr, OnOk};
+ghost use Rattle.std.specs.Prelude.{ℕ, ◌≡◌, ◌≢◌, ◌⊎◌, false, true, is_ok, pos, List, IsTrue, IfErr};
+ghost use Rattle.std.specs.Prelude.{IfOk, IsErrAnd, MatchResult, Ok, OnErr, OnOk, length};
 ghost use Rattle.sqlite.specs.Held.{state};
 ghost use Rattle.sqlite.specs.Order.{Row};
 ghost use Rattle.sqlite.specs.State.{HasCleanDisk, Survives};
@@ -12,19 +12,21 @@ ghost use Rattle.clr_tables.specs.TableLaws.{HasNoJumper};
 ghost use Rattle.clr_tables.specs.Tables.{Tables, tables_by, tables_of, version_one};
 ghost use Rattle.clr_tables.specs.TypedRows.{IsTyped};
 ghost use Rattle.clr_load.specs.Schema.{no_schema};
-ghost use Rattle.clr_load.specs.Stored.{AreTables, HasMeta, HasOldTables, HasTables};
+ghost use Rattle.clr_load.specs.Stored.{AreTables, HasMeta, HasOldTables, HasTables, HasVersion};
+ghost use Rattle.clr_load.specs.Stored.{IsLaidOut, LacksMeta};
 ghost use Rattle.clr_load.specs.Cause.{SqlHasCause};
 ghost use Rattle.clr_load.specs.Fault.{IsOfDatabase};
 ghost use Rattle.clr_load.specs.Filling.{GivesInto, IsLoaded};
 ghost use Rattle.clr_load.specs.Contract.{GivesBack, GivesRows, IsSaved, old_points};
-ghost use Rattle.clr_load.specs.declared.fault.StoreFault.TheVariants.{Sql};
-ghost use Rattle.clr_store.specs.Contract.{AreEdited, IsOfOpening, MakesEdits, RefusesVersion};
+ghost use Rattle.clr_load.specs.declared.fault.StoreFault.TheVariants.{OtherTables, Sql};
+ghost use Rattle.clr_store.specs.Contract.{AreEdited, IsOfOpening, MakesEdits, RefusesOpening};
+ghost use Rattle.clr_store.specs.Contract.{RefusesVersion};
 ghost use Rattle.clr_store.specs.Moving.{IsOfMove, LeavesMoved, RefusesMove, RefusesToMove};
 
 use crate::create::make_register;
 use crate::edits::make_all;
 use crate::migrate::move_tables;
-use clr_load::{Fill, Loaded, Rows, StoreFault, load_into, load_rows, read_version};
+use clr_load::{Fill, Loaded, Rows, StoreFault, expect_version, load_into, load_rows};
 use clr_net::Network;
 use clr_rules::{Change, Hold, Record, StepRow};
 use clr_staff::Staff;
@@ -83,6 +85,9 @@ impl<S: Alter + Drop> Store<S> {
         ensures none { IfErr result (λ back. HasCleanDisk (state S.Store back.connection)
             → IsTrue (state S.Store back.connection).is_open
             → (state S.Store back.connection).now ≡ (state S.Store connection).now) }
+        ensures committed { IfErr result (λ back. HasCleanDisk (state S.Store back.connection)
+            → IsTrue (state S.Store back.connection).is_open
+            → (state S.Store back.connection).committed ≡ (state S.Store connection).committed) }
         ensures crash_made { IfOk result (λ store. Survives (state S.Store connection)
             (state S.Store store) (λ trees. AreTables trees (tables_of
             (opening network.now staff.now)))) }
@@ -102,9 +107,11 @@ impl<S: Alter + Drop> Store<S> {
 
     /// Opens the store of a database that has the tables, and changes nothing.
     ///
-    /// `Sql` where it has no tables or a transaction is open, `BadRow` of `meta` where that has no
-    /// version, `WrongVersion` where the version is not the one that is read. The other rows are
-    /// not looked at. A fault hands the connection back.
+    /// In this order: `Sql` where a transaction is open or there is no table `meta`; `BadRow` of
+    /// `meta` where that has no version; `WrongVersion` where the version is not the one that is
+    /// read; `OtherTables` where the tables are not those of a register, as where there is another
+    /// table, index, view or trigger, or `meta` has another row. The other rows are not looked at.
+    /// A fault hands the connection back.
     pub fn open(mut connection: Connection<S>) -> Result<Store<S>, Back<S>>
         ensures opened { IfOk result (λ store. HasCleanDisk (state S.Store store)
             → IsTrue (state S.Store store).is_open → (state S.Store store).now
@@ -118,12 +125,21 @@ impl<S: Alter + Drop> Store<S> {
             (λ store. store.in_transaction ≡ connection.in_transaction)
             (λ back. back.connection.in_transaction ≡ connection.in_transaction) }
         ensures fault { IfErr result (λ back. IsOfOpening back.fault) }
-        ensures bare { (state S.Store connection).now.schema ≡ no_schema → MatchResult result
-            (λ store. HasCleanDisk (state S.Store store) → ⊥)
-            (λ back. HasCleanDisk (state S.Store back.connection) → IsOfDatabase back.fault) }
+        ensures laid_out { IfOk result (λ store. HasCleanDisk (state S.Store store)
+            → IsLaidOut 2 (state S.Store connection).now) }
+        ensures alone { IfOk result (λ store. HasCleanDisk (state S.Store store)
+            → (meta : List Row) → HasMeta (state S.Store connection).now meta
+            → length meta ≡ 1) }
+        ensures bare { LacksMeta (state S.Store connection).now → IsErrAnd result
+            (λ back. back.fault ≡ Sql) }
+        ensures other { IfErr result (λ back. HasCleanDisk (state S.Store back.connection)
+            → back.fault ≡ OtherTables → HasVersion 2 (state S.Store connection).now → ⊥) }
         ensures none { IfErr result (λ back. HasCleanDisk (state S.Store back.connection)
             → IsTrue (state S.Store back.connection).is_open
             → (state S.Store back.connection).now ≡ (state S.Store connection).now) }
+        ensures committed { IfErr result (λ back. HasCleanDisk (state S.Store back.connection)
+            → IsTrue (state S.Store back.connection).is_open
+            → (state S.Store back.connection).committed ≡ (state S.Store connection).committed) }
         ensures cause { IfErr result (λ back. HasCleanDisk (state S.Store back.connection)
             → connection.in_transaction ≡ false → (meta : List Row)
             → HasMeta (state S.Store connection).now meta → SqlHasCause (state S.Store connection)
@@ -133,7 +149,7 @@ impl<S: Alter + Drop> Store<S> {
             → RefusesVersion (read_version meta) back.fault) }
         ensures refused { IfErr result (λ back. HasCleanDisk (state S.Store back.connection)
             → (t : Tables) → HasTables (state S.Store connection).now t
-            → RefusesVersion (read_version t.meta) back.fault) }
+            → RefusesOpening t back.fault) }
         ensures crash_opened { IfOk result (λ store. Survives (state S.Store connection)
             (state S.Store store) (λ _. ⊥)) }
         ensures crash_none { IfErr result (λ back. Survives (state S.Store connection)
@@ -143,7 +159,7 @@ impl<S: Alter + Drop> Store<S> {
             let fault = StoreFault::Sql;
             return Err(Back { fault, connection });
         }
-        match read_version(&mut connection) {
+        match expect_version(&mut connection, 2) {
             Ok(2) => Ok(Store { connection }),
             Ok(other) => {
                 let fault = StoreFault::WrongVersion(other);
@@ -157,9 +173,10 @@ impl<S: Alter + Drop> Store<S> {
     ///
     /// Tables of version 2 are opened as they are. Of version 1 each point is copied, with its
     /// position and its hand, into the table that version 2 reads, in one transaction; the table
-    /// of version 1 stays, empty. `Sql` where there are no tables, a transaction is open, or the
-    /// database fails; `NoMemory` where memory runs out; `WrongVersion` where the version is
-    /// another; `BadRow` of `meta` where that has no version, of `point` where the version is 1
+    /// of version 1 stays, empty. `Sql` where there is no table `meta`, a transaction is open, or
+    /// the database fails; `NoMemory` where memory runs out; `WrongVersion` where the version is
+    /// another; `OtherTables` where the tables are not those of a register of the version, as for
+    /// `open`; `BadRow` of `meta` where that has no version, of `point` where the version is 1
     /// and a point does not read. No other row is looked at. A fault hands the connection back,
     /// with the database as it was.
     pub fn migrate(mut connection: Connection<S>) -> Result<Store<S>, Back<S>>
@@ -184,12 +201,23 @@ impl<S: Alter + Drop> Store<S> {
             (λ store. store.in_transaction ≡ connection.in_transaction)
             (λ back. back.connection.in_transaction ≡ connection.in_transaction) }
         ensures fault { IfErr result (λ back. IsOfMove back.fault) }
-        ensures bare { (state S.Store connection).now.schema ≡ no_schema → MatchResult result
-            (λ store. HasCleanDisk (state S.Store store) → ⊥)
-            (λ back. HasCleanDisk (state S.Store back.connection) → IsOfDatabase back.fault) }
+        ensures laid_out { IfOk result (λ store. HasCleanDisk (state S.Store store)
+            → IsLaidOut 1 (state S.Store connection).now
+            ⊎ IsLaidOut 2 (state S.Store connection).now) }
+        ensures alone { IfOk result (λ store. HasCleanDisk (state S.Store store)
+            → (meta : List Row) → HasMeta (state S.Store connection).now meta
+            → length meta ≡ 1) }
+        ensures bare { LacksMeta (state S.Store connection).now → IsErrAnd result
+            (λ back. back.fault ≡ Sql) }
+        ensures other { IfErr result (λ back. HasCleanDisk (state S.Store back.connection)
+            → back.fault ≡ OtherTables → (n : ℕ)
+            → HasVersion n (state S.Store connection).now → ⊥) }
         ensures none { IfErr result (λ back. HasCleanDisk (state S.Store back.connection)
             → IsTrue (state S.Store back.connection).is_open
             → (state S.Store back.connection).now ≡ (state S.Store connection).now) }
+        ensures committed { IfErr result (λ back. HasCleanDisk (state S.Store back.connection)
+            → IsTrue (state S.Store back.connection).is_open
+            → (state S.Store back.connection).committed ≡ (state S.Store connection).committed) }
         ensures cause { IfErr result (λ back. HasCleanDisk (state S.Store back.connection)
             → connection.in_transaction ≡ false → (meta : List Row)
             → HasMeta (state S.Store connection).now meta → read_version meta ≢ Ok (pos 1)
@@ -214,7 +242,7 @@ impl<S: Alter + Drop> Store<S> {
             let fault = StoreFault::Sql;
             return Err(Back { fault, connection });
         }
-        let version = match read_version(&mut connection) {
+        let version = match expect_version(&mut connection, 1) {
             Ok(version) => version,
             Err(fault) => return Err(Back { fault, connection }),
         };

@@ -6,8 +6,8 @@ use Rattle.clr_tables.specs.declared.table_name.TableName.TheVariants.{Meta}
 use Rattle.clr_load.specs.declared.fault.StoreFault.TheVariants.{BadRow}
 use Rattle.clr_load.specs.Cause.{SqlHasCause}
 use Rattle.clr_load.proofs.Causes.{begun_cause, cause_later}
-use Rattle.clr_load.proofs.Loading.{lists_meta, never_shown}
-use Rattle.clr_load.proofs.Versions.{of_meta, tells_fault, told_of_meta}
+use Rattle.clr_load.proofs.Loading.{lists_meta}
+use Rattle.clr_load.proofs.Versions.{meta_is_there, of_meta, tells_fault, told_of_meta}
 use Rattle.clr_load.proofs.version.read_version.Goals as goal
 
 pub returns-in_err-version-clause-version : goal.returns-in_err-version-clause-version
@@ -40,22 +40,6 @@ returns-in_err-version-clause-fault g c =
     let told : c.from_residual-in_err-version.result ≡ Err (BadRow c.in_err-version.field-0.0) = search rules in
     told_of_meta c.from_residual-in_err-version.result c.in_err-version.field-0.0 (of_meta _ c.in_err-version.field-0.0 (sym c.version_in.ensures ∙ got)) told
 
-pub returns-in_err-version-clause-bare : goal.returns-in_err-version-clause-bare
-returns-in_err-version-clause-bare g c clean bare =
-    let mid = c.list_rows.new.tx.conn.now in
-    let end = c.drop-tx-in_err-version.new.self.0 in
-    let late : HasCleanDisk (state g.S.Store end) = search rules in
-    let early : HasCleanDisk (state g.S.Store mid) = omega (arith, c.drop-tx-in_err-version.ensures.survives.clean) in
-    absurd (never_shown _ _ Meta _ bare (rw c.transaction-tx.ensures.begun at (c.in_ok-rows.ensures.shown early)))
-
-pub returns-clause-bare : goal.returns-clause-bare
-returns-clause-bare g c clean bare =
-    let mid = c.list_rows.new.tx.conn.now in
-    let end = c.drop-tx-2.new.self.0 in
-    let late : HasCleanDisk (state g.S.Store end) = search rules in
-    let early : HasCleanDisk (state g.S.Store mid) = omega (arith, c.drop-tx-2.ensures.survives.clean) in
-    absurd (never_shown _ _ Meta _ bare (rw c.transaction-tx.ensures.begun at (c.in_ok-rows.ensures.shown early)))
-
 pub returns-clause-version : goal.returns-clause-version
 returns-clause-version g c clean meta has =
     let mid = c.list_rows.new.tx.conn.now in
@@ -65,3 +49,6 @@ returns-clause-version g c clean meta has =
     let rows = lists_meta _ _ meta _ has (rw c.transaction-tx.ensures.begun at (c.in_ok-rows.ensures.shown early)) in
     let read : read_version meta ≡ c.version_in.result = sym (c.version_in.ensures ∙ ap read_version (c.deref.ensures.value ∙ rows)) in
     search rules
+
+pub returns-then-not-has_meta-clause-cause : goal.returns-then-not-has_meta-clause-cause
+returns-then-not-has_meta-clause-cause g c out clean meta has = absurd (meta_is_there (state g.S.Store c.args.conn.now).now meta has (search rules))

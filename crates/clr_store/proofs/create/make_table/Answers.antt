@@ -1,6 +1,6 @@
 use Rattle.std.proofs.Common.{◌≡◌, Err, rules}
 use Rattle.sqlite.specs.Held.{state}
-use Rattle.clr_load.specs.Layout.{AsMade}
+use Rattle.clr_load.specs.declared.layout.Layout.TheVariants.{AsMade}
 use Rattle.clr_load.specs.Cause.{fault_of}
 use Rattle.clr_store.proofs.Inside.{statement_fails}
 use Rattle.clr_store.proofs.Creating.{makes_table}

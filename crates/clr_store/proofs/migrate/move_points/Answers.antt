@@ -4,7 +4,7 @@ use Rattle.sqlite.specs.State.{HasCleanDisk}
 use Rattle.clr_load.specs.Cause.{SqlHasCause}
 use Rattle.clr_load.specs.Contract.{RefusesPoints, old_points}
 use Rattle.clr_load.specs.Fault.{IsOfDatabase, IsOfPoints}
-use Rattle.clr_load.specs.Layout.{OfOne}
+use Rattle.clr_load.specs.declared.layout.Layout.TheVariants.{OfOne}
 use Rattle.clr_load.specs.Stored.{HasOldTables}
 use Rattle.clr_load.proofs.Inside.{fails_so}
 use Rattle.clr_store.specs.Moving.{IsMoving, Moves, moved_points}

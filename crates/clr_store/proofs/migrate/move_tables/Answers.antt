@@ -209,3 +209,38 @@ returns-in_err-commit-clause-cause g c out clean t has unread =
     let early : HasCleanDisk (state g.S.Store c.move_points.new.tx.conn.now) = omega (arith, c.set_version.ensures.survives.clean) in
     let read = rw begun at (c.in_ok-move_points.ensures.read early (rw begun refl)) in
     never_unread t (read t has) unread
+
+-- ---- what is committed stays as it is
+pub returns-in_err-move_points-clause-committed : goal.returns-in_err-move_points-clause-committed
+returns-in_err-move_points-clause-committed g c clean is_open =
+    let begun = c.transaction-tx.ensures.begun in
+    let late : HasCleanDisk (state g.S.Store c.drop-tx.new.self.0) = search rules in
+    let early : HasCleanDisk (state g.S.Store c.move_points.new.tx.conn.now) = omega (arith, c.drop-tx.ensures.survives.clean) in
+    let kept = c.in_err-move_points.ensures.moves.step early (rw begun refl) in
+    search rules
+
+pub returns-in_err-set_version-clause-committed : goal.returns-in_err-set_version-clause-committed
+returns-in_err-set_version-clause-committed g c clean is_open =
+    let tx = state g.S.Store c.transaction-tx.result.conn.now in
+    let first = state g.S.Store c.move_points.new.tx.conn.now in
+    let mid = state g.S.Store c.set_version.new.tx.conn.now in
+    let begun = c.transaction-tx.ensures.begun in
+    let late : HasCleanDisk (state g.S.Store c.drop-tx-in_err-set_version.new.self.0) = search rules in
+    let middle : HasCleanDisk mid = omega (arith, c.drop-tx-in_err-set_version.ensures.survives.clean) in
+    let early : HasCleanDisk first = omega (arith, c.set_version.ensures.survives.clean) in
+    let made = c.in_ok-move_points.ensures.moves.step early (rw begun refl) no_tables in
+    let kept = then_kept tx first mid made.kept (c.in_err-set_version.ensures.step middle made.inside) in
+    search rules
+
+pub returns-in_err-commit-clause-committed : goal.returns-in_err-commit-clause-committed
+returns-in_err-commit-clause-committed g c clean is_open =
+    let tx = state g.S.Store c.transaction-tx.result.conn.now in
+    let first = state g.S.Store c.move_points.new.tx.conn.now in
+    let mid = state g.S.Store c.set_version.new.tx.conn.now in
+    let begun = c.transaction-tx.ensures.begun in
+    let late : HasCleanDisk (state g.S.Store c.commit.new.self.0) = search rules in
+    let middle : HasCleanDisk mid = omega (arith, c.commit.ensures.survives.clean) in
+    let early : HasCleanDisk first = omega (arith, c.set_version.ensures.survives.clean) in
+    let made = c.in_ok-move_points.ensures.moves.step early (rw begun refl) no_tables in
+    let kept = then_kept tx first mid made.kept (c.in_ok-set_version.ensures.step middle made.inside).kept in
+    search rules

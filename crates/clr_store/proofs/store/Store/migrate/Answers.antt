@@ -5,11 +5,11 @@ use Rattle.sqlite.specs.State.{HasCleanDisk}
 use Rattle.clr_tables.proofs.Moved.{tables_are_moved}
 use Rattle.clr_tables.specs.RowsRead.{read_version}
 use Rattle.clr_tables.specs.Tables.{tables_by, version_one}
-use Rattle.clr_load.specs.Layout.{OfOne}
+use Rattle.clr_load.specs.declared.layout.Layout.TheVariants.{OfOne}
 use Rattle.clr_load.specs.Stored.{HasOldTables, HasTables}
 use Rattle.clr_load.proofs.Loading.{has_meta}
 use Rattle.clr_store.proofs.Moving.{leaves_moved, opened_cause, surely_open}
-use Rattle.clr_store.proofs.Versions.{move_unread, old_failed, old_stopped, old_unread, one_is_told}
+use Rattle.clr_store.proofs.Versions.{move_unread, old_failed, one_has, old_stopped, old_unread, one_is_told, points_not_other}
 use Rattle.clr_store.proofs.store.Store.migrate.Goals as goal
 
 pub returns-in-Err-clause-cause : goal.returns-in-Err-clause-cause
@@ -21,20 +21,20 @@ returns-in-Err-clause-points_cause g c clean out t has unread = c.in-Err.ensures
 pub returns-in-Err-move_tables-clause-points_cause : goal.returns-in-Err-move_tables-clause-points_cause
 returns-in-Err-move_tables-clause-points_cause g c clean out t has unread =
     let old = state g.S.Store c.args.connection in
-    let read = state g.S.Store c.read_version.new.conn in
+    let read = state g.S.Store c.expect_version.new.conn in
     let early : HasCleanDisk read = omega (arith, c.move_tables.ensures.crash.clean) in
-    opened_cause old read (state g.S.Store c.move_tables.new.conn) c.in-Err-move_tables.fault c.read_version.ensures.survives c.move_tables.ensures.crash clean (λ still.
-    c.in-Err-move_tables.ensures.cause (c.read_version.ensures.mode ∙ out) clean t (subst (λ (d : Database). HasOldTables d t) (sym (c.in-Ok.ensures.same early still)) has) unread)
+    opened_cause old read (state g.S.Store c.move_tables.new.conn) c.in-Err-move_tables.fault c.expect_version.ensures.survives c.move_tables.ensures.crash clean (λ still.
+    c.in-Err-move_tables.ensures.cause (c.expect_version.ensures.mode out) clean t (subst (λ (d : Database). HasOldTables d t) (sym (c.in-Ok.ensures.same early still)) has) unread)
 
 pub returns-in-Err-clause-unread : goal.returns-in-Err-clause-unread
 returns-in-Err-clause-unread g c clean meta has = move_unread (read_version meta) c.in-Err.fault c.in-Err.ensures.fault (c.in-Err.ensures.version clean meta has)
 
 pub returns-in-Err-clause-refused : goal.returns-in-Err-clause-refused
-returns-in-Err-clause-refused g c clean t has = old_unread t c.in-Err.fault c.in-Err.ensures.fault (c.in-Err.ensures.version clean t.meta (has_meta OfOne _ t has))
+returns-in-Err-clause-refused g c clean t has = old_unread t c.in-Err.fault c.in-Err.ensures.fault (λ is told. c.in-Err.ensures.other clean is 1 (one_has _ t has told)) (c.in-Err.ensures.version clean t.meta (has_meta OfOne _ t has))
 
 pub returns-in-Ok-move_tables-clause-moved : goal.returns-in-Ok-move_tables-clause-moved
 returns-in-Ok-move_tables-clause-moved g c clean t has one =
-    let read = state g.S.Store c.read_version.new.conn in
+    let read = state g.S.Store c.expect_version.new.conn in
     let early : HasCleanDisk read = omega (arith, c.move_tables.ensures.crash.clean) in
     let here : IsTrue read.is_open = surely_open (c.in-Ok-move_tables.ensures.was_open clean) in
     let same = c.in-Ok.ensures.same early here in
@@ -43,7 +43,7 @@ returns-in-Ok-move_tables-clause-moved g c clean t has one =
 
 pub returns-in-Ok-move_tables-clause-register : goal.returns-in-Ok-move_tables-clause-register
 returns-in-Ok-move_tables-clause-register g c clean R none has =
-    let read = state g.S.Store c.read_version.new.conn in
+    let read = state g.S.Store c.expect_version.new.conn in
     let old = tables_by version_one R in
     let early : HasCleanDisk read = omega (arith, c.move_tables.ensures.crash.clean) in
     let here : IsTrue read.is_open = surely_open (c.in-Ok-move_tables.ensures.was_open clean) in
@@ -53,26 +53,26 @@ returns-in-Ok-move_tables-clause-register g c clean R none has =
 
 pub returns-in-Ok-move_tables-clause-crash_moved : goal.returns-in-Ok-move_tables-clause-crash_moved
 returns-in-Ok-move_tables-clause-crash_moved g c =
-    leaves_moved (state g.S.Store c.args.connection) (state g.S.Store c.read_version.new.conn) (state g.S.Store c.move_tables.new.conn) c.read_version.ensures.survives c.move_tables.ensures.crash
+    leaves_moved (state g.S.Store c.args.connection) (state g.S.Store c.expect_version.new.conn) (state g.S.Store c.move_tables.new.conn) c.expect_version.ensures.survives c.move_tables.ensures.crash
     c.in-Ok.ensures.same (λ early meta has.
     let told = c.in-Ok.ensures.version early meta has in
     search rules)
 
 pub returns-in-Err-move_tables-clause-crash_none : goal.returns-in-Err-move_tables-clause-crash_none
 returns-in-Err-move_tables-clause-crash_none g c =
-    leaves_moved (state g.S.Store c.args.connection) (state g.S.Store c.read_version.new.conn) (state g.S.Store c.move_tables.new.conn) c.read_version.ensures.survives c.move_tables.ensures.crash
+    leaves_moved (state g.S.Store c.args.connection) (state g.S.Store c.expect_version.new.conn) (state g.S.Store c.move_tables.new.conn) c.expect_version.ensures.survives c.move_tables.ensures.crash
     c.in-Ok.ensures.same (λ early meta has.
     let told = c.in-Ok.ensures.version early meta has in
     search rules)
 
 pub returns-in-Err-move_tables-clause-none : goal.returns-in-Err-move_tables-clause-none
 returns-in-Err-move_tables-clause-none g c clean is_open =
-    let early : HasCleanDisk (state g.S.Store c.read_version.new.conn) = omega (arith, c.move_tables.ensures.crash.clean) in
+    let early : HasCleanDisk (state g.S.Store c.expect_version.new.conn) = omega (arith, c.move_tables.ensures.crash.clean) in
     c.in-Err-move_tables.ensures.none clean is_open ∙ c.in-Ok.ensures.same early (c.in-Err-move_tables.ensures.open_before clean is_open)
 
 pub returns-in-Err-move_tables-clause-refused : goal.returns-in-Err-move_tables-clause-refused
 returns-in-Err-move_tables-clause-refused g c clean t has =
-    let read = state g.S.Store c.read_version.new.conn in
+    let read = state g.S.Store c.expect_version.new.conn in
     let fault = c.in-Err-move_tables.fault in
     let early : HasCleanDisk read = omega (arith, c.move_tables.ensures.crash.clean) in
     let told = c.in-Ok.ensures.version early t.meta (has_meta OfOne _ t has) in
@@ -98,3 +98,30 @@ pub returns-in_default-clause-refused : goal.returns-in_default-clause-refused
 returns-in_default-clause-refused g c clean t has =
     let told = c.in-Ok.ensures.version clean t.meta (has_meta OfOne _ t has) in
     search rules
+
+pub returns-in-Ok-move_tables-clause-laid_out : goal.returns-in-Ok-move_tables-clause-laid_out
+returns-in-Ok-move_tables-clause-laid_out g c clean =
+    let early : HasCleanDisk (state g.S.Store c.expect_version.new.conn) = omega (arith, c.move_tables.ensures.crash.clean) in
+    inl (c.in-Ok.ensures.laid_out early 1 (search rules) (omega arith) (omega arith) (omega arith))
+
+pub returns-in-2-clause-laid_out : goal.returns-in-2-clause-laid_out
+returns-in-2-clause-laid_out g c clean = inr (c.in-Ok.ensures.laid_out clean 2 (search rules) (omega arith) (omega arith) (omega arith))
+
+pub returns-in-Err-clause-other : goal.returns-in-Err-clause-other
+returns-in-Err-clause-other g c clean is n has = c.in-Err.ensures.other clean is n has
+
+pub returns-in-Err-move_tables-clause-other : goal.returns-in-Err-move_tables-clause-other
+returns-in-Err-move_tables-clause-other g c clean is n has = points_not_other c.in-Err-move_tables.fault c.in-Err-move_tables.ensures.fault is
+
+pub returns-in-Err-move_tables-clause-committed : goal.returns-in-Err-move_tables-clause-committed
+returns-in-Err-move_tables-clause-committed g c clean is_open =
+    let early : HasCleanDisk (state g.S.Store c.expect_version.new.conn) = omega (arith, c.move_tables.ensures.crash.clean) in
+    c.in-Err-move_tables.ensures.committed clean is_open ∙ c.in-Ok.ensures.committed early (c.in-Err-move_tables.ensures.open_before clean is_open)
+
+pub returns-in-Ok-move_tables-clause-alone : goal.returns-in-Ok-move_tables-clause-alone
+returns-in-Ok-move_tables-clause-alone g c clean meta has =
+    let early : HasCleanDisk (state g.S.Store c.expect_version.new.conn) = omega (arith, c.move_tables.ensures.crash.clean) in
+    c.in-Ok.ensures.alone early 1 (search rules) (omega arith) (omega arith) (omega arith) meta has
+
+pub returns-in-2-clause-alone : goal.returns-in-2-clause-alone
+returns-in-2-clause-alone g c clean meta has = c.in-Ok.ensures.alone clean 2 (search rules) (omega arith) (omega arith) (omega arith) meta has

@@ -1,0 +1,88 @@
+use Rattle.std.proofs.Common.{◌≡◌, ◌≤◌, ◌∙◌, Err, Ok, ap, pos, arith, rules, subst, sym}
+use Rattle.std.specs.Prelude.{IfErr, IsTrue}
+use Rattle.sqlite.specs.Effect.{Database}
+use Rattle.sqlite.specs.Held.{state}
+use Rattle.sqlite.specs.State.{HasCleanDisk}
+use Rattle.clr_tables.specs.RowsRead.{read_version}
+use Rattle.clr_load.specs.Cause.{SqlHasCause}
+use Rattle.clr_load.specs.Contract.{TellsVersion}
+use Rattle.clr_load.specs.Fault.{IsOfExpected}
+use Rattle.clr_load.specs.Layout.{version_of}
+use Rattle.clr_load.specs.Schema.{schema_in}
+use Rattle.clr_load.specs.Stored.{HasMeta, HasVersion}
+use Rattle.clr_load.specs.declared.fault.StoreFault.TheVariants.{OtherTables}
+use Rattle.clr_load.proofs.Causes.{then_cause}
+use Rattle.clr_load.proofs.Inside.{both_survive}
+use Rattle.clr_load.proofs.Versioned.{numbered_as, one_layout}
+use Rattle.clr_load.proofs.Versions.{expected_tables, expected_version, tells_tables, tells_version, version_not_other}
+use Rattle.clr_load.proofs.expected.expect_version.Goals as goal
+
+pub returns-in_err-version-clause-version : goal.returns-in_err-version-clause-version
+returns-in_err-version-clause-version g c clean meta has =
+    let told : c.from_residual.result ≡ Err c.in_err-version.field-0.0 = search rules in
+    subst (TellsVersion c.args.oldest (read_version meta)) (sym told) (tells_version c.args.oldest (read_version meta) (Err c.in_err-version.field-0.0) (c.in_err-version.ensures.version clean meta has))
+
+pub returns-in_err-version-clause-fault : goal.returns-in_err-version-clause-fault
+returns-in_err-version-clause-fault g c =
+    let told : c.from_residual.result ≡ Err c.in_err-version.field-0.0 = search rules in
+    subst (λ r. IfErr r IsOfExpected) (sym told) (expected_version _ c.in_err-version.ensures.fault)
+
+pub returns-in_err-version-clause-other : goal.returns-in_err-version-clause-other
+returns-in_err-version-clause-other g c clean =
+    let told : c.from_residual.result ≡ Err c.in_err-version.field-0.0 = search rules in
+    subst (λ r. IfErr r (λ fault. fault ≡ OtherTables → (n : _) → HasVersion n (state g.S.Store c.args.conn.now).now → ⊥)) (sym told)
+    (λ is n has. version_not_other _ c.in_err-version.ensures.fault is)
+
+pub returns-in_err-version-clause-cause : goal.returns-in_err-version-clause-cause
+returns-in_err-version-clause-cause g c out clean meta has =
+    let told : c.from_residual.result ≡ Err c.in_err-version.field-0.0 = search rules in
+    subst (λ r. IfErr r (SqlHasCause (state g.S.Store c.args.conn.now) (state g.S.Store c.read_version.new.conn))) (sym told) (c.in_err-version.ensures.cause out clean meta has)
+
+-- the tables were looked at before the version was read
+pub returns-in_err-expect_rows-clause-version : goal.returns-in_err-expect_rows-clause-version
+returns-in_err-expect_rows-clause-version g c clean meta has =
+    let early : HasCleanDisk (state g.S.Store c.read_version.new.conn) = omega (arith, c.expect_rows.ensures.survives.clean) in
+    let told : c.from_residual-in_err-expect_rows.result ≡ Err c.in_err-expect_rows.field-0.0 = search rules in
+    let number = c.in-Some.ensures.some in
+    let is : c.in_ok-version.version ≡ pos c.in-Some.number = search rules in
+    let low : c.args.oldest ≤ c.in-Some.number = omega (arith, c.if-number-oldest.false) in
+    subst (TellsVersion c.args.oldest (read_version meta)) (sym told)
+    (tells_tables c.args.oldest c.in-Some.number (read_version meta) _ c.in_err-expect_rows.ensures.fault (c.in_ok-version.ensures.version early meta has ∙ ap Ok is) low number.2)
+
+pub returns-in_err-expect_rows-clause-same : goal.returns-in_err-expect_rows-clause-same
+returns-in_err-expect_rows-clause-same g c clean shown =
+    let early : HasCleanDisk (state g.S.Store c.read_version.new.conn) = omega (arith, c.expect_rows.ensures.survives.clean) in
+    c.expect_rows.ensures.same clean shown ∙ c.in_ok-version.ensures.same early ((c.expect_rows.ensures.stays clean).was_open shown)
+
+pub returns-clause-same : goal.returns-clause-same
+returns-clause-same g c clean shown =
+    let early : HasCleanDisk (state g.S.Store c.read_version.new.conn) = omega (arith, c.expect_rows.ensures.survives.clean) in
+    c.expect_rows.ensures.same clean shown ∙ c.in_ok-version.ensures.same early ((c.expect_rows.ensures.stays clean).was_open shown)
+
+pub returns-then-version-number-clause-other : goal.returns-then-version-number-clause-other
+returns-then-version-number-clause-other g c clean is n has =
+    let old = state g.S.Store c.args.conn.now in
+    let version : c.in_ok-version.version ≡ pos c.in-Some.number = search rules in
+    let there = numbered_as n c.in-Some.number old.now has (λ meta first. c.in_ok-version.ensures.version clean meta first ∙ ap Ok version) in
+    let schema : old.now.schema ≡ schema_in c.in-Some-found.layout = search rules in
+    let same : there.layout ≡ c.in-Some-found.layout = one_layout there.layout c.in-Some-found.layout (sym there.here.holds.schema ∙ schema) in
+    let told : version_of c.in-Some-found.layout ≡ c.in-Some.number = sym (ap version_of same) ∙ there.version_is in
+    search rules
+
+pub returns-in_err-expect_rows-clause-committed : goal.returns-in_err-expect_rows-clause-committed
+returns-in_err-expect_rows-clause-committed g c clean shown =
+    let early : HasCleanDisk (state g.S.Store c.read_version.new.conn) = omega (arith, c.expect_rows.ensures.survives.clean) in
+    c.expect_rows.ensures.committed clean shown ∙ c.in_ok-version.ensures.committed early ((c.expect_rows.ensures.stays clean).was_open shown)
+
+pub returns-clause-committed : goal.returns-clause-committed
+returns-clause-committed g c clean shown =
+    let early : HasCleanDisk (state g.S.Store c.read_version.new.conn) = omega (arith, c.expect_rows.ensures.survives.clean) in
+    c.expect_rows.ensures.committed clean shown ∙ c.in_ok-version.ensures.committed early ((c.expect_rows.ensures.stays clean).was_open shown)
+
+pub returns-clause-alone : goal.returns-clause-alone
+returns-clause-alone g c clean n is one low two meta has =
+    let early : HasCleanDisk (state g.S.Store c.read_version.new.conn) = omega (arith, c.expect_rows.ensures.survives.clean) in
+    let open_then : IsTrue (state g.S.Store c.read_version.new.conn).is_open = search rules in
+    let same = c.in_ok-version.ensures.same early open_then in
+    let rows = c.expect_rows.ensures.alone clean meta (subst (λ (db : Database). HasMeta db meta) (sym same) has) in
+    search rules

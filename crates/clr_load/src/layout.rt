@@ -1,0 +1,82 @@
+//! How the tables of a register lie in a database.
+ghost use Rattle.std.specs.Prelude.{◌≡◌, ◌<◌};
+ghost use Rattle.clr_load.specs.Layout.{names_in, tree_in, version_of};
+
+use clr_tables::TableName;
+
+/// A layout of the tables of a register: which there are, and in which order they were made.
+#[derive(Clone, Copy, Debug, PartialEq, Eq)]
+pub enum Layout {
+    /// Version 1.
+    OfOne,
+    /// Version 2, made in an empty database.
+    AsMade,
+    /// Version 2, moved from version 1: `point` stays, and is empty.
+    AsMoved,
+}
+
+impl Layout {
+    /// The version that `meta` has.
+    pub(crate) fn version(self) -> u8
+        ensures { result ≡ version_of self }
+    {
+        match self {
+            Layout::OfOne => 1,
+            Layout::AsMade | Layout::AsMoved => 2,
+        }
+    }
+
+    /// The tables, in the order in which they are made.
+    pub(crate) fn tables(self) -> &'static [TableName]
+        ensures { result.now ≡ names_in self }
+    {
+        match self {
+            Layout::OfOne => &[
+                TableName::Meta,
+                TableName::Section,
+                TableName::Point,
+                TableName::Staff,
+                TableName::Clearance,
+                TableName::Step,
+                TableName::Hold,
+            ],
+            Layout::AsMade => &[
+                TableName::Meta,
+                TableName::Section,
+                TableName::NetworkPoint,
+                TableName::Staff,
+                TableName::Clearance,
+                TableName::Step,
+                TableName::Hold,
+            ],
+            Layout::AsMoved => &[
+                TableName::Meta,
+                TableName::Section,
+                TableName::Point,
+                TableName::Staff,
+                TableName::Clearance,
+                TableName::Step,
+                TableName::Hold,
+                TableName::NetworkPoint,
+            ],
+        }
+    }
+
+    /// The tree that has the rows of a table.
+    pub(crate) fn tree(self, table: TableName) -> u32
+        ensures tree { result ≡ tree_in self table }
+        ensures low { result < 16 }
+    {
+        match (self, table) {
+            (_, TableName::Meta) => 0,
+            (_, TableName::Section) => 2,
+            (_, TableName::Point) => 4,
+            (_, TableName::Staff) => 6,
+            (_, TableName::Clearance) => 8,
+            (_, TableName::Step) => 10,
+            (_, TableName::Hold) => 12,
+            (Layout::AsMade, TableName::NetworkPoint) => 4,
+            (Layout::OfOne | Layout::AsMoved, TableName::NetworkPoint) => 14,
+        }
+    }
+}
