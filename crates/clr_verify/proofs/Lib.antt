@@ -1,3 +1,8 @@
 pub mod Fronts
 pub mod Exact
 pub mod Same
+pub mod Flat
+pub mod Taken
+pub mod Replied
+pub mod Carried
+pub mod Lines

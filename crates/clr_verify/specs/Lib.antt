@@ -1,3 +1,7 @@
 pub mod Differences
 pub mod Registers
 pub mod Laws
+pub mod Replay
+pub mod Replies
+pub mod Rerun
+pub mod Running

@@ -1,3 +1,0 @@
-pub mod Flat
-pub mod Taken
-pub mod Replied

@@ -1,9 +1,0 @@
-//! Laws of the definitions: the contract of each function is the law.
-ghost use Rattle.clr_replay.specs.Laws.{NestsNoDeeper, RepliesAreExact};
-
-/// No reply of a line that was read nests deeper than 127. So replies that are found to be those of
-/// the lines of a journal are exactly those.
-pub fn replies_are_exact()
-    ensures depth { NestsNoDeeper }
-    ensures exact { RepliesAreExact }
-{}

@@ -1,2 +1,0 @@
-pub mod Rerun
-pub mod Running
