@@ -3,9 +3,12 @@
 #![tactic(auto)]
 
 mod behind;
+mod closing;
 mod host;
+mod host_place;
 mod line;
 mod opening;
+mod place;
 mod system;
 mod timed;
 mod watch;
@@ -14,6 +17,7 @@ mod watched_database;
 
 pub use behind::Behind;
 pub use host::Host;
+pub use place::{Node, Place, is_own};
 pub use system::System;
 pub use timed::{Call, Limit, Timed, Waits};
 pub use watch::{Event, Watch};

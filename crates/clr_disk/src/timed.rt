@@ -97,8 +97,8 @@ impl<K> Limit<K> {
 /// Without one each call is the stream's own.
 #[derive(Drop)]
 pub struct Timed<T, K> {
-    stream: T,
-    limit: Option<Limit<K>>,
+    pub(crate) stream: T,
+    pub(crate) limit: Option<Limit<K>>,
 }
 
 impl<T, K> Timed<T, K> {

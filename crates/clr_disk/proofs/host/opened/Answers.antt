@@ -1,8 +1,8 @@
-use Rattle.std.proofs.Common.{ℕ, Bool, cond, List, ap₂, refl, Result, Ok, Err}
+use Rattle.std.proofs.Common.{ℕ, Bool, cond, List, ap₂, Result, Ok, Err}
 use Rattle.std.specs.Prelude.{IfOk}
 use Rattle.sqlite_disk.specs.Events.{Event, replay}
 use Rattle.sqlite_wal.specs.Recovery.{Image}
-use Rattle.clr_disk.proofs.host.HostSystem.files.Goals as goal
+use Rattle.clr_disk.proofs.host.opened.Goals as goal
 
 abbrev image : List ℕ → List ℕ → Image
 image log db = record { log = log; db = db }
@@ -15,9 +15,7 @@ of_ok (Ok a) step holds = step a holds
 of_ok (Err e) step holds = tt
 
 -- the files hold what they held before they were opened
-pub returns-clause-has : goal.returns-clause-has
-returns-clause-has g c = of_ok c.open.result (λ files fresh. (
-  refl,
-  ap₂ image (ap₂ (seen g.S.Start.log g.S.Start.db) fresh.0.0 fresh.0.1) (ap₂ (seen g.S.Start.log g.S.Start.db) fresh.1.0 fresh.1.1),
-))
+pub returns-in-Some-clause-has : goal.returns-in-Some-clause-has
+returns-in-Some-clause-has g c = of_ok c.open.result (λ files fresh.
+    ap₂ image (ap₂ (seen g.S.Start.log g.S.Start.db) fresh.0.0 fresh.0.1) (ap₂ (seen g.S.Start.log g.S.Start.db) fresh.1.0 fresh.1.1))
     c.open.ensures.fresh
