@@ -1,8 +1,9 @@
 -- A connection as it was answered, by what was read of it and how that was answered.
-use Rattle.std.proofs.Common.{◌≡◌, ◌≢◌, ℕ, Bool, true, false, if◌then◌else◌, Option, List, [], None, Some, ap, inl, refl, sym, subst, Result, Ok, Err}
+use Rattle.std.proofs.Common.{◌≡◌, ◌≢◌, ◌+◌, ℕ, Bool, true, false, if◌then◌else◌, Option, List, [], None, Some, ap, inl, refl, sym, subst, Result, Ok, Err}
 use Rattle.std.specs.Io.KnownBytes.{IsAtEnd}
 use Rattle.clr_stream.specs.Failures.{Rose}
 use Rattle.clr_stream.specs.Streams.{Stream}
+use Rattle.clr_stream.specs.Whole.{TakesAtMost}
 use Rattle.clr_rules.proofs.Common.{IsGood, Register}
 use Rattle.clr_rules.proofs.keeps.EveryKind.{reached_are_good}
 use Rattle.clr_http.proofs.Connections.{answered_served, connection, empty_connection, of_kind, refusal_accounts, refused_served, served_as, unmade_connection, unmade_served, unread_connection}
@@ -43,9 +44,10 @@ outcome_of logins login R a body = by (may_ask logins login (target_asks a body)
 
 -- one whose request was not read
 pub unread_answered : (service : Service) (k : Keeper) (input left : Source) (stream : Stream) (result : Result Served HttpFault) (fault : ReadFault)
+    → TakesAtMost (8192 + 65536) input.remaining left.remaining
     → result ≡ Err (http_fault_of fault) → (fault ≡ read.ReadFailed → Rose input.failures left.failures)
     → IsAnsweredAt service k k input left stream stream result
-unread_answered service k input left stream result fault e rose =
+unread_answered service k input left stream result fault bounded e rose =
     subst (IsAnsweredAt service k k input left stream stream) (sym e) (none fault rose)
   where
     none : (fault : ReadFault) → (fault ≡ read.ReadFailed → Rose input.failures left.failures)
@@ -55,6 +57,7 @@ unread_answered service k input left stream result fault e rose =
       refused = λ bytes known none. (refl, refl);
       carries = λ good. none_of service input.remaining k k stream stream (Err ReadFailed) refl refl;
       always = unread_connection k stream (Err ReadFailed) read.ReadFailed refl;
+      bounded = bounded;
       nothing = λ x. cc x;
       empty = λ known. tt;
       unread = λ x. (rose refl, refl, refl);
@@ -67,6 +70,7 @@ unread_answered service k input left stream result fault e rose =
       refused = λ bytes known none. (refl, refl);
       carries = λ good. none_of service input.remaining k k stream stream (Err NoMemory) refl refl;
       always = unread_connection k stream (Err NoMemory) read.NoMemory refl;
+      bounded = bounded;
       nothing = λ x. cc x;
       empty = λ known. tt;
       unread = λ x. cc x;
@@ -76,12 +80,14 @@ unread_answered service k input left stream result fault e rose =
     }
 
 -- one that ended before its first byte
-pub empty_answered : (service : Service) (k : Keeper) (input left : Source) (stream : Stream) → IsAtEnd input.remaining → IsAnsweredAt service k k input left stream stream (Ok Nothing)
-empty_answered service k input left stream end = record {
+pub empty_answered : (service : Service) (k : Keeper) (input left : Source) (stream : Stream) → TakesAtMost (8192 + 65536) input.remaining left.remaining
+    → IsAtEnd input.remaining → IsAnsweredAt service k k input left stream stream (Ok Nothing)
+empty_answered service k input left stream bounded end = record {
   served = λ bytes rest head known b good. absurd (no_head bytes (at_end input.remaining bytes known end) (head, rest, b));
   refused = λ bytes known none. (refl, refl);
   carries = λ good. none_of service input.remaining k k stream stream (Ok Nothing) refl refl;
   always = empty_connection k stream;
+  bounded = bounded;
   nothing = λ x. (end, refl, refl);
   empty = λ known. refl;
   unread = λ x. cc x;
@@ -93,7 +99,7 @@ empty_answered service k input left stream end = record {
 module _ (service : Service) (input left : Source) (before behind : Stream) (result : Result Served HttpFault) (r : Response)
     (sent : IsWritten (λ c. c ≡ content_of r) before behind result) (some : result ≢ Ok Nothing) (calm : result ≢ Err ReadFailed)
     (fixed : r ≡ made.Unavailable → result ≢ Err NoMemory)
-    (begun : input.remaining ≡ Some [] → ⊥) where
+    (begun : input.remaining ≡ Some [] → ⊥) (bounded : TakesAtMost (8192 + 65536) input.remaining left.remaining) where
   -- one that was refused
   pub refused_answered : (k : Keeper) → ((bytes : List ℕ) → input.remaining ≡ Some bytes → IsReading service bytes left.remaining (refused (content_of r)))
       → IsNo503 (refused (content_of r)) → IsAnsweredAt service k k input left before behind result
@@ -108,6 +114,7 @@ module _ (service : Service) (input left : Source) (before behind : Stream) (res
         (of_kind (IsToldAt service input.remaining None k k) (content_of r) before behind result
         (refl, inl (reading_may_ask service input.remaining left.remaining (refused (content_of r)) reads, plain, refl)) sent);
     always = connection k k before behind result r (refusal_accounts k r plain) fixed sent;
+    bounded = bounded;
     nothing = λ e. absurd (some e);
     empty = λ known. absurd (begun known);
     unread = λ e. absurd (calm e);
@@ -133,6 +140,7 @@ module _ (service : Service) (input left : Source) (before behind : Stream) (res
         carries = λ good.
             turn_carries service input.remaining old new before behind result (caller_checked logins login (asks a body)) r (reading_may_ask service input.remaining left.remaining (caller_checked logins login (asks a body)) reads) (turn good) accounts sent;
         always = connection old new before behind result r accounts fixed sent;
+        bounded = bounded;
         nothing = λ e. absurd (some e);
         empty = λ known. absurd (begun known);
         unread = λ e. absurd (calm e);
@@ -144,10 +152,11 @@ module _ (service : Service) (input left : Source) (before behind : Stream) (res
 -- one for whose response memory ran out
 pub unmade_answered : (service : Service) (old new : Keeper) (input left : Source) (stream : Stream) (result : Result Served HttpFault)
     (logins : Option (List LoginRow)) (login : Option (List ℕ)) (a : Target) (body : List ℕ)
+    → TakesAtMost (8192 + 65536) input.remaining left.remaining
     → result ≡ Err NoMemory → ((bytes : List ℕ) → input.remaining ≡ Some bytes → IsReading service bytes left.remaining (caller_checked logins login (asks a body)))
     → (IsGood old.register → IsLeft (checked_outcome logins login old.register a body) old.register new.register) → new.faults ≡ old.faults
     → IsAnsweredAt service old new input left stream stream result
-unmade_answered service old new input left stream result logins login a body e reads turned same = subst (IsAnsweredAt service old new input left stream stream) (sym e) none
+unmade_answered service old new input left stream result logins login a body bounded e reads turned same = subst (IsAnsweredAt service old new input left stream stream) (sym e) none
   where
     left_so : IsGood old.register → IsLeft (reading_outcome old.register (caller_checked logins login (asks a body))) old.register new.register
     left_so good = subst (λ (o : Outcome). IsLeft o old.register new.register) (sym (outcome_of logins login old.register a body)) (turned good)
@@ -163,6 +172,7 @@ unmade_answered service old new input left stream result logins login a body e r
       carries = λ good.
           unmade_carries service input.remaining old new stream (caller_checked logins login (asks a body)) (reading_may_ask service input.remaining left.remaining (caller_checked logins login (asks a body)) reads) (left_so good);
       always = unmade_connection old new stream (Err NoMemory) refl same;
+      bounded = bounded;
       nothing = λ x. cc x;
       empty = λ known. tt;
       unread = λ x. cc x;

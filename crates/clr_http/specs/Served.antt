@@ -1,5 +1,5 @@
 -- WHAT SERVING ONE CONNECTION COMES TO: what went out, and the register after it.
-use Rattle.std.specs.Prelude.{◌≡◌, ◌≢◌, ◌⊎◌, ℕ, List, Option, Some, Result, Ok, Err}
+use Rattle.std.specs.Prelude.{◌≡◌, ◌≢◌, ◌⊎◌, ◌||◌, ℕ, Bool, false, nat_eq, List, Option, Some, Result, Ok, Err}
 use Rattle.clr_stream.specs.Failures.{Rose}
 use Rattle.clr_stream.specs.Streams.{Stream, WroteAll, WrotePart}
 use Rattle.clr_http.specs.Registrar.{Accounts, CountsFault, IsTurn, Keeper}
@@ -51,3 +51,14 @@ IsRefusal input left c = IsRefusedHead (Some input) left (refused c)
 abbrev pub http_fault_of : ReadFault → HttpFault
 http_fault_of read.ReadFailed = ReadFailed
 http_fault_of read.NoMemory = NoMemory
+
+-- the statuses by which a request may be refused before it was read whole
+abbrev pub refuses_unread : ℕ → Bool
+refuses_unread status = nat_eq status 400 || nat_eq status 403 || nat_eq status 404
+    || nat_eq status 405 || nat_eq status 411 || nat_eq status 413
+
+-- MORE OF A REQUEST MAY COME after its response, which refuses it by its head
+abbrev pub may_be_unread : Result Served HttpFault → Bool
+may_be_unread (Ok Nothing) = false
+may_be_unread (Ok (Answered status)) = refuses_unread status
+may_be_unread (Err fault) = false

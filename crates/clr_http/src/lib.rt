@@ -15,6 +15,7 @@ mod response;
 mod serve;
 mod service;
 mod target;
+mod unread;
 
 pub use options::Service;
 pub use registrar::Registrar;
@@ -23,3 +24,4 @@ pub use service::{
     headline_holds_of_requests, inputs_are_answered_once, posted_bodies_ask, requests_are_runs,
     requests_speak_for_themselves, serve_all,
 };
+pub use unread::may_be_unread;

@@ -1,5 +1,5 @@
 //! The request: what its head and the bytes after it ask for.
-ghost use Rattle.std.specs.Prelude.{◌≡◌, ◌≢◌, ◌≤◌, ◌<◌, ℕ, All, List, [], Option, Some, None, Ok};
+ghost use Rattle.std.specs.Prelude.{◌≡◌, ◌≢◌, ◌≤◌, ◌<◌, ◌+◌, ℕ, All, List, [], Option, Some, None, Ok};
 ghost use Rattle.std.specs.Prelude.{Err, IfOk, IfErr, IfSome, drop, length, map, take};
 ghost use Rattle.std.specs.Prelude.{◌&&◌, true, false, vec_len};
 ghost use Rattle.std.specs.Str.{IsUtf8};
@@ -8,6 +8,7 @@ ghost use Rattle.httparse.specs.Grammar.{RequestHead};
 ghost use Rattle.httparse.specs.Spans.{IsHeaderWithin, IsRequestAt, IsRequestWithin, header_bytes};
 ghost use Rattle.httparse.specs.Spans.{span_bytes};
 ghost use Rattle.clr_stream.specs.Failures.{Rose};
+ghost use Rattle.clr_stream.specs.Whole.{TakesAtMost};
 ghost use Rattle.clr_http.specs.Callers.{login_of};
 ghost use Rattle.clr_http.specs.Fields.{fields_of};
 ghost use Rattle.clr_http.specs.Head.{BeginsWith, IsOutside};
@@ -96,6 +97,8 @@ fn fill_to<R: CountedRead>(
         × IsAtEnd (R.remaining reader.new) }
     ensures kept { take (vec_len buffer.old) buffer.new.items ≡ buffer.old.items }
     ensures grown { vec_len buffer.old ≤ vec_len buffer.new }
+    ensures within { wanted ≤ 8192 + 65536 → vec_len buffer.old ≤ 8192 + 65536
+        → vec_len buffer.new ≤ 8192 + 65536 }
     ensures fault { IfErr result (λ e. IsOutside e) }
     ensures calm { IfOk result (λ n. R.failure_count reader.new ≡ R.failure_count reader.old) }
     ensures cause { result ≡ Err HeadFault.ReadFailed
@@ -170,6 +173,10 @@ fn command_behind<R: CountedRead>(
     ensures reading { (input : List ℕ)
         → Consumes (Some input) (R.remaining reader.old) buffer.old.items
         → IfOk result (λ r. reading r ≡ command_read (Ok size) (drop start input)) }
+    ensures taken { (first : Option (List ℕ))
+        → Consumes first (R.remaining reader.old) buffer.old.items
+        → Consumes first (R.remaining reader.new) buffer.new.items }
+    ensures within { vec_len buffer.old ≤ 8192 → vec_len buffer.new ≤ 8192 + 65536 }
     ensures plain { IfOk result (λ r. IsNo503 (reading r)) }
     ensures cause { result ≡ Err ReadFault.ReadFailed
         → Rose (R.failure_count reader.old) (R.failure_count reader.new) }
@@ -200,6 +207,10 @@ fn command_in<R: CountedRead>(
         → IfOk result (λ r. reading r
         ≡ command_read (body_length (map (header_bytes buffer.old.items) headers.now))
         (drop start input)) }
+    ensures taken { (first : Option (List ℕ))
+        → Consumes first (R.remaining reader.old) buffer.old.items
+        → Consumes first (R.remaining reader.new) buffer.new.items }
+    ensures within { vec_len buffer.old ≤ 8192 → vec_len buffer.new ≤ 8192 + 65536 }
     ensures plain { IfOk result (λ r. IsNo503 (reading r)) }
     ensures cause { result ≡ Err ReadFault.ReadFailed
         → Rose (R.failure_count reader.old) (R.failure_count reader.new) }
@@ -236,6 +247,10 @@ fn request_in<R: CountedRead>(
         → IsRequestAt buffer.old.items headers.now spans head
         → Consumes (Some input) (R.remaining reader.old) buffer.old.items
         → IfOk result (λ r. reading r ≡ head_read service.now head (drop spans.len input)) }
+    ensures taken { (first : Option (List ℕ))
+        → Consumes first (R.remaining reader.old) buffer.old.items
+        → Consumes first (R.remaining reader.new) buffer.new.items }
+    ensures within { vec_len buffer.new ≤ 8192 + 65536 }
     ensures plain { IfOk result (λ r. IsNo503 (reading r)) }
     ensures cause { result ≡ Err ReadFault.ReadFailed
         → Rose (R.failure_count reader.old) (R.failure_count reader.new) }
@@ -269,6 +284,8 @@ pub(crate) fn read_request<R: CountedRead>(
     ensures login { (input rest : List ℕ) (head : RequestHead)
         → R.remaining reader.old ≡ Some input → BeginsWith input head rest
         → IfOk result (λ o. IfSome o (λ h. h.login ≡ login_of (fields_of head))) }
+    ensures bounded { TakesAtMost (8192 + 65536)
+        (R.remaining reader.old) (R.remaining reader.new) }
     ensures nothing { result ≡ Ok None → IsAtEnd (R.remaining reader.old) }
     ensures empty { R.remaining reader.old ≡ Some [] → IfOk result (λ o. o ≡ None) }
     ensures plain { IfOk result (λ o. IfSome o (λ h. IsNo503 (reading h.request))) }

@@ -59,6 +59,35 @@ returns-clause-known g c input e =
       (bytes, taken, c.in-Err.fault, refusal, c.in-Err.ensures.fault),
     )
 
+-- at most a head was taken
+pub returns-in-Ok-None-clause-bounded : goal.returns-in-Ok-None-clause-bounded
+returns-in-Ok-None-clause-bounded g c =
+    let len : vec_len c.read_head.new.buffer ≡ length c.read_head.new.buffer.items = c.read_head.new.buffer.ok.0 in
+    (c.read_head.new.buffer.items, c.read_head.ensures.taken, omega (arith, len, c.read_head.ensures.size))
+
+pub returns-in_err-request-in-Err-clause-bounded : goal.returns-in_err-request-in-Err-clause-bounded
+returns-in_err-request-in-Err-clause-bounded g c =
+    let len : vec_len c.read_head.new.buffer ≡ length c.read_head.new.buffer.items = c.read_head.new.buffer.ok.0 in
+    (c.read_head.new.buffer.items, c.read_head.ensures.taken, omega (arith, len, c.read_head.ensures.size))
+
+pub returns-clause-bounded : goal.returns-clause-bounded
+returns-clause-bounded g c =
+    let len : vec_len c.read_head.new.buffer ≡ length c.read_head.new.buffer.items = c.read_head.new.buffer.ok.0 in
+    (c.read_head.new.buffer.items, c.read_head.ensures.taken, omega (arith, len, c.read_head.ensures.size))
+
+-- or a head and a body
+pub returns-in_err-request-in-Ok-Some-clause-bounded : goal.returns-in_err-request-in-Ok-Some-clause-bounded
+returns-in_err-request-in-Ok-Some-clause-bounded g c =
+    let after = c.request_in.new.buffer in
+    let len : vec_len after ≡ length after.items = after.ok.0 in
+    (after.items, c.request_in.ensures.taken (g.R.Read.remaining c.args.reader.now) c.read_head.ensures.taken, omega (arith, len, c.request_in.ensures.within))
+
+pub returns-in-Ok-Some-clause-bounded : goal.returns-in-Ok-Some-clause-bounded
+returns-in-Ok-Some-clause-bounded g c =
+    let after = c.request_in.new.buffer in
+    let len : vec_len after ≡ length after.items = after.ok.0 in
+    (after.items, c.request_in.ensures.taken (g.R.Read.remaining c.args.reader.now) c.read_head.ensures.taken, omega (arith, len, c.request_in.ensures.within))
+
 pub returns-in-Ok-Some-clause-empty : goal.returns-in-Ok-Some-clause-empty
 returns-in-Ok-Some-clause-empty g c e =
     let left = g.R.Read.remaining c.read_head.new.reader in

@@ -18,12 +18,12 @@ use Rattle.clr_http.proofs.serve.serve_request.Goals as goal
 pub returns-in_err-heard-clause-answered : goal.returns-in_err-heard-clause-answered
 returns-in_err-heard-clause-answered g c =
     let unread : c.from_residual.result ≡ Err (http_fault_of c.in_err-heard.field-0.0) = search rules in
-    unread_answered _ _ _ _ _ _ _ unread (λ e. c.read_request.ensures.cause (search (e, rules)))
+    unread_answered _ _ _ _ _ _ _ c.read_request.ensures.bounded unread (λ e. c.read_request.ensures.cause (search (e, rules)))
 
 pub returns-in_default-clause-answered : goal.returns-in_default-clause-answered
 returns-in_default-clause-answered g c =
     let none = c.in_default.is in
-    empty_answered _ _ _ _ _ (c.in_ok-heard.ensures.nothing (search (none, rules)))
+    empty_answered _ _ _ _ _ c.read_request.ensures.bounded (c.in_ok-heard.ensures.nothing (search (none, rules)))
 
 pub returns-in-Refused-clause-answered : goal.returns-in-Refused-clause-answered
 returns-in-Refused-clause-answered g c =
@@ -33,7 +33,7 @@ returns-in-Refused-clause-answered g c =
     let plain : IsNo503 (refused (content_of c.in-Refused.response)) =
     subst (λ x. IsNo503 (reading x)) c.in-Refused.is (subst (λ o. IfSome o (λ h. IsNo503 (reading h.request))) some c.in_ok-heard.ensures.plain) in
     refused_answered _ _ _ _ _ _ _ c.send.ensures.written c.send.ensures.some c.send.ensures.calm c.send.ensures.fixed
-    (λ e. let none : Some c.in-Some.heard ≡ None = sym some ∙ c.in_ok-heard.ensures.empty e in cc none) _
+    (λ e. let none : Some c.in-Some.heard ≡ None = sym some ∙ c.in_ok-heard.ensures.empty e in cc none) c.read_request.ensures.bounded _
     (λ input e.
     subst (λ x. IsReading service input left (caller_checked service.logins c.in-Some.heard.login (reading x))) c.in-Refused.is
     (subst (IsReadAs service input left) some (c.in_ok-heard.ensures.known input e))) plain
@@ -44,7 +44,7 @@ returns-in_err-response-in-Asks-clause-answered g c =
     let left = g.R.Read.remaining c.read_request.new.reader in
     let login = c.in-Some.heard.login in
     let unmade : c.from_residual-in_err-response-in-Asks.result ≡ Err NoMemory = search rules in
-    unmade_answered _ _ _ _ _ _ _ _ login c.in-Asks.asked c.as_slice.result.now unmade
+    unmade_answered _ _ _ _ _ _ _ _ login c.in-Asks.asked c.as_slice.result.now c.read_request.ensures.bounded unmade
     (λ input e.
     subst (λ x. IsReading service input left (caller_checked service.logins login (asks c.in-Asks.asked x))) (sym c.as_slice.ensures.value)
     (subst (λ x. IsReading service input left (caller_checked service.logins login (reading x))) c.in-Asks.is
@@ -58,7 +58,7 @@ returns-in_ok-response-in-Asks-clause-answered g c =
     let login = c.in-Some.heard.login in
     let sent = c.send-in-Asks.ensures in
     turned_answered _ _ _ _ _ _ _ sent.written sent.some sent.calm sent.fixed
-    (λ e. let none : Some c.in-Some.heard ≡ None = sym c.in-Some.is ∙ c.in_ok-heard.ensures.empty e in cc none)
+    (λ e. let none : Some c.in-Some.heard ≡ None = sym c.in-Some.is ∙ c.in_ok-heard.ensures.empty e in cc none) c.read_request.ensures.bounded
     _ _ _ login c.in-Asks.asked c.as_slice.result.now
     (λ input e.
     subst (λ x. IsReading service input left (caller_checked service.logins login (asks c.in-Asks.asked x))) (sym c.as_slice.ensures.value)
