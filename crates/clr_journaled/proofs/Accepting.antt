@@ -1,13 +1,13 @@
 -- Whether a reply accepts, as it is and as a JSON value.
 use Rattle.std.proofs.Common.{◌≡◌, false, None, Option, Some, codes, refl}
 use Rattle.serde_json.specs.Data.{Data, member, no_members, object, string}
-use Rattle.clr_rules.specs.Refusal.{number_of}
+use Rattle.clr_rules.specs.Refusal.{number_of, refusal_name}
 use Rattle.clr_rules.specs.declared.reply.Reply.{Reply}
 use Rattle.clr_rules.specs.declared.reply.Reply.TheVariants.{Accepted, Added, Refused, Shown}
 use Rattle.clr_again.specs.Again.{is_accepted as accepts}
 use Rattle.clr_answer.specs.Decision.{is_accepted}
 use Rattle.clr_text.specs.Json.{member_if, whole_data}
-use Rattle.clr_text.specs.RefusalText.{by_of, kind_of, point_of, refusal_name, section_of}
+use Rattle.clr_text.specs.RefusalText.{by_of, kind_of, point_of, section_of}
 use Rattle.clr_text.specs.Replies.{reply_data}
 use Rattle.clr_journal.specs.Line.{is_accepted as says_accepted}
 

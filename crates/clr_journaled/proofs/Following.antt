@@ -155,8 +155,8 @@ module _ {K J C : Type 0} (text : J → List ℕ) (first : Register) where
       }
 
   -- a command's line is added to lines in no doubt
-  noted_sure : (R : Register) (old : Journaled K J C) (q : Command) (reply : Reply) (new : Journaled K J C) (says : Says text first R old)
-      → (noted : IsNoted text old q reply new) → IsSure (text new.journal) new.turn (says.lines ++ carried noted.receipt q (reply_data reply) ∷ [])
+  noted_sure : {shows : C → ℕ → Type 0} (R : Register) (old : Journaled K J C) (q : Command) (reply : Reply) (new : Journaled K J C) (says : Says text first R old)
+      → (noted : IsNoted shows text old q reply new) → IsSure (text new.journal) new.turn (says.lines ++ carried noted.receipt q (reply_data reply) ∷ [])
   noted_sure R old q reply new says noted =
       let entry = carried noted.receipt q (reply_data reply) in
       let more = sure_more (said text old) (turn_said old) says.lines entry (sure_of R old noted.certain says)
@@ -165,13 +165,13 @@ module _ {K J C : Type 0} (text : J → List ℕ) (first : Register) where
       (subst (λ (t : Turn). IsSure (with_entry (said text old) entry) t (says.lines ++ entry ∷ [])) (sym noted.turn_is) more)
 
   -- and is read, as those are
-  noted_read : (R : Register) (old : Journaled K J C) (q : Command) (reply : Reply) (new : Journaled K J C) (says : Says text first R old)
-      → (noted : IsNoted text old q reply new) → AreRead (says.lines ++ carried noted.receipt q (reply_data reply) ∷ [])
+  noted_read : {shows : C → ℕ → Type 0} (R : Register) (old : Journaled K J C) (q : Command) (reply : Reply) (new : Journaled K J C) (says : Says text first R old)
+      → (noted : IsNoted shows text old q reply new) → AreRead (says.lines ++ carried noted.receipt q (reply_data reply) ∷ [])
   noted_read R old q reply new says noted =
       read_more says.lines (carried noted.receipt q (reply_data reply)) (subst AreRead (whole_lines R old noted.certain says) says.reads) noted.reads
 
   -- its command is one that the register accepts
-  abbrev noted_due : (R : Register) (old : Journaled K J C) (q : Command) (reply : Reply) (new : Journaled K J C) (noted : IsNoted text old q reply new)
+  abbrev noted_due : {shows : C → ℕ → Type 0} (R : Register) (old : Journaled K J C) (q : Command) (reply : Reply) (new : Journaled K J C) (noted : IsNoted shows text old q reply new)
       → reply ≡ reply_to R q → is_accepted reply ≡ true → IsDue R (carried noted.receipt q (reply_data reply))
   noted_due R old q reply new noted reply_is is = record {
     receipt = noted.receipt;
@@ -279,9 +279,9 @@ module _ {K J C : Type 0} (text : J → List ℕ) (first : Register) where
 
   -- ---- one command
 
-  module _ (takes : Taking K) (Durable : J → Type 0) where
+  module _ (takes : Taking K) (shows : C → ℕ → Type 0) (Durable : J → Type 0) where
     after_fault : (R : Register) (old : Journaled K J C) (q : Command) (reply : Reply) (fault : DeskFault) (new : Journaled K J C) → Says text first R old
-        → reply ≡ reply_to R q → Misses takes text old q reply fault new → Says text first R new
+        → reply ≡ reply_to R q → Misses takes shows text old q reply fault new → Says text first R new
     after_fault R old q reply fault new says reply_is (unwritten (inl (none, cause)) same) = says_as R old new none.text_is none.turn_is none.doubt none.owes says
     after_fault R old q reply fault new says reply_is (unwritten (inr un) same) =
         says_doubtful R new says.lines (carried un.noted.receipt q (reply_data reply)) (noted_due R old q reply new un.noted reply_is un.accepted)
@@ -313,10 +313,10 @@ module _ {K J C : Type 0} (text : J → List ℕ) (first : Register) where
 
     after_reply : (R S : Register) (old : Journaled K J C) (q : Command) (reply : Reply) (new : Journaled K J C) → Says text first R old
         → reply ≡ Answer.reply (answer R q) → S ≡ after R q → (is_accepted reply ≡ false → S ≡ R)
-        → Journals takes text Durable old q reply (Ok tt) new → Says text first S new
+        → Journals takes shows text Durable old q reply (Ok tt) new → Says text first S new
     after_reply R S old q reply new says reply_is register_is unchanged journals = at (is_accepted reply) refl
       where
-        noted : IsNoted text old q reply new
+        noted : IsNoted shows text old q reply new
         noted = (journals.noted refl).0
 
         entry : Entry
@@ -346,7 +346,7 @@ module _ {K J C : Type 0} (text : J → List ℕ) (first : Register) where
     good_now R it good says = subst IsGood (sym says.run.register) (runs_keep_good first _ good)
 
     one_follows : (R S : Register) (old new : Journaled K J C) (q : Command) (result : Result Reply DeskFault) → IsGood first → Says text first R old
-        → IsAnswered (Journals takes text Durable) R old q result S new → Says text first S new
+        → IsAnswered (Journals takes shows text Durable) R old q result S new → Says text first S new
     one_follows R S old new q (Ok (Shown view)) good says is =
         subst (λ (X : Register). Says text first X new) (sym (is.unchanged refl)) (subst (Says text first R) (sym is.taken.0) says)
     one_follows R S old new q (Ok (Accepted card)) good says is =
@@ -367,13 +367,13 @@ module _ {K J C : Type 0} (text : J → List ℕ) (first : Register) where
         whole_due : due ≡ reply_to R q
         whole_due = ap (λ (a : Answer). a.reply) (near_is_whole R q (good_now R old good says))
 
-        missed : (reply : Reply) → reply ≡ reply_to R q → Takes (Journals takes text Durable) old q reply (Err fault) new → Says text first R new
+        missed : (reply : Reply) → reply ≡ reply_to R q → Takes (Journals takes shows text Durable) old q reply (Err fault) new → Says text first R new
         missed (Shown view) reply_is (same, none) = absurd (cc none)
         missed (Accepted card) reply_is taken = after_fault R old q (Accepted card) fault new says reply_is (taken.missed fault refl)
         missed (Refused refusal) reply_is taken = after_fault R old q (Refused refusal) fault new says reply_is (taken.missed fault refl)
         missed (Added point) reply_is taken = after_fault R old q (Added point) fault new says reply_is (taken.missed fault refl)
 
-        at : ((fault ≡ NoMemory) × (new ≡ old)) ⊎ Takes (Journals takes text Durable) old q due (Err fault) new → Says text first R new
+        at : ((fault ≡ NoMemory) × (new ≡ old)) ⊎ Takes (Journals takes shows text Durable) old q due (Err fault) new → Says text first R new
         at (inl (memory, same)) = subst (Says text first R) (sym same) says
         at (inr taken) = missed due whole_due taken
 
@@ -385,7 +385,7 @@ module _ {K J C : Type 0} (text : J → List ℕ) (first : Register) where
         (λ i. turn_owed (heard.last i) (heard.turn i)) (ap is_doubtful heard.last) (λ owes. (sym heard.last ∙ owes, ap text heard.journal)) says)
 
     follows : (R S : Register) (old new : Journaled K J C) (given : List Given) → IsGood first → Says text first R old
-        → AreGiven (Journals takes text Durable) HearsLogin R old given S new → Says text first S new
+        → AreGiven (Journals takes shows text Durable) HearsLogin R old given S new → Says text first S new
     unfolding AreGiven
     follows R S old new [] good says (register, keeper) =
         subst (λ (X : Register). Says text first X new) (sym register) (subst (Says text first R) (sym keeper) says)
@@ -393,10 +393,11 @@ module _ {K J C : Type 0} (text : J → List ℕ) (first : Register) where
         follows between S middle new later good (one_follows R between old middle q result good says one) rest
     follows R S old new (login it ∷ later) good says (between, middle, (same, heard), rest) =
         follows between S middle new later good (login_follows R between old middle same
-        (record { heard = refl; keeper = heard.keeper; journal = heard.journal; turn = heard.turn; last = heard.last }) says) rest
+        (record { heard = refl; keeper = heard.keeper; journal = heard.journal; clock = heard.clock; turn = heard.turn; last = heard.last }) says) rest
 
-pub registers_follow : {K J C : Type 0} (takes : Taking K) (text : J → List ℕ) (Durable : J → Type 0) → RegistersFollow K J C takes text Durable
-registers_follow takes text Durable first R S old new given good says are = follows text first takes Durable R S old new given good says are
+pub registers_follow : {K J C : Type 0} (takes : Taking K) (shows : C → ℕ → Type 0) (text : J → List ℕ) (Durable : J → Type 0)
+    → RegistersFollow K J C takes shows text Durable
+registers_follow takes shows text Durable first R S old new given good says are = follows text first takes shows Durable R S old new given good says are
 
 pub empty_journals_begin : {K J C : Type 0} (text : J → List ℕ) → EmptyJournalsBegin K J C text
 unfolding in_turn carried_out

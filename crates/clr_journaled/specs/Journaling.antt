@@ -56,14 +56,17 @@ IsNamed None = ⊤
 IsNamed (Some c) = IsTrue (is_id c)
 
 -- THE LINE OF A COMMAND is added to what the journal says: the next number, the login that was
--- heard, which is that of no other command, the command and its reply
-pub record IsNoted {K J C : Type 0} (text : J → List ℕ) (old : Journaled K J C) (q : Command)
-    (reply : Reply) (new : Journaled K J C) : Type 0 where
+-- heard, which is that of no other command, the command and its reply. It was received when the
+-- clock shows
+pub record IsNoted {K J C : Type 0} (shows : C → ℕ → Type 0) (text : J → List ℕ)
+    (old : Journaled K J C) (q : Command) (reply : Reply) (new : Journaled K J C) : Type 0 where
   pub receipt : Receipt
   pub number : receipt.number ≡ (turn_said old).last + 1
   pub within : receipt.number < 2 ^ 64
   pub login : receipt.login ≡ old.login
   pub passed : new.login ≡ None
+  pub clock : new.clock ≡ old.clock
+  pub received : shows new.clock receipt.received
   pub text_is : text new.journal
       ≡ with_entry (said text old) (carried receipt q (reply_data reply))
   pub turn_is : new.turn ≡ turn_after (carried receipt q (reply_data reply))
@@ -76,6 +79,7 @@ pub record IsNoted {K J C : Type 0} (text : J → List ℕ) (old : Journaled K J
 pub record IsUnnoted {K J C : Type 0} (text : J → List ℕ) (old new : Journaled K J C) : Type 0 where
   pub text_is : said text new ≡ said text old
   pub turn_is : turn_said new ≡ turn_said old
+  pub clock : new.clock ≡ old.clock
   pub doubt : is_doubtful new.last ≡ is_doubtful old.last
   pub owes : new.last ≡ Owed
       → (old.last ≡ Owed) × (text new.journal ≡ text old.journal)
@@ -101,37 +105,41 @@ IsDurable text may_leave journal = Only (text journal) (may_leave journal)
 
 -- THE LINE WAS NOT SYNCED: the command is accepted, and it is not known whether a crash leaves the
 -- line
-pub record IsUnsynced {K J C : Type 0} (text : J → List ℕ) (old : Journaled K J C) (q : Command)
-    (reply : Reply) (fault : DeskFault) (new : Journaled K J C) : Type 0 where
-  pub noted : IsNoted text old q reply new
+pub record IsUnsynced {K J C : Type 0} (shows : C → ℕ → Type 0) (text : J → List ℕ)
+    (old : Journaled K J C) (q : Command) (reply : Reply) (fault : DeskFault)
+    (new : Journaled K J C) : Type 0 where
+  pub noted : IsNoted shows text old q reply new
   pub accepted : is_accepted reply ≡ true
   pub doubtful : new.last ≡ Doubtful
   pub cause : fault ≡ Journal
 
 -- A LINE WAS NOT WRITTEN, or not synced
-abbrev pub IsUnwritten : {K J C : Type 0} → (J → List ℕ) → Journaled K J C → Command → Reply
-    → DeskFault → Journaled K J C → Type 0
-IsUnwritten text old q reply fault new = (IsUnnoted text old new × IsOfJournal fault)
-    ⊎ IsUnsynced text old q reply fault new
+abbrev pub IsUnwritten : {K J C : Type 0} → (C → ℕ → Type 0) → (J → List ℕ) → Journaled K J C
+    → Command → Reply → DeskFault → Journaled K J C → Type 0
+IsUnwritten shows text old q reply fault new = (IsUnnoted text old new × IsOfJournal fault)
+    ⊎ IsUnsynced shows text old q reply fault new
 
 -- A COMMAND THAT IS NOT CARRIED OUT: its line was not written, and the keeper was not called; or
 -- the keeper failed after it
-pub data Misses {K J C : Type 0} (takes : Taking K) (text : J → List ℕ) (old : Journaled K J C)
-    (q : Command) (reply : Reply) (fault : DeskFault) (new : Journaled K J C) : Type 0 where
-  unwritten : IsUnwritten text old q reply fault new → new.keeper ≡ old.keeper
-      → Misses takes text old q reply fault new
-  unkept : IsNoted text old q reply new → new.last ≡ left (is_accepted reply) fault
-      → takes old.keeper q reply (Err fault) new.keeper → Misses takes text old q reply fault new
+pub data Misses {K J C : Type 0} (takes : Taking K) (shows : C → ℕ → Type 0) (text : J → List ℕ)
+    (old : Journaled K J C) (q : Command) (reply : Reply) (fault : DeskFault)
+    (new : Journaled K J C) : Type 0 where
+  unwritten : IsUnwritten shows text old q reply fault new → new.keeper ≡ old.keeper
+      → Misses takes shows text old q reply fault new
+  unkept : IsNoted shows text old q reply new → new.last ≡ left (is_accepted reply) fault
+      → takes old.keeper q reply (Err fault) new.keeper
+      → Misses takes shows text old q reply fault new
 
 -- A COMMAND AT A KEEPER WITH A JOURNAL: it is carried out only with its line, which is durable
 -- where it is accepted
-pub record Journals {K J C : Type 0} (takes : Taking K) (text : J → List ℕ)
-    (Durable : J → Type 0) (old : Journaled K J C) (q : Command) (reply : Reply) (came : Came)
-    (new : Journaled K J C) : Type 0 where
-  pub noted : came ≡ Ok tt → IsNoted text old q reply new × (new.last ≡ Settled)
+pub record Journals {K J C : Type 0} (takes : Taking K) (shows : C → ℕ → Type 0)
+    (text : J → List ℕ) (Durable : J → Type 0) (old : Journaled K J C) (q : Command)
+    (reply : Reply) (came : Came) (new : Journaled K J C) : Type 0 where
+  pub noted : came ≡ Ok tt → IsNoted shows text old q reply new × (new.last ≡ Settled)
   pub durable : came ≡ Ok tt → is_accepted reply ≡ true → Durable new.journal
   pub taken : came ≡ Ok tt → takes old.keeper q reply (Ok tt) new.keeper
-  pub missed : (fault : DeskFault) → came ≡ Err fault → Misses takes text old q reply fault new
+  pub missed : (fault : DeskFault) → came ≡ Err fault
+      → Misses takes shows text old q reply fault new
 
 -- the login of the next command is heard; nothing else changes
 pub record HearsLogin {K J C : Type 0} (old : Journaled K J C) (login : Option (List ℕ))
@@ -139,6 +147,7 @@ pub record HearsLogin {K J C : Type 0} (old : Journaled K J C) (login : Option (
   pub heard : new.login ≡ login
   pub keeper : new.keeper ≡ old.keeper
   pub journal : new.journal ≡ old.journal
+  pub clock : new.clock ≡ old.clock
   pub turn : new.turn ≡ old.turn
   pub last : new.last ≡ old.last
 

@@ -81,8 +81,9 @@ EmptyJournalsBegin K J C text = (R : Register) (it : Journaled K J C) → text i
 
 -- THE REGISTER FOLLOWS ITS JOURNAL over any number of commands, logins and faults: where it was
 -- what its journal said, it is
-abbrev pub RegistersFollow : (K J C : Type 0) → Taking K → (J → List ℕ) → (J → Type 0) → Type 0
-RegistersFollow K J C takes text Durable = (first R S : Register) (old new : Journaled K J C)
+abbrev pub RegistersFollow : (K J C : Type 0) → Taking K → (C → ℕ → Type 0) → (J → List ℕ)
+    → (J → Type 0) → Type 0
+RegistersFollow K J C takes shows text Durable = (first R S : Register) (old new : Journaled K J C)
     (given : List Given) → IsGood first → Says text first R old
-    → AreGiven (Journals takes text Durable) HearsLogin R old given S new
+    → AreGiven (Journals takes shows text Durable) HearsLogin R old given S new
     → Says text first S new

@@ -69,7 +69,8 @@ impl<K: Commit, J: Journal + Drop, C: Clock> Journaled<K, J, C> {
     /// Adds the line of a command and its reply, after the withdrawal that is owed.
     pub(crate) fn note(&mut self, command: &Command, reply: &Reply) -> Result<(), DeskFault>
         ensures keeper { self.new.keeper ≡ self.old.keeper }
-        ensures noted { OnOk result (IsNoted J.text self.old command.now reply.now self.new) }
+        ensures noted { OnOk result (IsNoted C.shows J.text
+            self.old command.now reply.now self.new) }
         ensures settled { OnOk result (self.new.last ≡ Last.Settled) }
         ensures whole { OnOk result (J.found self.new.journal ≡ J.text self.new.journal) }
         ensures usable { OnOk result (IsTrue (J.is_usable self.new.journal)) }
@@ -94,11 +95,12 @@ impl<K: Commit, J: Journal + Drop, C: Clock> Journaled<K, J, C> {
     pub(crate) fn note_durably(&mut self, command: &Command, reply: &Reply) -> Result<(), DeskFault>
         requires { accepts reply.now ≡ true }
         ensures keeper { self.new.keeper ≡ self.old.keeper }
-        ensures noted { OnOk result (IsNoted J.text self.old command.now reply.now self.new) }
+        ensures noted { OnOk result (IsNoted C.shows J.text
+            self.old command.now reply.now self.new) }
         ensures settled { OnOk result (self.new.last ≡ Last.Settled) }
         ensures durable { OnOk result (IsDurable J.text J.may_leave self.new.journal) }
         ensures unwritten { IfErr result (λ fault.
-            IsUnwritten J.text self.old command.now reply.now fault self.new) }
+            IsUnwritten C.shows J.text self.old command.now reply.now fault self.new) }
         ensures fault { IfErr result IsOfJournal }
     {
         self.note(command, reply)?;
@@ -113,6 +115,7 @@ impl<K: Commit, J: Journal + Drop, C: Clock> Journaled<K, J, C> {
     fn settle(&mut self) -> Result<(), DeskFault>
         ensures keeper { self.new.keeper ≡ self.old.keeper }
         ensures login { self.new.login ≡ self.old.login }
+        ensures clock { self.new.clock ≡ self.old.clock }
         ensures settled { OnOk result (self.new.last ≡ Last.Settled) }
         ensures text { OnOk result (J.text self.new.journal ≡ said J.text self.old) }
         ensures turn { OnOk result (self.new.turn ≡ turn_said self.old) }
@@ -137,7 +140,9 @@ impl<K: Commit, J: Journal + Drop, C: Clock> Journaled<K, J, C> {
     fn receipt(&mut self) -> Result<Receipt, DeskFault>
         ensures number { IfOk result (λ receipt. receipt.number ≡ self.old.turn.last + 1) }
         ensures login { IfOk result (λ receipt. receipt.login ≡ self.old.login) }
+        ensures received { IfOk result (λ receipt. C.shows self.new.clock receipt.received) }
         ensures passed { OnOk result (self.new.login ≡ None) }
+        ensures clock { self.new.clock ≡ self.old.clock }
         ensures keeper { self.new.keeper ≡ self.old.keeper }
         ensures journal { self.new.journal ≡ self.old.journal }
         ensures turn { self.new.turn ≡ self.old.turn }

@@ -16,7 +16,7 @@ impl<K: Commit, J: Journal + Drop, C: Clock> Commit for Journaled<K, J, C> {
 
     ghost fails = { FailsToo K.fails };
 
-    ghost takes = { Journals K.takes J.text (IsDurable J.text J.may_leave) };
+    ghost takes = { Journals K.takes C.shows J.text (IsDurable J.text J.may_leave) };
 
     ghost hears = { HearsLogin };
 

@@ -12,7 +12,8 @@ use clr_journal::Journal;
 /// after any number of commands, logins and faults it is, where it was before them.
 pub fn registers_follow_journals<K: Commit, J: Journal + Drop, C: Clock>()
     ensures begins { EmptyJournalsBegin K J C J.text }
-    ensures follows { RegistersFollow K J C K.takes J.text (IsDurable J.text J.may_leave) }
+    ensures follows { RegistersFollow K J C K.takes C.shows J.text
+        (IsDurable J.text J.may_leave) }
 {}
 
 /// The last line of a journal redone, the register is that of all its commands, whether a crash
