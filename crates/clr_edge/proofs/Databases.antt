@@ -1,8 +1,10 @@
 -- Faults of databases that are known to have a register.
-use Rattle.std.proofs.Common.{◌≡◌, ◌↔◌, ◌∙◌, ◌⊎◌, None, Option, Some, ⊎_elim, arith, inl, inr, refl, subst, sym, ℤ, Result, Ok, Err}
+use Rattle.std.proofs.Common.{◌≡◌, ◌↔◌, ◌∙◌, ◌⊎◌, None, Option, Some, ⊎_elim, arith, inl, inr, refl, subst, sym, Result, Ok, Err}
 use Rattle.std.proofs.lemmas.Option.{none-some}
-use Rattle.std.specs.Prelude.{IfErr, IsErrAnd, OnOk, pos}
+use Rattle.std.specs.Prelude.{false, IfErr, IsErrAnd, IsTrue, OnOk, pos}
+use Rattle.sqlite.specs.Held.{Held, state}
 use Rattle.sqlite.specs.State.{HasCleanDisk, State, Survives}
+use Rattle.sqlite_trees.specs.declared.store.Store.{Ghosts}
 use Rattle.sqlite_trees.specs.Tree.{Trees}
 use Rattle.clr_tables.specs.declared.table_name.TableName.{TableName}
 use Rattle.clr_tables.specs.declared.table_name.TableName.TheVariants as tables
@@ -18,7 +20,7 @@ use Rattle.sqlite.specs.declared.error.Error.{Error}
 use Rattle.sqlite.specs.declared.error.Error.TheVariants.{SqliteFailure}
 use Rattle.sqlite.specs.declared.error.ErrorCode.TheVariants as code
 use Rattle.clr_load.specs.Cause.{SqlHasCause, fault_of}
-use Rattle.clr_store.specs.Contract.{RefusesVersion}
+use Rattle.clr_store.specs.Contract.{RefusesOpening}
 use Rattle.clr_store.specs.Moving.{RefusesToMove}
 use Rattle.clr_load.specs.declared.fault.StoreFault.{StoreFault}
 use Rattle.clr_load.specs.declared.fault.StoreFault.TheVariants as store
@@ -26,7 +28,7 @@ use Rattle.clr_tables.specs.RowsRead.{Rows, read_version, rows_read}
 use Rattle.clr_tables.specs.Tables.{Tables, tables_of}
 use Rattle.clr_edge.specs.Fault.{of_desk, of_store}
 use Rattle.clr_edge.specs.declared.fault.Fault.{Fault}
-use Rattle.clr_edge.specs.Database.{IsOfLine, IsOfStore, IsOfUnfit, RefusesTables}
+use Rattle.clr_edge.specs.Database.{IsAsBefore, IsOfLine, IsOfStore, IsOfUnfit, RefusesTables}
 use Rattle.clr_edge.specs.Visit.{Done, both}
 
 -- tables that are opened read as rows
@@ -41,6 +43,7 @@ IsOfLine-of_command (desk.Store store.Sql) is = inr refl
 IsOfLine-of_command (desk.Store (store.WrongVersion n)) is = absurd is
 IsOfLine-of_command (desk.Store (store.BadRow table)) is = absurd is
 IsOfLine-of_command (desk.Store store.NoMemory) is = absurd is
+IsOfLine-of_command (desk.Store store.OtherTables) is = absurd is
 IsOfLine-of_command desk.Journal is = absurd is
 IsOfLine-of_command desk.NoMemory is = inl refl
 
@@ -54,32 +57,31 @@ pub read_version-tables_of : (R : Register) → read_version (tables_of R).meta 
 unfolding read_version
 read_version-tables_of R = refl
 
-refused_line : (fault : StoreFault) → RefusesVersion (Ok (pos 2)) fault → IsOfLine (of_store fault)
-refused_line store.Sql is = inr refl
-refused_line (store.WrongVersion n) (is, other) = absurd (other (cc is))
-refused_line (store.BadRow table) is = absurd (cc is)
-refused_line store.NoMemory is = inl refl
-
 -- so only the database itself refuses them
-pub IsOfLine-of_version : (R : Register) (fault : StoreFault) → RefusesVersion (read_version (tables_of R).meta) fault → IsOfLine (of_store fault)
-IsOfLine-of_version R fault refused = refused_line fault (subst (λ read. RefusesVersion read fault) (read_version-tables_of R) refused)
+pub IsOfLine-of_version : (R : Register) (fault : StoreFault) → RefusesOpening (tables_of R) fault → IsOfLine (of_store fault)
+IsOfLine-of_version R store.Sql is = inr refl
+IsOfLine-of_version R (store.WrongVersion n) (is, other) = let both = sym (read_version-tables_of R) ∙ is in absurd (other (cc both))
+IsOfLine-of_version R (store.BadRow table) is = let both = sym (read_version-tables_of R) ∙ is in absurd (cc both)
+IsOfLine-of_version R store.NoMemory is = inl refl
+IsOfLine-of_version R store.OtherTables is = absurd (is refl)
 
-moved_line : (fault : StoreFault) → RefusesToMove (Ok (pos 2)) fault → IsOfLine (of_store fault)
-moved_line store.Sql is = inr refl
-moved_line (store.WrongVersion n) (is, one, two) = absurd (two (cc is))
-moved_line (store.BadRow tables.Meta) is = absurd (cc is)
-moved_line (store.BadRow tables.Point) is = absurd (cc is)
-moved_line (store.BadRow tables.Section) is = absurd is
-moved_line (store.BadRow tables.NetworkPoint) is = absurd is
-moved_line (store.BadRow tables.Staff) is = absurd is
-moved_line (store.BadRow tables.Clearance) is = absurd is
-moved_line (store.BadRow tables.Step) is = absurd is
-moved_line (store.BadRow tables.Hold) is = absurd is
-moved_line store.NoMemory is = inl refl
+moved_line : (fault : StoreFault) → (fault ≡ store.OtherTables → ⊥) → RefusesToMove (Ok (pos 2)) fault → IsOfLine (of_store fault)
+moved_line store.Sql none is = inr refl
+moved_line (store.WrongVersion n) none (is, one, two) = absurd (two (cc is))
+moved_line (store.BadRow tables.Meta) none is = absurd (cc is)
+moved_line (store.BadRow tables.Point) none is = absurd (cc is)
+moved_line (store.BadRow tables.Section) none is = absurd is
+moved_line (store.BadRow tables.NetworkPoint) none is = absurd is
+moved_line (store.BadRow tables.Staff) none is = absurd is
+moved_line (store.BadRow tables.Clearance) none is = absurd is
+moved_line (store.BadRow tables.Step) none is = absurd is
+moved_line (store.BadRow tables.Hold) none is = absurd is
+moved_line store.NoMemory none is = inl refl
+moved_line store.OtherTables none is = absurd (none refl)
 
 -- and only the database itself refuses to move them
-pub IsOfLine-of_move : (R : Register) (fault : StoreFault) → RefusesToMove (read_version (tables_of R).meta) fault → IsOfLine (of_store fault)
-IsOfLine-of_move R fault refused = moved_line fault (subst (λ read. RefusesToMove read fault) (read_version-tables_of R) refused)
+pub IsOfLine-of_move : (R : Register) (fault : StoreFault) → (fault ≡ store.OtherTables → ⊥) → RefusesToMove (read_version (tables_of R).meta) fault → IsOfLine (of_store fault)
+IsOfLine-of_move R fault none refused = moved_line fault none (subst (λ read. RefusesToMove read fault) (read_version-tables_of R) refused)
 
 -- what two calls leave that commit nothing
 pub survives_on : (s t u : State) → Survives s t (λ _. ⊥) → Survives t u (λ _. ⊥) → Survives s u (λ _. ⊥)
@@ -121,13 +123,15 @@ of_desk-of_store store.Sql = refl
 of_desk-of_store (store.WrongVersion n) = refl
 of_desk-of_store (store.BadRow table) = refl
 of_desk-of_store store.NoMemory = refl
+of_desk-of_store store.OtherTables = refl
 
 -- the database itself may refuse any version
-pub RefusesVersion-of_command : (read : Result ℤ TableName) (cause : StoreFault) → IsOfCommand (desk_of_store cause) → RefusesVersion read cause
-RefusesVersion-of_command read store.Sql is = tt
-RefusesVersion-of_command read (store.WrongVersion n) is = absurd is
-RefusesVersion-of_command read (store.BadRow table) is = absurd is
-RefusesVersion-of_command read store.NoMemory is = tt
+pub RefusesOpening-of_command : (t : Tables) (cause : StoreFault) → IsOfCommand (desk_of_store cause) → RefusesOpening t cause
+RefusesOpening-of_command t store.Sql is = tt
+RefusesOpening-of_command t (store.WrongVersion n) is = absurd is
+RefusesOpening-of_command t (store.BadRow table) is = absurd is
+RefusesOpening-of_command t store.NoMemory is = tt
+RefusesOpening-of_command t store.OtherTables is = absurd is
 
 pub OnOk-then : {T P Q : Type 0} (result : Result T Fault) → (P → Q) → OnOk result P → OnOk result Q
 OnOk-then (Ok value) from is = from is
@@ -184,7 +188,22 @@ IsOfStore-of store.Sql fault is = inr (store.Sql, is)
 IsOfStore-of (store.WrongVersion n) fault is = inr (store.WrongVersion n, is)
 IsOfStore-of (store.BadRow table) fault is = inr (store.BadRow table, is)
 IsOfStore-of store.NoMemory fault is = inl is
+IsOfStore-of store.OtherTables fault is = inr (store.OtherTables, is)
 
 pub IsOfStore-line : (fault : Fault) → IsOfLine fault → IsOfStore fault
 IsOfStore-line fault (inl memory) = inl memory
 IsOfStore-line fault (inr sql) = inr (store.Sql, sql)
+
+-- outside a transaction a connection shows what is committed
+abbrev IsSettled : State → Type 0
+IsSettled s = s.in_transaction ≡ false → IsTrue s.is_open → s.now ≡ s.committed
+
+-- so where it shows the same, the same is committed
+pub IsAsBefore-settled : {S : Type 0} (g : Ghosts S) (before after : Held S) → after.in_transaction ≡ before.in_transaction
+    → (HasCleanDisk (state g after) → IsTrue (state g after).is_open → (state g after).now ≡ (state g before).now)
+    → IsSettled (state g before) → IsSettled (state g after) → IsAsBefore g before after
+IsAsBefore-settled g before after mode same was is = record {
+  mode = mode;
+  same = same;
+  committed = λ clean was_open is_open auto. sym (is (mode ∙ auto) is_open) ∙ (same clean is_open ∙ was auto was_open);
+}

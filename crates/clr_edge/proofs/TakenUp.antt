@@ -4,6 +4,7 @@ use Rattle.sqlite.specs.Held.{Held, state}
 use Rattle.sqlite.specs.State.{HasCleanDisk}
 use Rattle.sqlite_trees.specs.declared.store.Store.{Ghosts}
 use Rattle.clr_rules.specs.Good.{IsGood}
+use Rattle.clr_rules.specs.Staffed.{IsStaffed}
 use Rattle.clr_rules.specs.Register.{Register}
 use Rattle.clr_desk.specs.Kept.{Keeps}
 use Rattle.clr_journaled.specs.declared.journaled.Journaled.{Journaled}
@@ -14,10 +15,10 @@ use Rattle.clr_edge.specs.declared.fault.Fault.{Fault}
 use Rattle.clr_edge.specs.declared.journals.Journals as journals
 
 module _ {M J C T : Type 0} (g : Ghosts T) (at : journals.Ghosts M J C) (path : List ℕ) (old new : M) (before opened : Held T) (R : Register)
-    (read : IsOnlyRead g before opened) (good : IsGood R)
+    (read : IsOnlyRead g before opened) (good : IsGood R) (staffed : IsStaffed R)
     (is_register : (K : Register) → HasRegister g K before → HasCleanDisk (state g opened) → R ≡ K) (reads : ReadsAs g before opened R) where
   abbrev kept : (after : Held T) (S : Register) → Keeps (state g opened) R (state g after) S → IsKept g before after S
-  kept after S keeps = record { opened = opened; read = read; first = R; good = good; is_register = is_register; reads = reads; keeps = keeps }
+  kept after S keeps = record { opened = opened; read = read; first = R; good = good; staffed = staffed; is_register = is_register; reads = reads; keeps = keeps }
 
   pub takes_up : (journal : J) (last : Option (List ℕ)) (clock : C) (it : Journaled (Held T) J C) (S : Register)
       → at.opens_journal old path journal last new → at.has_time new clock → IsRedoneOver g journal last clock opened R it S

@@ -1,5 +1,5 @@
 -- Registers that databases have, and faults of the databases themselves.
-use Rattle.std.specs.Prelude.{◌≡◌, ◌≢◌, ◌⊎◌, ℕ, false, is_ok, IsTrue, List, Some, Ok, Err, pos}
+use Rattle.std.specs.Prelude.{◌≡◌, ◌≢◌, ◌⊎◌, ℕ, false, is_ok, IsTrue, List, Some, Ok, Err, length, pos}
 use Rattle.std.specs.declared.io.ErrorKind.{ErrorKind}
 use Rattle.std.specs.declared.io.ErrorKind.TheVariants.{OutOfMemory}
 use Rattle.sqlite.specs.Held.{Held, state}
@@ -14,9 +14,11 @@ use Rattle.clr_rules.specs.Register.{Register}
 use Rattle.clr_load.specs.Cause.{SqlHasCause, fault_of}
 use Rattle.clr_load.specs.Contract.{IsSaved, old_points}
 use Rattle.clr_load.specs.Stored.{AreTables, HasMeta, HasOldTables, HasTables}
+use Rattle.clr_load.specs.Schema.{no_schema}
+use Rattle.clr_load.specs.Stored.{HasVersion, IsLaidOut, LacksMeta}
 use Rattle.clr_load.specs.declared.fault.StoreFault.{StoreFault}
-use Rattle.clr_load.specs.declared.fault.StoreFault.TheVariants.{BadRow, Sql}
-use Rattle.clr_store.specs.Contract.{RefusesVersion}
+use Rattle.clr_load.specs.declared.fault.StoreFault.TheVariants.{BadRow, OtherTables, Sql}
+use Rattle.clr_store.specs.Contract.{RefusesOpening, RefusesVersion}
 use Rattle.clr_store.specs.Moving.{LeavesMoved, RefusesMove, RefusesToMove}
 use Rattle.clr_tables.specs.RowsRead.{Rows, read_version, rows_read}
 use Rattle.clr_tables.specs.TableEdits.{tables_moved}
@@ -63,11 +65,16 @@ pub record HasRegister {S : Type 0} (g : Ghosts S) (R : Register) (connection : 
   pub typed : IsTyped R
   pub tables : HasTables (state g connection).now (tables_of R)
 
--- a database of version 2 was read, and not changed: its tables are the same where the disk is
--- clean and the connection open, and a crash leaves what it left before
+-- a database of version 2 was read, and not changed: it has the tables of a register and nothing
+-- else, and `meta` its one row. They are the same where the disk is clean and the connection open,
+-- and a crash leaves what it left before
 pub record IsOnlyRead {S : Type 0} (g : Ghosts S) (before after : Held S) : Type 0 where
+  pub has_meta : LacksMeta (state g before).now → ⊥
   pub version : HasCleanDisk (state g after) → (meta : List Row)
       → HasMeta (state g before).now meta → read_version meta ≡ Ok (pos 2)
+  pub alone : HasCleanDisk (state g after) → (meta : List Row)
+      → HasMeta (state g before).now meta → length meta ≡ 1
+  pub laid_out : HasCleanDisk (state g after) → IsLaidOut 2 (state g before).now
   pub same : HasCleanDisk (state g after) → IsTrue (state g after).is_open
       → (state g after).now ≡ (state g before).now
   pub survives : Survives (state g before) (state g after) (λ _. ⊥)
@@ -79,20 +86,31 @@ ReadsAs g before after R = HasCleanDisk (state g after) → (t : Tables)
     → HasTables (state g before).now t
     → (rows : Rows) × (rows_read t ≡ Ok rows) × IsRegisterOf rows R
 
--- the tables of a register were made in a database: where the disk is clean they are there and
--- saved, and a crash leaves them, or what it left before
+-- a database that could not be changed has what it had, and so has its last commit, where the disk
+-- is clean and the connection open. A transaction is open as it was
+pub record IsAsBefore {S : Type 0} (g : Ghosts S) (before after : Held S) : Type 0 where
+  pub mode : after.in_transaction ≡ before.in_transaction
+  pub same : HasCleanDisk (state g after) → IsTrue (state g after).is_open
+      → (state g after).now ≡ (state g before).now
+  pub committed : HasCleanDisk (state g after) → IsTrue (state g before).is_open
+      → IsTrue (state g after).is_open → before.in_transaction ≡ false
+      → (state g after).committed ≡ (state g before).committed
+
+-- the tables of a register were made in a database that had nothing: where the disk is clean they
+-- are there and saved, and a crash leaves them, or what it left before
 pub record IsMade {S : Type 0} (g : Ghosts S) (before : Held S) (R : Register) (after : Held S)
     : Type 0 where
+  pub mode : after.in_transaction ≡ before.in_transaction
+  pub bare : (state g before).now.schema ≡ no_schema
   pub saved : HasCleanDisk (state g after) → IsSaved (state g after)
   pub tables : HasCleanDisk (state g after) → HasTables (state g after).now (tables_of R)
   pub survives : Survives (state g before) (state g after)
       (λ trees. AreTables trees (tables_of R))
 
--- they were not made: where the disk is clean and the connection open, the database is as before
+-- they were not made
 pub record IsUnmade {S : Type 0} (g : Ghosts S) (before : Held S) (R : Register) (after : Held S)
     : Type 0 where
-  pub same : HasCleanDisk (state g after) → IsTrue (state g after).is_open
-      → (state g after).now ≡ (state g before).now
+  pub as_before : IsAsBefore g before after
   pub survives : Survives (state g before) (state g after)
       (λ trees. AreTables trees (tables_of R))
 
@@ -110,9 +128,9 @@ RefusesUnfit t cause = (book : Shelved)
     × OpensAs (λ (b : Shelved). b.register) (rows_read t) (Ok book) × IsOfUnfit book.register cause
 
 -- why tables are not opened: the database refuses them, their version does not read or is not 2,
--- their rows give no register, or one that is not good and staffed
+-- `meta` has another row, their rows give no register, or one that is not good and staffed
 abbrev pub RefusesTables : Tables → StoreFault → Type 0
-RefusesTables t cause = RefusesVersion (read_version t.meta) cause
+RefusesTables t cause = RefusesOpening t cause
     ⊎ OpensAs (λ (book : Shelved). book.register) (rows_read t) (Err cause)
     ⊎ RefusesUnfit t cause
 
@@ -122,6 +140,7 @@ pub record IsRefused {S : Type 0} (g : Ghosts S) (before : Held S) (told : Fault
     : Type 0 where
   pub fault : StoreFault
   pub told_is : told ≡ of_store fault
+  pub bare : LacksMeta (state g before).now → fault ≡ Sql
   pub refuses : HasCleanDisk (state g after) → (t : Tables) → HasTables (state g before).now t
       → RefusesTables t fault
   pub version : HasCleanDisk (state g after) → before.in_transaction ≡ false → (meta : List Row)
@@ -135,9 +154,15 @@ pub record IsRefused {S : Type 0} (g : Ghosts S) (before : Held S) (told : Fault
 -- of version 2 are as before, where the disk is clean. A crash leaves the tables that were moved,
 -- or what it left before
 pub record IsMoved {S : Type 0} (g : Ghosts S) (before after : Held S) : Type 0 where
+  pub has_meta : LacksMeta (state g before).now → ⊥
+  pub mode : after.in_transaction ≡ before.in_transaction
   pub version : HasCleanDisk (state g after) → (meta : List Row)
       → HasMeta (state g before).now meta
       → (read_version meta ≡ Ok (pos 1)) ⊎ (read_version meta ≡ Ok (pos 2))
+  pub alone : HasCleanDisk (state g after) → (meta : List Row)
+      → HasMeta (state g before).now meta → length meta ≡ 1
+  pub laid_out : HasCleanDisk (state g after)
+      → IsLaidOut 1 (state g before).now ⊎ IsLaidOut 2 (state g before).now
   pub moved : HasCleanDisk (state g after) → (t : Tables) → HasOldTables (state g before).now t
       → read_version t.meta ≡ Ok (pos 1)
       → IsTrue (is_ok (old_points t)) × IsSaved (state g after)
@@ -150,23 +175,24 @@ pub record IsMoved {S : Type 0} (g : Ghosts S) (before after : Held S) : Type 0 
       → (state g after).now ≡ (state g before).now
   pub survives : Survives (state g before) (state g after) (LeavesMoved (state g before).now)
 
--- they were not moved: where the disk is clean and the connection open, the database is as before.
--- Of tables that are there the fault that is reported is theirs. `Sql` has a cause where the
--- version is another than 1, and where a point of version 1 does not read
+-- they were not moved. Of tables that are there the fault that is reported is theirs. `Sql` has a
+-- cause where the version is another than 1, and where a point of version 1 does not read
 pub record IsUnmoved {S : Type 0} (g : Ghosts S) (before : Held S) (told : Fault) (after : Held S)
     : Type 0 where
   pub fault : StoreFault
   pub told_is : told ≡ of_store fault
+  pub bare : LacksMeta (state g before).now → fault ≡ Sql
   pub unread : HasCleanDisk (state g after) → (meta : List Row)
       → HasMeta (state g before).now meta → RefusesToMove (read_version meta) fault
   pub refuses : HasCleanDisk (state g after) → (t : Tables) → HasOldTables (state g before).now t
       → RefusesMove t fault
+  pub other : HasCleanDisk (state g after) → fault ≡ OtherTables → (n : ℕ)
+      → HasVersion n (state g before).now → ⊥
   pub cause : HasCleanDisk (state g after) → before.in_transaction ≡ false → (meta : List Row)
       → HasMeta (state g before).now meta → read_version meta ≢ Ok (pos 1)
       → SqlHasCause (state g before) (state g after) fault
   pub points_cause : HasCleanDisk (state g after) → before.in_transaction ≡ false → (t : Tables)
       → HasOldTables (state g before).now t → is_ok (old_points t) ≡ false
       → SqlHasCause (state g before) (state g after) fault
-  pub same : HasCleanDisk (state g after) → IsTrue (state g after).is_open
-      → (state g after).now ≡ (state g before).now
+  pub as_before : IsAsBefore g before after
   pub survives : Survives (state g before) (state g after) (LeavesMoved (state g before).now)

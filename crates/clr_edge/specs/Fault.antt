@@ -61,6 +61,8 @@ subject_of fault.NoSuch = codes "clearance"
 subject_of fault.NoWay = codes "clearance"
 subject_of fault.Output = codes "output"
 subject_of fault.Listen = codes "listen"
+subject_of fault.Accept = codes "listen"
+subject_of (fault.SameFile file) = file_text file
 
 abbrev pub file_fault_name : CsvFault → List ℕ
 file_fault_name csv.ReadFailed = codes "ReadFailed"
@@ -104,6 +106,7 @@ journal_fault_name journal.ReadFailed = codes "ReadFailed"
 journal_fault_name journal.TooLong = codes "TooLong"
 journal_fault_name (journal.BadLine place) = codes "BadLine"
 journal_fault_name journal.WriteFailed = codes "WriteFailed"
+journal_fault_name journal.SameFile = codes "SameFile"
 
 abbrev pub verify_fault_name : VerifyFault → List ℕ
 verify_fault_name (verify.Reply number) = codes "Reply"
@@ -114,6 +117,7 @@ store_fault_name store.Sql = codes "Sql"
 store_fault_name (store.WrongVersion n) = codes "WrongVersion"
 store_fault_name (store.BadRow name) = codes "BadRow"
 store_fault_name store.NoMemory = codes "NoMemory"
+store_fault_name store.OtherTables = codes "OtherTables"
 
 -- the fault's name
 abbrev pub name_of : Fault → List ℕ
@@ -133,6 +137,8 @@ name_of fault.NoSuch = codes "NoSuch"
 name_of fault.NoWay = codes "NoWay"
 name_of fault.Output = codes "WriteFailed"
 name_of fault.Listen = codes "BindFailed"
+name_of fault.Accept = codes "AcceptFailed"
+name_of (fault.SameFile file) = codes "SameFile"
 
 abbrev pub file_fault_detail : CsvFault → Detail
 file_fault_detail (csv.NotText row) = detail.Row row

@@ -1,7 +1,7 @@
 -- A register with a journal: its database is opened, its journal taken up, and the last line redone.
 use Rattle.std.specs.Prelude.{◌≡◌, ◌⊎◌, ℕ, false, true, IsSomeAnd, IsTrue, List, None, Option, length}
 use Rattle.sqlite.specs.Held.{Held, state}
-use Rattle.sqlite.specs.State.{HasCleanDisk, Survives}
+use Rattle.sqlite.specs.State.{HasCleanDisk}
 use Rattle.sqlite_disk.specs.Disk.{Cut, Follows, MoreFaults}
 use Rattle.sqlite_disk.specs.declared.Disk as disk
 use Rattle.sqlite_disk.specs.declared.Files.{Files}
@@ -11,6 +11,7 @@ use Rattle.clr_append.specs.declared.fault.OpenFault.{OpenFault}
 use Rattle.clr_append.specs.declared.fault.OpenFault.TheVariants as shut
 use Rattle.clr_append.specs.declared.journal.Journal as append
 use Rattle.clr_rules.specs.Good.{IsGood}
+use Rattle.clr_rules.specs.Staffed.{IsStaffed}
 use Rattle.clr_rules.specs.Register.{Register}
 use Rattle.clr_journal.specs.Line.{Entry, read_line}
 use Rattle.clr_journal.specs.Opening.{FailedToCut, Unchanged, is_journal_text}
@@ -22,7 +23,7 @@ use Rattle.clr_journaled.specs.declared.fault.OpeningFault.{OpeningFault}
 use Rattle.clr_journaled.specs.declared.fault.OpeningFault.TheVariants as opening
 use Rattle.clr_journaled.specs.declared.journaled.Journaled.{Journaled}
 use Rattle.clr_journaled.specs.declared.last.Last.TheVariants.{Settled}
-use Rattle.clr_edge.specs.Database.{HasRegister, IsOnlyRead, IsRefused, ReadsAs}
+use Rattle.clr_edge.specs.Database.{HasRegister, IsOnlyRead, ReadsAs}
 use Rattle.clr_edge.specs.Fault.{of_desk}
 use Rattle.clr_edge.specs.declared.fault.Fault.{Fault}
 use Rattle.clr_edge.specs.declared.fault.Fault.TheVariants.{Journal, Memory}
@@ -121,6 +122,7 @@ pub record IsKept {T : Type 0} (g : Ghosts T) (before after : Held T) (S : Regis
   pub read : IsOnlyRead g before opened
   pub first : Register
   pub good : IsGood first
+  pub staffed : IsStaffed first
   pub is_register : (R : Register) → HasRegister g R before → HasCleanDisk (state g opened)
       → first ≡ R
   pub reads : ReadsAs g before opened first

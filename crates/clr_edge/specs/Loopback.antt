@@ -11,14 +11,14 @@ use Rattle.clr_disk.specs.declared.timed.Limit.{Limit}
 use Rattle.clr_edge.specs.declared.fault.Fault.{Fault}
 use Rattle.clr_edge.specs.declared.fault.Fault.TheVariants.{Listen, Memory}
 
--- TWO LIMITS KEEP A DEADLINE of this number of seconds: by the clock and from one moment on, a
--- request has a quarter of it to be read, and its response the whole to be written. Without a number
--- there is no limit.
-abbrev pub KeepDeadline : {K : Type 0} → (K → Type 0) → Option ℕ → Option (Limit K)
-    → Option (Limit K) → Type 0
-KeepDeadline is_clock None reader writer = (reader ≡ None) × (writer ≡ None)
-KeepDeadline {K} is_clock (Some seconds) reader writer = (clock : K) × (now : Instant)
-    × is_clock clock
+-- TWO LIMITS KEEP A DEADLINE of this number of seconds: by the clock and from one moment on that it
+-- showed, a request has a quarter of it to be read, and its response the whole to be written. Without
+-- a number there is no limit.
+abbrev pub KeepDeadline : {K : Type 0} → (K → Type 0) → (Instant → Type 0) → Option ℕ
+    → Option (Limit K) → Option (Limit K) → Type 0
+KeepDeadline is_clock is_now None reader writer = (reader ≡ None) × (writer ≡ None)
+KeepDeadline {K} is_clock is_now (Some seconds) reader writer = (clock : K) × (now : Instant)
+    × is_clock clock × is_now now
     × IsSomeAnd reader (EndsAfter clock now (seconds * 250_000_000))
     × IsSomeAnd writer (EndsAfter clock now (seconds * 1_000_000_000))
 

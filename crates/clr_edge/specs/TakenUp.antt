@@ -16,13 +16,15 @@ use Rattle.clr_edge.specs.Journals.{GoesOnFrom, IsKept, IsOfBadLine, IsOfOpening
 use Rattle.clr_edge.specs.declared.fault.Fault.{Fault}
 use Rattle.clr_edge.specs.declared.journals.Journals as journals
 
--- how a machine opens journals, and what one has
+-- how a machine opens journals, what one has, and what a clock of it shows
 pub record Logs (M J C : Type 0) : Type 1 where
   pub steps : journals.Ghosts M J C
   pub log : append.Ghosts J
+  pub shows : C → ℕ → Type 0
 
-abbrev pub logs : {M J C : Type 0} → journals.Ghosts M J C → append.Ghosts J → Logs M J C
-logs steps log = record { steps = steps; log = log }
+abbrev pub logs : {M J C : Type 0} → journals.Ghosts M J C → append.Ghosts J → (C → ℕ → Type 0)
+    → Logs M J C
+logs steps log shows = record { steps = steps; log = log; shows = shows }
 
 -- A JOURNAL WAS OPENED AT A PATH, once, and nothing else was. A keeper has it, with the clock of
 -- what opened it, and goes on from its last line, which says this
@@ -69,8 +71,8 @@ IsNotTakenUp g at path before fault after old new =
 
 -- COMMANDS WENT THROUGH A JOURNAL, at their logins: each that was carried out has its line there,
 -- and one that was accepted had it durably before its change was kept
-abbrev pub GoThrough : {K J C : Type 0} → append.Ghosts J → Register → Journaled K J C → Register
-    → Journaled K J C → Type 0
-GoThrough log R old S new = (given : List Given)
-    × AreGiven (Journals PassesOver log.text (IsDurable log.text log.may_leave)) HearsLogin
+abbrev pub GoThrough : {K J C : Type 0} → append.Ghosts J → (C → ℕ → Type 0) → Register
+    → Journaled K J C → Register → Journaled K J C → Type 0
+GoThrough log shows R old S new = (given : List Given)
+    × AreGiven (Journals PassesOver shows log.text (IsDurable log.text log.may_leave)) HearsLogin
     R old given S new

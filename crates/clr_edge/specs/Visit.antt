@@ -1,5 +1,5 @@
 -- One visit of a database: it is opened, worked on, and closed as it was left; and nothing else.
-use Rattle.std.specs.Prelude.{◌≡◌, ◌⊎◌, ℕ, IfErr, List, OnErr, OnOk, Result, Ok, Err}
+use Rattle.std.specs.Prelude.{◌≡◌, ◌⊎◌, ℕ, false, IfErr, List, OnErr, OnOk, Result, Ok, Err}
 use Rattle.sqlite.specs.Closing.{IsCopied}
 use Rattle.sqlite.specs.Files.{FailsToClose, IsClosed}
 use Rattle.sqlite.specs.Held.{Held, state}
@@ -90,19 +90,22 @@ abbrev pub both : Done → Done → Done
 both (Ok value) closed = closed
 both (Err fault) closed = Err fault
 
--- the tables of a register were made, or not, and the first fault is the result
+-- the tables of a register were made, or not, in a database with no transaction open, and the first
+-- fault is the result
 pub record MakesRegister {S : Type 0} (g : Ghosts S) (R : Register) (result : Done)
     (before after : Held S) (closed : Done) : Type 0 where
   pub told : Done
+  pub mode : before.in_transaction ≡ false
   pub made : OnOk told (IsMade g before R after)
   pub unmade : OnErr told (IsUnmade g before R after)
   pub fault : IfErr told IsOfLine
   pub result_is : result ≡ both told closed
 
--- the tables were moved, or not, and the first fault is the result
+-- the tables were moved, or not, with no transaction open, and the first fault is the result
 pub record MovesRegister {S : Type 0} (g : Ghosts S) (result : Done) (before after : Held S)
     (closed : Done) : Type 0 where
   pub told : Done
+  pub mode : before.in_transaction ≡ false
   pub moved : OnOk told (IsMoved g before after)
   pub unmoved : IfErr told (λ fault. IsUnmoved g before fault after)
   pub known : (R : Register) → HasRegister g R before → HasCleanDisk (state g after)

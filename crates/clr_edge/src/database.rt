@@ -1,5 +1,5 @@
 //! The databases that registers are stored in, each opened when its turn comes, and closed.
-ghost use Rattle.std.specs.Prelude.{◌≡◌, ◌⊎◌, ◌<◌, ℕ, List, IfErr, IfOk, OnErr, OnOk};
+ghost use Rattle.std.specs.Prelude.{◌≡◌, ◌⊎◌, ◌<◌, ℕ, false, List, IfErr, IfOk, IsTrue, OnErr, OnOk};
 ghost use Rattle.std.specs.IoError.{error_kind};
 ghost use Rattle.sqlite.specs.Files.{over_files};
 ghost use Rattle.sqlite.specs.Held.{state};
@@ -53,6 +53,7 @@ pub trait Databases {
     fn stored(&mut self, path: &str) -> Result<Connection<FileStore<Self::Medium>>, Fault>
         ensures opens { IfOk result (λ connection.
             opens self.old path.now Self.Medium.Disk connection self.new) }
+        ensures mode { IfOk result (λ connection. connection.in_transaction ≡ false) }
         ensures shuts { IfErr result (λ fault. shuts self.old path.now fault self.new) }
         ensures fault { IfErr result IsOfLine };
 
@@ -70,6 +71,7 @@ pub trait Makes: Databases {
     fn database(&mut self, path: &str) -> Result<Connection<FileStore<Self::Medium>>, Fault>
         ensures makes { IfOk result (λ connection.
             makes self.old path.now Self.Medium.Disk connection self.new) }
+        ensures mode { IfOk result (λ connection. connection.in_transaction ≡ false) }
         ensures shuts { IfErr result (λ fault. Self.shuts self.old path.now fault self.new) }
         ensures fault { IfErr result IsOfLine };
 }
@@ -95,6 +97,7 @@ impl<'a, Y: System, K: Clock> Databases for Machine<'a, Y, K> {
         ensures opens { IfOk result (λ connection. HasBytes Y.has_size path.now
             × IsOpenedAt Y.has_files Y.Medium.Disk self.old.system path.now
             connection self.new.system) }
+        ensures mode { IfOk result (λ connection. connection.in_transaction ≡ false) }
         ensures shuts { IfErr result (λ fault.
             ((self.new.system ≡ self.old.system)
             × HasNoBytes Y.has_size Y.lacks_size path.now fault)
@@ -126,6 +129,7 @@ impl<'a, Y: System, K: Clock> Makes for Machine<'a, Y, K> {
         ensures makes { IfOk result (λ connection.
             IsOpenedAt Y.has_files Y.Medium.Disk self.old.system path.now
             connection self.new.system) }
+        ensures mode { IfOk result (λ connection. connection.in_transaction ≡ false) }
         ensures shuts { IfErr result (λ fault.
             ((self.new.system ≡ self.old.system)
             × HasNoBytes Y.has_size Y.lacks_size path.now fault)
@@ -144,6 +148,7 @@ impl<'a, Y: System, K: Clock> Machine<'a, Y, K> {
         ensures opened { IfOk result (λ connection.
             IsOpenedAt Y.has_files Y.Medium.Disk self.old.system path.now
             connection self.new.system) }
+        ensures mode { IfOk result (λ connection. connection.in_transaction ≡ false) }
         ensures refused { IfErr result (λ fault. IsShutBy (λ error. IsShutAt Y.has_files
             Y.lacks_files Y.lets_go Y.lacks_seed
             ⟦<Watched<'a, Y::Medium, K> as Disk>⟧ (λ it. it.disk)
@@ -256,10 +261,22 @@ fn register_made<S: Alter + Drop>(
         (IsUnmade S.Store connection (opening network staff) result.1) }
     ensures fault { IfErr result.0 IsOfLine }
 {
+    settled(&connection);
     match Desk::create(alloc, connection, network, staff) {
         Ok(desk) => (Ok(()), desk.end().end()),
-        Err((fault, connection)) => (Err(Fault::from(fault)), connection),
+        Err((fault, connection)) => {
+            settled(&connection);
+            (Err(Fault::from(fault)), connection)
+        }
     }
+}
+
+/// Outside a transaction a connection shows what is committed: a law, with nothing to do.
+fn settled<S: Alter>(connection: &Connection<S>)
+    ensures { connection.now.in_transaction ≡ false → IsTrue (state S.Store connection.now).is_open
+        → (state S.Store connection.now).now ≡ (state S.Store connection.now).committed }
+{
+    let _is_autocommit = connection.is_autocommit();
 }
 
 /// Brings the tables of the register in the database at a path to the version that is read, and
@@ -286,9 +303,13 @@ fn register_moved<S: Alter + Drop>(connection: Connection<S>) -> (Result<(), Fau
     ensures known { (R : Register) → HasRegister S.Store R connection
         → HasCleanDisk (state S.Store result.1) → IfErr result.0 IsOfLine }
 {
+    settled(&connection);
     match Store::migrate(connection) {
         Ok(store) => (Ok(()), store.end()),
-        Err(Back { fault, connection }) => (Err(Fault::from(fault)), connection),
+        Err(Back { fault, connection }) => {
+            settled(&connection);
+            (Err(Fault::from(fault)), connection)
+        }
     }
 }
 
@@ -303,6 +324,7 @@ pub fn desk_over<S: Alter + Drop>(
 ) -> Result<Desk<Store<S>>, (Fault, Connection<S>)>
     ensures good { IfOk result (λ desk. IsGood desk.book.register) }
     ensures staffed { IfOk result (λ desk. IsStaffed desk.book.register) }
+    ensures faults { IfOk result (λ desk. desk.faults ≡ 0) }
     ensures register { (R : Register) → HasRegister S.Store R connection → IfOk result (λ desk.
         HasCleanDisk (state S.Store desk.store) → desk.book.register ≡ R) }
     ensures reads { IfOk result (λ desk.

@@ -67,6 +67,8 @@ pub enum JournalFault {
     BadLine(u64),
     /// A line was not written, or not synced.
     WriteFailed,
+    /// Its path leads to a file of the database.
+    SameFile,
 }
 
 /// Why a database is not what the run of a journal leaves.
@@ -115,6 +117,10 @@ pub enum Fault {
     Output,
     /// The port could not be listened on.
     Listen,
+    /// No connection could be taken, several times in a row.
+    Accept,
+    /// The path of a file leads to one of the database.
+    SameFile(ImportFile),
 }
 
 impl From<AllocError> for Fault {
@@ -272,7 +278,8 @@ impl Fault {
             Fault::Verify(_) => "verify",
             Fault::NoSuch | Fault::NoWay => "clearance",
             Fault::Output => "output",
-            Fault::Listen => "listen",
+            Fault::Listen | Fault::Accept => "listen",
+            Fault::SameFile(file) => file.as_str(),
         }
     }
 
@@ -298,6 +305,8 @@ impl Fault {
             Fault::NoWay => "NoWay",
             Fault::Output => "WriteFailed",
             Fault::Listen => "BindFailed",
+            Fault::Accept => "AcceptFailed",
+            Fault::SameFile(_) => "SameFile",
         }
     }
 
@@ -308,6 +317,7 @@ impl Fault {
         match *self {
             Fault::Memory | Fault::Input(_) => Detail::Nothing,
             Fault::NoSuch | Fault::NoWay | Fault::Output | Fault::Listen => Detail::Nothing,
+            Fault::Accept | Fault::SameFile(_) => Detail::Nothing,
             Fault::File(_, fault) => file_fault_detail(fault),
             Fault::Network(fault) => network_fault_detail(fault),
             Fault::Staff(fault) => staff_fault_detail(fault),
@@ -341,6 +351,7 @@ fn journal_fault_name(fault: JournalFault) -> &'static str
         JournalFault::TooLong => "TooLong",
         JournalFault::BadLine(_) => "BadLine",
         JournalFault::WriteFailed => "WriteFailed",
+        JournalFault::SameFile => "SameFile",
     }
 }
 
@@ -352,7 +363,8 @@ fn journal_fault_detail(fault: JournalFault) -> Detail
         JournalFault::OpenFailed
         | JournalFault::ReadFailed
         | JournalFault::TooLong
-        | JournalFault::WriteFailed => Detail::Nothing,
+        | JournalFault::WriteFailed
+        | JournalFault::SameFile => Detail::Nothing,
     }
 }
 
@@ -483,6 +495,7 @@ fn store_fault_name(fault: StoreFault) -> &'static str
         StoreFault::WrongVersion(_) => "WrongVersion",
         StoreFault::BadRow(_) => "BadRow",
         StoreFault::NoMemory => "NoMemory",
+        StoreFault::OtherTables => "OtherTables",
     }
 }
 
@@ -492,6 +505,6 @@ fn store_fault_detail(fault: StoreFault) -> Detail
     match fault {
         StoreFault::WrongVersion(version) => Detail::Version(version),
         StoreFault::BadRow(table) => Detail::Table(table),
-        StoreFault::Sql | StoreFault::NoMemory => Detail::Nothing,
+        StoreFault::Sql | StoreFault::NoMemory | StoreFault::OtherTables => Detail::Nothing,
     }
 }

@@ -1,5 +1,5 @@
 //! The journals of registers, each opened when its turn comes.
-ghost use Rattle.std.specs.Prelude.{◌≡◌, ◌/◌, ℕ, List, IfErr, IfOk, Option, option_map};
+ghost use Rattle.std.specs.Prelude.{◌≡◌, ◌/◌, ℕ, List, IfErr, IfOk, Option, option_map, ⊤};
 ghost use Rattle.std.specs.Time.{system_time_nanos};
 ghost use Rattle.clr_edge.specs.Journals.{IsBegunAt, IsOfOpening, IsUnbegunAt, of_open};
 ghost use Rattle.clr_edge.specs.declared.fault.Fault.{Fault as AnyFault};
@@ -63,52 +63,56 @@ pub trait Journals {
 
 /// A journal lies in the file at that path, and has what that held. No other file is had.
 impl<'a, Y: System, K: rt::Clock> Journals for Machine<'a, Y, K> {
-    type Log = OnDisk<Y::Medium>;
+    type Log = OnDisk<Y::JournalMedium>;
 
     type Time = Seconds<Y::Clock>;
 
-    ghost opens_journal = { λ old path journal last new. IsBegunAt Y.has_files Y.lets_go
-        Y.Medium.Disk ⟦<OnDisk<Y::Medium> as Journal>⟧ (λ it. it.disk)
-        old.system path journal last new.system };
+    ghost opens_journal = { λ old path journal last new. IsBegunAt Y.has_journal_files
+        Y.lets_journal_go Y.JournalMedium.Disk ⟦<OnDisk<Y::JournalMedium> as Journal>⟧
+        (λ it. it.disk) old.system path journal last new.system };
 
-    ghost shuts_journal = { λ old path fault new. IsUnbegunAt Y.has_files Y.lacks_files Y.lets_go
-        Y.Medium.Disk old.system path fault new.system };
+    ghost shuts_journal = { λ old path fault new. IsUnbegunAt Y.has_journal_files
+        Y.lacks_journal_files Y.lets_journal_go Y.JournalMedium.Disk
+        old.system path fault new.system };
 
-    ghost lets_journal_go = { λ old journal new. Y.lets_go old.system journal.disk new.system };
+    ghost lets_journal_go = { λ old journal new.
+        Y.lets_journal_go old.system journal.disk new.system };
 
     ghost has_time = { λ machine time. Y.has_clock machine.system time.clock };
 
-    fn journal(&mut self, path: &str) -> Result<OpenedJournal<OnDisk<Y::Medium>>, Fault>
-        ensures opens_journal { IfOk result (λ opened. IsBegunAt Y.has_files Y.lets_go Y.Medium.Disk
-            ⟦<OnDisk<Y::Medium> as Journal>⟧ (λ it. it.disk) self.old.system path.now
+    fn journal(&mut self, path: &str) -> Result<OpenedJournal<OnDisk<Y::JournalMedium>>, Fault>
+        ensures opens_journal { IfOk result (λ opened. IsBegunAt Y.has_journal_files
+            Y.lets_journal_go Y.JournalMedium.Disk
+            ⟦<OnDisk<Y::JournalMedium> as Journal>⟧ (λ it. it.disk) self.old.system path.now
             opened.journal (option_map (λ line. line.items) opened.last) self.new.system) }
-        ensures shuts_journal { IfErr result (λ fault. IsUnbegunAt Y.has_files Y.lacks_files
-            Y.lets_go Y.Medium.Disk self.old.system path.now fault self.new.system) }
+        ensures shuts_journal { IfErr result (λ fault. IsUnbegunAt Y.has_journal_files
+            Y.lacks_journal_files Y.lets_journal_go Y.JournalMedium.Disk self.old.system
+            path.now fault self.new.system) }
         ensures fault { IfErr result IsOfOpening }
     {
-        let files = match self.system.files(path) {
+        let files = match self.system.journal_files(path) {
             Ok(files) => files,
             Err(OpenError::OutOfMemory) => return Err(Fault::Memory),
             Err(_) => return Err(Fault::Journal(JournalFault::OpenFailed)),
         };
         let Files { log, db } = files;
-        self.system.let_go(log);
+        self.system.let_journal_go(log);
         match open_journal(self.alloc, db) {
             Ok(opened) => Ok(OpenedJournal {
                 journal: opened.journal,
                 last: opened.last,
             }),
             Err((fault, disk)) => {
-                self.system.let_go(disk);
+                self.system.let_journal_go(disk);
                 Err(of_open(fault))
             }
         }
     }
 
-    fn let_journal_go(&mut self, journal: OnDisk<Y::Medium>)
-        ensures { Y.lets_go self.old.system journal.disk self.new.system }
+    fn let_journal_go(&mut self, journal: OnDisk<Y::JournalMedium>)
+        ensures { Y.lets_journal_go self.old.system journal.disk self.new.system }
     {
-        self.system.let_go(journal.into_disk());
+        self.system.let_journal_go(journal.into_disk());
     }
 
     fn time(&self) -> Seconds<Y::Clock>
@@ -139,7 +143,9 @@ pub struct Seconds<K: rt::Clock + Drop> {
 
 /// Of what a clock shows no clause can speak.
 impl<K: rt::Clock + Drop> Clock for Seconds<K> {
-    fn seconds(&mut self) -> u64 {
+    ghost shows = { λ _ _. ⊤ };
+
+    fn seconds(&self) -> u64 {
         match SystemTime::now(&self.clock) {
             Ok(now) => seconds_of(now),
             Err(_) => 0,

@@ -1,5 +1,5 @@
 //! What takes connections on the machine itself.
-ghost use Rattle.std.specs.Prelude.{◌≡◌, ℕ, IfErr, IfOk, Option};
+ghost use Rattle.std.specs.Prelude.{◌≡◌, ℕ, Bool, IfErr, IfOk, Option};
 ghost use Rattle.std.specs.IoError.{error_kind};
 ghost use Rattle.std.specs.declared.io.ErrorKind.{ErrorKind};
 ghost use Rattle.std.specs.declared.net.socket_addr.SocketAddr.{SocketAddr as AnySocketAddr};
@@ -11,10 +11,10 @@ use crate::fault::Fault;
 use crate::machine::Machine;
 use clr_disk::{Event, Limit, System, Timed};
 use clr_stream::{Counted, CountedFlush, CountedRead};
-use std::io;
 use std::net::{IpAddr, Ipv4Addr, SocketAddr, TcpListener, TcpStream};
 use std::rt::Clock;
-use std::time::{Duration, Instant};
+use std::time::Duration;
+use std::{io, thread};
 
 /// What takes connections. Each step leads from one state of it to the next, and each connection
 /// that came is let go by `hang_up`.
@@ -39,11 +39,13 @@ pub trait Loopback {
     ghost comes: { Self → Self.Listener → Option ℕ → AnyConnection Self.Reader Self.Writer
         → Self → Type 0 };
 
-    /// That a connection could not be taken, for this reason. Only `accept` says so.
-    ghost misses: { Self → Self.Listener → ErrorKind → Self → Type 0 };
+    /// That a connection could not be taken by this number of tries in a row, for this reason. Only
+    /// `accept` says so.
+    ghost misses: { Self → Self.Listener → ℕ → ErrorKind → Self → Type 0 };
 
-    /// That a connection was let go as it was then. Only `hang_up` says so.
-    ghost hangs_up: { Self → AnyConnection Self.Reader Self.Writer → Self → Type 0 };
+    /// That a connection was let go as it was then, and whether more of its request was expected.
+    /// Only `hang_up` says so.
+    ghost hangs_up: { Self → AnyConnection Self.Reader Self.Writer → Bool → Self → Type 0 };
 
     /// Listens on an address.
     fn bind(&mut self, address: SocketAddr) -> io::Result<Self::Listener>
@@ -54,19 +56,23 @@ pub trait Loopback {
     /// Waits for the next connection to a listener. Where a deadline is given, each read of it fails
     /// once a quarter of that number of seconds has passed since it came, and each write once all
     /// have. So a client that sends nothing holds up the next ones for a quarter alone.
+    ///
+    /// One that could not be taken is asked for again, up to this number of tries in a row.
     fn accept(
         &mut self,
         listener: &Self::Listener,
         deadline: Option<u16>,
+        tries: u8,
     ) -> io::Result<Connection<Self::Reader, Self::Writer>>
         ensures comes { IfOk result (λ connection.
             comes self.old listener.now deadline connection self.new) }
         ensures misses { IfErr result (λ error.
-            misses self.old listener.now (error_kind error) self.new) };
+            misses self.old listener.now tries (error_kind error) self.new) };
 
-    /// Lets a connection go, which closes it.
-    fn hang_up(&mut self, connection: Connection<Self::Reader, Self::Writer>)
-        ensures { hangs_up self.old connection self.new };
+    /// Lets a connection go, which closes it. What still comes of its request is read first, up to a
+    /// bound, and is waited for where more is expected and the connection has a deadline.
+    fn hang_up(&mut self, connection: Connection<Self::Reader, Self::Writer>, is_expected: bool)
+        ensures { hangs_up self.old connection is_expected self.new };
 }
 
 /// A connection, which is closed once both handles are let go.
@@ -92,7 +98,8 @@ struct Limits<K> {
 /// is one, and all is over at the deadline.
 fn limits_now<Y: System>(system: &Y, deadline: Option<u16>) -> io::Result<Limits<Y::Clock>>
     ensures { IfOk result (λ limits.
-        KeepDeadline (Y.has_clock system.now) deadline limits.reader limits.writer) }
+        KeepDeadline (Y.has_clock system.now) (Y.is_now system.now) deadline
+        limits.reader limits.writer) }
 {
     let Some(seconds) = deadline else {
         return Ok(Limits {
@@ -101,12 +108,34 @@ fn limits_now<Y: System>(system: &Y, deadline: Option<u16>) -> io::Result<Limits
         });
     };
     let clock = system.clock();
-    let now = Instant::now(&clock)?;
+    let now = system.now()?;
     let quarter = Duration::from_millis(u64::from(seconds) * 250);
     let whole = Duration::from_secs(u64::from(seconds));
     Ok(Limits {
         reader: Some(Limit::after(clock, now, quarter)?),
         writer: Some(Limit::after(clock, now, whole)?),
+    })
+}
+
+/// How long it takes until a connection is asked for again.
+const PAUSE_MILLIS: u64 = 125;
+
+/// The next connection to a listener, with the limits that it has from now on.
+fn taken<Y: System>(
+    system: &Y,
+    listener: &TcpListener,
+    deadline: Option<u16>,
+) -> io::Result<Connection<Handle<Y::Clock>, Handle<Y::Clock>>>
+    ensures { IfOk result (λ connection.
+        KeepDeadline (Y.has_clock system.now) (Y.is_now system.now) deadline
+        (counted_inner connection.reader).limit (counted_inner connection.writer).limit) }
+{
+    let (reader, _) = listener.accept()?;
+    let limits = limits_now(system, deadline)?;
+    let writer = reader.try_clone()?;
+    Ok(Connection {
+        reader: Counted::new(Timed::new(reader, limits.reader)),
+        writer: Counted::new(Timed::new(writer, limits.writer)),
     })
 }
 
@@ -124,12 +153,12 @@ impl<'a, Y: System, K: Clock> Loopback for Machine<'a, Y, K> {
         Y.listens old.system address listener new.system };
 
     ghost comes = { λ old _ deadline connection new. (new ≡ old)
-        × KeepDeadline (Y.has_clock old.system) deadline
+        × KeepDeadline (Y.has_clock old.system) (Y.is_now old.system) deadline
         (counted_inner connection.reader).limit (counted_inner connection.writer).limit };
 
-    ghost misses = { λ old _ _ new. new ≡ old };
+    ghost misses = { λ old _ _ _ new. new ≡ old };
 
-    ghost hangs_up = { λ old _ new. new ≡ old };
+    ghost hangs_up = { λ old _ _ new. new ≡ old };
 
     fn bind(&mut self, address: SocketAddr) -> io::Result<TcpListener>
         ensures stands { IfOk result (λ listener.
@@ -147,25 +176,32 @@ impl<'a, Y: System, K: Clock> Loopback for Machine<'a, Y, K> {
         &mut self,
         listener: &TcpListener,
         deadline: Option<u16>,
+        tries: u8,
     ) -> io::Result<Connection<Handle<Y::Clock>, Handle<Y::Clock>>>
         ensures comes { IfOk result (λ connection. (self.new ≡ self.old)
-            × KeepDeadline (Y.has_clock self.old.system) deadline
+            × KeepDeadline (Y.has_clock self.old.system) (Y.is_now self.old.system) deadline
             (counted_inner connection.reader).limit (counted_inner connection.writer).limit) }
         ensures misses { IfErr result (λ _. self.new ≡ self.old) }
     {
-        let (reader, _) = listener.accept()?;
-        let limits = limits_now(&self.system, deadline)?;
-        let writer = reader.try_clone()?;
-        Ok(Connection {
-            reader: Counted::new(Timed::new(reader, limits.reader)),
-            writer: Counted::new(Timed::new(writer, limits.writer)),
-        })
+        for _ in 1..tries {
+            if let Ok(connection) = taken(&self.system, listener, deadline) {
+                return Ok(connection);
+            }
+            thread::sleep(&self.system.clock(), Duration::from_millis(PAUSE_MILLIS));
+        }
+        taken(&self.system, listener, deadline)
     }
 
-    fn hang_up(&mut self, connection: Connection<Handle<Y::Clock>, Handle<Y::Clock>>)
+    fn hang_up(
+        &mut self,
+        connection: Connection<Handle<Y::Clock>, Handle<Y::Clock>>,
+        is_expected: bool,
+    )
         ensures { self.new ≡ self.old }
     {
-        drop(connection);
+        let Connection { reader, writer } = connection;
+        drop(writer);
+        reader.into_inner().end(is_expected);
     }
 }
 

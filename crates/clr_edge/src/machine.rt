@@ -1,5 +1,5 @@
 //! The machine that the program runs on: its memory, its databases and its ports.
-ghost use Rattle.std.specs.Prelude.{◌≡◌, [], true};
+ghost use Rattle.std.specs.Prelude.{◌≡◌, [], None, Some, true};
 
 use clr_disk::{System, Watch};
 use sqlite::Start;
@@ -19,7 +19,8 @@ pub struct Machine<'a, Y: System, K> {
 impl<'a, Y: System> Machine<'a, Y, HostRuntime> {
     /// The machine of a system. No opening of a database is shown.
     pub fn new(alloc: Global, system: Y) -> Machine<'a, Y, HostRuntime>
-        ensures { result.system ≡ system }
+        ensures system { result.system ≡ system }
+        ensures watch { result.watch ≡ None }
     {
         Machine {
             alloc,
@@ -33,7 +34,8 @@ impl<'a, Y: System, K: Clock> Machine<'a, Y, K> {
     /// The same, where a watch shows each opening of a database by `stored`. It ends when the
     /// machine listens; what else comes after an opening is to end it.
     pub fn watched(alloc: Global, system: Y, watch: &'a Watch<K>) -> Machine<'a, Y, K>
-        ensures { result.system ≡ system }
+        ensures system { result.system ≡ system }
+        ensures watch { result.watch ≡ Some watch.entry }
     {
         Machine {
             alloc,
@@ -51,12 +53,31 @@ impl<'a, Y: System, K> Alloc for Machine<'a, Y, K> {
     }
 }
 
-/// Files that may hold anything. A torn write leaves each of their bytes old or new, so most
+/// The files of the program's database. A torn write leaves each of their bytes old or new, so most
 /// commits sync once, as under SQLite's `synchronous=FULL`.
-#[derive(Clone, Copy)]
-pub struct AnyFiles;
+///
+/// Its ghosts have to be some bytes, and are none. So a clause at this type speaks of files that
+/// were empty alone: what holds of any is stated over any system.
+#[derive(Drop)]
+pub struct DatabaseStart;
 
-impl Start for AnyFiles {
+impl Start for DatabaseStart {
+    ghost log = { [] };
+
+    ghost db = { [] };
+
+    ghost is_mixing = { true };
+
+    fn mixes() -> bool {
+        true
+    }
+}
+
+/// The same of the file of its journal, of which nothing is supposed together with the database.
+#[derive(Drop)]
+pub struct JournalStart;
+
+impl Start for JournalStart {
     ghost log = { [] };
 
     ghost db = { [] };

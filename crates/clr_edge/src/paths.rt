@@ -1,10 +1,12 @@
 //! Files at the paths that a command line names.
-ghost use Rattle.std.specs.Prelude.{◌≡◌, ◌⊎◌, ℕ, List, None, Option, Err, Ok, ⊤};
+ghost use Rattle.std.specs.Prelude.{◌≡◌, ◌⊎◌, ℕ, List, None, Option, Err, Ok, false, true, ⊤};
+ghost use Rattle.clr_disk.specs.Place.{IsOther, IsOwn};
 
 use crate::files::Source;
 use clr_csv::CsvFault;
-use clr_disk::System;
+use clr_disk::{System, is_own};
 use clr_stream::CountedRead;
+use std::alloc::{AllocError, Global};
 use std::io;
 use std::io::Read;
 
@@ -15,9 +17,21 @@ pub trait Opens<'a> {
     /// What the file at a path holds, where that is known.
     ghost bytes_at: { Self → List ℕ → Option (List ℕ) };
 
+    /// That a file of the database at the first path is at the second. Only `is_own` says so.
+    ghost owns: { Self → List ℕ → List ℕ → Type 0 };
+
+    /// That none of them is. Only `is_own` says so.
+    ghost spares: { Self → List ℕ → List ℕ → Type 0 };
+
     /// The file at a path. It is not opened yet.
     fn at(&self, path: &'a str) -> Self::File
         ensures { Self.File.remaining result ≡ bytes_at self.now path.entry.now };
+
+    /// Whether a path leads to a file of the database at another: the database file, or one that
+    /// SQLite keeps beside it.
+    fn is_own(&self, alloc: Global, database: &str, path: &str) -> Result<bool, AllocError>
+        ensures owns { result ≡ Ok true → owns self.now database.now path.now }
+        ensures spares { result ≡ Ok false → spares self.now database.now path.now };
 }
 
 /// The paths of a system.
@@ -37,10 +51,15 @@ impl<'a, Y> Paths<'a, Y> {
 
 impl<'a, Y: System> Opens<'a> for Paths<'a, Y> {
     ghost use Rattle.std.specs.Prelude.{None};
+    ghost use Rattle.clr_disk.specs.Place.{IsOther, IsOwn};
 
     type File = AtPath<'a, Y>;
 
     ghost bytes_at = { λ _ _. None };
+
+    ghost owns = { λ _ database path. IsOwn Y.is_place database path };
+
+    ghost spares = { λ _ database path. IsOther Y.is_place Y.lacks_place database path };
 
     fn at(&self, path: &'a str) -> AtPath<'a, Y>
         ensures bytes { ⊤ }
@@ -49,6 +68,7 @@ impl<'a, Y: System> Opens<'a> for Paths<'a, Y> {
         ensures path { result.path ≡ path.entry }
         ensures system { result.system ≡ self.now.system }
         ensures unopened { result.file ≡ None }
+        ensures uncounted { result.failures ≡ 0 }
     {
         AtPath {
             system: self.system,
@@ -56,6 +76,14 @@ impl<'a, Y: System> Opens<'a> for Paths<'a, Y> {
             file: None,
             failures: 0,
         }
+    }
+
+    fn is_own(&self, alloc: Global, database: &str, path: &str) -> Result<bool, AllocError>
+        ensures owns { result ≡ Ok true → IsOwn Y.is_place database.now path.now }
+        ensures spares { result ≡ Ok false
+            → IsOther Y.is_place Y.lacks_place database.now path.now }
+    {
+        is_own(alloc, self.system, database, path)
     }
 }
 

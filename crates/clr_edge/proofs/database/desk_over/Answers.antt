@@ -11,7 +11,7 @@ use Rattle.clr_tables.specs.Tables.{tables_of}
 use Rattle.clr_edge.specs.Database.{IsOfLine, IsRefused}
 use Rattle.clr_edge.specs.Fault.{of_desk}
 use Rattle.clr_edge.proofs.Databases.{IsOfCommand-shut, IsOfLine-of_command, IsOfLine-of_version, IsOfLine-unfit}
-use Rattle.clr_edge.proofs.Databases.{RefusesTables-unfit, RefusesVersion-of_command, SqlHasCause-unfit}
+use Rattle.clr_edge.proofs.Databases.{RefusesTables-unfit, RefusesOpening-of_command, SqlHasCause-unfit}
 use Rattle.clr_edge.proofs.Databases.{of_desk-of_store, rows_of-opened, survives_on, was_clean}
 use Rattle.clr_desk.specs.Faults.{IsOfCommand}
 use Rattle.clr_edge.proofs.database.desk_over.Goals as goal
@@ -52,6 +52,7 @@ returns-in-Err-clause-told g c =
     record {
       fault = c.in-Err.field-0.fault;
       told_is = c.from.ensures;
+      bare = c.in-Err.ensures.bare;
       refuses = λ clean t has. inl (c.in-Err.ensures.refused clean t has);
       version = λ clean out meta has other. (c.in-Err.ensures.unread clean meta has, c.in-Err.ensures.cause clean out meta has);
       cause = λ clean out t has. c.in-Err.ensures.cause clean out t.meta (has_meta has.layout _ t has.here);
@@ -64,12 +65,13 @@ returns-in-Err-open-clause-told g c =
     record {
       fault = fault;
       told_is = c.from-in-Err-open.ensures ∙ (ap of_desk is ∙ of_desk-of_store fault);
+      bare = λ lacks. absurd (c.in-Ok.ensures.bare lacks);
       refuses = λ clean_back t has.
           let clean = subst (λ h. HasCleanDisk (state g.S.Store h)) c.end.ensures.connection clean_back in
           ⊎_elim
           (λ was_open. inr (inl (refused clean t (subst (λ db. HasTables db t)
           (sym (c.in-Ok.ensures.opened (was_clean _ _ _ c.in-Err-open.ensures.survives_too clean) was_open)) has)).0))
-          (λ shut. inl (RefusesVersion-of_command _ fault (subst (λ told. IsOfCommand told) is shut)))
+          (λ shut. inl (RefusesOpening-of_command t fault (subst (λ told. IsOfCommand told) is shut)))
           (c.in-Err-open.ensures.shut clean);
       version = λ clean_back out meta has other.
           let clean = subst (λ h. HasCleanDisk (state g.S.Store h)) c.end.ensures.connection clean_back in
@@ -82,10 +84,18 @@ returns-in-Err-open-clause-told g c =
           (sym (c.in-Ok.ensures.opened (was_clean _ _ _ c.in-Err-open.ensures.survives_too clean) was_open)) has)).1));
     }
 
+pub returns-in-Err-open-clause-unread : goal.returns-in-Err-open-clause-unread
+returns-in-Err-open-clause-unread g c =
+    subst (λ (h : Held g.row.S.Denot). Survives (state g.S.Store c.args.connection) (state g.S.Store h) (λ _. ⊥)) (sym c.end.ensures.connection)
+    (survives_on _ _ _ c.in-Ok.ensures.crash_opened c.in-Err-open.ensures.survives_too)
+
 -- the tables are only read
 pub returns-in-Ok-expect_good-clause-read : goal.returns-in-Ok-expect_good-clause-read
 returns-in-Ok-expect_good-clause-read g c = record {
+  has_meta = c.in-Ok.ensures.bare;
   version = λ clean meta has. c.in-Ok.ensures.version (was_clean _ _ _ c.in-Ok-open.ensures.survives clean) meta has;
+  alone = λ clean meta has. c.in-Ok.ensures.alone (was_clean _ _ _ c.in-Ok-open.ensures.survives clean) meta has;
+  laid_out = λ clean. c.in-Ok.ensures.laid_out (was_clean _ _ _ c.in-Ok-open.ensures.survives clean);
   same = λ clean shown.
       c.in-Ok-open.ensures.same clean shown
       ∙ c.in-Ok.ensures.opened (was_clean _ _ _ c.in-Ok-open.ensures.survives clean) (c.in-Ok-open.ensures.was_open clean);
@@ -114,6 +124,7 @@ returns-in-Err-expect_good-clause-told g c =
     (record {
       fault = c.in-Err-expect_good.cause;
       told_is = c.from-in-Err-expect_good.ensures;
+      bare = λ lacks. absurd (c.in-Ok.ensures.bare lacks);
       refuses = λ clean t has.
           RefusesTables-unfit t c.in-Ok-open.desk.book c.in-Err-expect_good.cause
           (c.in-Ok-open.ensures.opened clean t (subst (λ db. HasTables db t)

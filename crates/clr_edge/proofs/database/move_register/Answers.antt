@@ -16,6 +16,7 @@ returns-clause-visit g c = inr (record {
     refl,
     record {
       told = c.register_moved-moved.result.0;
+      mode = c.in_ok-connection.ensures.mode;
       moved = c.register_moved-moved.ensures.moved;
       unmoved = c.register_moved-moved.ensures.unmoved;
       known = c.register_moved-moved.ensures.known;

@@ -16,6 +16,7 @@ returns-clause-visit g c = inr (record {
     refl,
     record {
       told = c.register_made-made.result.0;
+      mode = c.in_ok-connection.ensures.mode;
       made = c.register_made-made.ensures.made;
       unmade = c.register_made-made.ensures.unmade;
       fault = c.register_made-made.ensures.fault;

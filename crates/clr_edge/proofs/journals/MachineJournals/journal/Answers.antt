@@ -18,9 +18,9 @@ of_failed shut.NoMemory e = absurd (cc e)
 pub returns-in-Ok-open_journal-clause-opens_journal : goal.returns-in-Ok-open_journal-clause-opens_journal
 returns-in-Ok-open_journal-clause-opens_journal g c = record {
   files = c.in-Ok.files;
-  middle = c.files.new.self;
+  middle = c.journal_files.new.self;
   had = c.in-Ok.ensures.has;
-  gone = c.let_go.ensures;
+  gone = c.let_journal_go.ensures;
   is_journal = c.in-Ok-open_journal.ensures.journal;
   text = c.in-Ok-open_journal.ensures.text;
   last_is = c.in-Ok-open_journal.ensures.last;
@@ -34,10 +34,10 @@ returns-in-Err-open_journal-clause-shuts_journal g c =
     let told : c.of_open.result ≡ of_open c.in-Err-open_journal.fault = c.of_open.ensures.value in
     inr (record {
       files = c.in-Ok.files;
-      middle = c.files.new.self;
+      middle = c.journal_files.new.self;
       had = c.in-Ok.ensures.has;
       left = c.in-Err-open_journal.disk;
-      gone = (c.let_go.new.self, c.let_go.ensures, c.let_go-in-Err-open_journal.ensures);
+      gone = (c.let_journal_go.new.self, c.let_journal_go.ensures, c.let_journal_go-in-Err-open_journal.ensures);
       bytes = c.in-Err-open_journal.ensures.left;
       spared = λ e. c.in-Err-open_journal.ensures.spared (of_memory c.in-Err-open_journal.fault (sym told ∙ e));
       cause = λ clean e. c.in-Err-open_journal.ensures.cause clean (of_failed c.in-Err-open_journal.fault (sym told ∙ e));
