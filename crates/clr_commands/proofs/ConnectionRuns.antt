@@ -1,6 +1,7 @@
 -- What connections carry out, one after the other, is a run.
-use Rattle.std.proofs.Common.{◌≡◌, ◌≤◌, ◌⊎◌, ◌+◌, ◌∙◌, ℕ, Bool, true, false, zero, suc, List, [], ◌∷◌, Option, None, Some, Result, Ok, Err, ap, arith, inl, inr, length, map, refl, subst, sym}
+use Rattle.std.proofs.Common.{◌≡◌, ◌≤◌, ◌<◌, ◌⊎◌, ◌+◌, ◌∙◌, ℕ, Bool, true, false, zero, suc, List, [], ◌∷◌, Option, None, Some, Result, Ok, Err, ap, arith, inl, inr, length, map, refl, subst, sym}
 use Rattle.std.specs.Prelude.{if◌then◌else◌}
+use Rattle.std.specs.declared.io.ErrorKind.{ErrorKind}
 use Rattle.clr_stream.specs.Streams.{Stream}
 use Rattle.clr_rules.specs.Agreement.{Agree}
 use Rattle.clr_rules.specs.Answer.{Answer, answer}
@@ -27,9 +28,9 @@ use Rattle.clr_http.specs.declared.serve.Served.{Served}
 use Rattle.clr_http.specs.declared.serve.Served.TheVariants.{Answered, Nothing}
 use Rattle.clr_http.proofs.Connections.{wider}
 use Rattle.clr_edge.specs.declared.loopback.Loopback as loopback
-use Rattle.clr_commands.specs.Connections.{Seen, TakesFirst, TakesNext}
+use Rattle.clr_commands.specs.Connections.{Seen, TakesFirst, TakesNext, tries_of}
 use Rattle.clr_commands.specs.declared.serve.Terms.{Terms}
-use Rattle.clr_commands.specs.ConnectionLaws.{CarriesAll, CarriesNext, CarriesOut, ConnectionsHaveRun, HasReply, RunsGetTheSame}
+use Rattle.clr_commands.specs.ConnectionLaws.{CarriesAll, CarriesNext, CarriesOut, ConnectionsHaveRun, EndsEarly, HasReply, RunsGetTheSame}
 
 -- ---- one connection
 
@@ -98,7 +99,7 @@ module _ {D M L R W : Type 0} (by : registrar.Ghosts D) (net : loopback.Ghosts M
   next_good : (number : ℕ) (k k' : D) (errors errors' : Stream) (old new : M)
       → TakesNext by net seen terms listener number k k' errors errors' old new → IsGood (by.keeper k).register → IsGood (by.keeper k').register
   next_good number k k' errors errors' old new (inl it) good = it.served.1.good good
-  next_good number k k' errors errors' old new (inr (kind, missed, kept, reported)) good = subst (λ (x : D). IsGood (by.keeper x).register) (sym kept) good
+  next_good number k k' errors errors' old new (inr (kind, missed, kept, reported, plain)) good = subst (λ (x : D). IsGood (by.keeper x).register) (sym kept) good
 
   first_good : (n : ℕ) (k k' : D) (errors errors' : Stream) (old new : M)
       → TakesFirst by net seen terms listener n k k' errors errors' old new → IsGood (by.keeper k).register → IsGood (by.keeper k').register
@@ -152,7 +153,7 @@ module _ {D M L R W : Type 0} (by : registrar.Ghosts D) (net : loopback.Ghosts M
           → CarriesNext by net seen terms listener number k k' errors errors' old new command response
           → ((by.keeper k').register ≡ after_all (by.keeper k).register (with_asked command [])) × HasReply (by.keeper k).register command response
       left_by number k k' errors errors' old new command response (inl (it, out)) = (out.left, out.reply)
-      left_by number k k' errors errors' old new None response (inr ((kind, missed, kept, reported), none, empty)) = (ap (λ (x : D). (by.keeper x).register) kept, tt)
+      left_by number k k' errors errors' old new None response (inr ((kind, missed, kept, reported, plain), none, empty)) = (ap (λ (x : D). (by.keeper x).register) kept, tt)
       left_by number k k' errors errors' old new (Some q) response (inr (missed, none, empty)) = cc none
   all_run number k k' errors errors' old new [] (response ∷ others) all = absurd all
   all_run number k k' errors errors' old new (command ∷ later) [] all = absurd all
@@ -189,6 +190,20 @@ module _ {D M L R W : Type 0} (by : registrar.Ghosts D) (net : loopback.Ghosts M
       let end : n ≡ count = omega (arith, most, all) in
       subst (λ (x : ℕ). ConnectionsHaveRun by net seen terms listener x k k' errors errors' old new) end
       (connections_have_run same nothing alone n k k' errors errors' old new taken good)
+
+  -- and so it is of those that were taken before a desk's server ended
+  pub ended_early : RunsChangeNoReply → RunsTakeNothing → RunsStandAlone → (n : ℕ) → n < terms.count → (k between k' : D) (errors reported errors' : Stream)
+      (old middle new : M) → TakesFirst by net seen terms listener n k between errors reported old middle
+      → (kind : ErrorKind) → net.misses middle listener (tries_of terms.service.desk) kind new → terms.service.desk ≡ true → k' ≡ between → errors' ≡ reported
+      → EndsEarly by net seen terms listener k k' errors errors' old new
+  ended_early same nothing alone n short k between k' errors reported errors' old middle new taken kind missed desk kept quiet =
+      let at_keeper = subst (λ (x : D). TakesFirst by net seen terms listener n k x errors reported old middle) (sym kept) taken in
+      let here = subst (λ (x : Stream). TakesFirst by net seen terms listener n k k' errors x old middle) (sym quiet) at_keeper in (
+        n,
+        short,
+        record { middle = middle; taken = here; kind = kind; missed = missed; desk = desk },
+        λ good. connections_have_run same nothing alone n k k' errors errors' old middle here good,
+      )
 
 -- ---- two runs
 

@@ -1,8 +1,9 @@
 -- The connections of a port, one by one, and the register that they lead to.
-use Rattle.std.proofs.Common.{◌≡◌, ◌⊎◌, ◌+◌, ◌∙◌, ℕ, zero, suc, List, [], Option, None, Some, Result, Ok, Err, ap, arith, inl, inr, refl, subst, sym}
-use Rattle.std.specs.Prelude.{IsErrAnd, OnErr, OnOk}
+use Rattle.std.proofs.Common.{◌≡◌, ◌⊎◌, ◌+◌, ◌∙◌, ℕ, Bool, false, true, zero, suc, List, [], Option, None, Some, Result, Ok, Err, ap, arith, inl, inr, refl, subst, sym}
+use Rattle.std.specs.Prelude.{◌<◌, ◌≢◌, IfErr, IsErrAnd, OnErr, OnOk}
 use Rattle.std.specs.Io.KnownBytes.{Appends}
-use Rattle.clr_stream.specs.Streams.{AppendsFront, IsCut, Sends, Stream}
+use Rattle.std.specs.declared.io.ErrorKind.{ErrorKind}
+use Rattle.clr_stream.specs.Streams.{AppendsFront, IsCut, Sends, Stream, WentOut}
 use Rattle.clr_rules.specs.Good.{IsGood}
 use Rattle.clr_rules.specs.Register.{Register}
 use Rattle.clr_rules.specs.Run.{after_all}
@@ -18,10 +19,11 @@ use Rattle.clr_result.specs.Results.{◌>>=◌}
 use Rattle.clr_edge.specs.Logins.{known_logins}
 use Rattle.clr_edge.specs.Visit.{Done}
 use Rattle.clr_edge.specs.declared.fault.Fault.{Fault}
-use Rattle.clr_edge.specs.declared.fault.Fault.TheVariants.{Output}
+use Rattle.clr_edge.specs.declared.fault.Fault.TheVariants.{Accept, Output}
 use Rattle.clr_edge.specs.Loopback.{StandsOn}
 use Rattle.clr_edge.specs.declared.loopback.Loopback as loopback
-use Rattle.clr_commands.specs.Connections.{ReportsConnection, Seen, TakesFirst, TakesNext, connection_line}
+use Rattle.clr_commands.specs.Connections.{MissesLast, ReportsConnection, Seen, TakesFirst, TakesNext, accept_fault, connection_line, tries_of}
+use Rattle.clr_commands.specs.ConnectionLaws.{ConnectionsHaveRun, EndsEarly}
 use Rattle.clr_commands.specs.Logins.{terms_of, terms_with}
 use Rattle.clr_commands.specs.Serve.{ServesKeeper, ServesOn, serving_line}
 use Rattle.clr_commands.specs.declared.serve.Terms.{Terms}
@@ -29,6 +31,9 @@ use Rattle.clr_commands.specs.declared.serve.Terms.{Terms}
 none_within : (n : ℕ) (R Q : Register) → Q ≡ R → ComesWithin n R Q
 unfolding after_all
 none_within n R Q e = ([], omega arith, e)
+
+more_within : (n m : ℕ) (R Q : Register) → n < m → ComesWithin n R Q → ComesWithin m R Q
+more_within n m R Q short (commands, few, e) = (commands, omega (arith, few, short), e)
 
 within_good : (n : ℕ) (R Q : Register) → ComesWithin n R Q → IsGood R → IsGood Q
 within_good n R Q (commands, few, e) good = subst IsGood (sym e) (runs_keep_good R commands good)
@@ -61,7 +66,7 @@ module _ {D M L R W : Type 0} (by : registrar.Ghosts D) (net : loopback.Ghosts M
   next_follows number k k' errors errors' old new (inl answers) good =
       let (served, answered, put, reported) = answers.served in
       carried_one _ (by.keeper k) (by.keeper k') _ _ served (answered.carries good)
-  next_follows number k k' errors errors' old new (inr (kind, missed, kept, reported)) good =
+  next_follows number k k' errors errors' old new (inr (kind, missed, kept, reported, plain)) good =
       none_within 1 (by.keeper k).register (by.keeper k').register (ap (λ (it : D). (by.keeper it).register) kept)
 
   -- the first connections lead to the register by as many commands at most
@@ -83,8 +88,11 @@ pub server_within : {D M L R W : Type 0} (by : registrar.Ghosts D) (net : loopba
     → IsGood (by.keeper k).register → ComesWithin terms.count (by.keeper k).register (by.keeper k').register
 server_within by net seen terms output output' errors errors' k k' (Ok value) old new (listener, middle, stands, went, taken, run) good =
     first_within by net seen terms listener terms.count k k' errors errors' middle new taken good
-server_within {D = D} by net seen terms output output' errors errors' k k' (Err fault) old new (kept, quiet, rest) good =
+server_within {D = D} by net seen terms output output' errors errors' k k' (Err fault) old new (inl (kept, quiet, rest)) good =
     none_within terms.count (by.keeper k).register (by.keeper k').register (ap (λ (it : D). (by.keeper it).register) kept)
+server_within by net seen terms output output' errors errors' k k' (Err fault) old new (inr (is, listener, middle, stands, went, (n, short, it, run))) good =
+    more_within n terms.count (by.keeper k).register (by.keeper k').register short
+    (first_within by net seen terms listener n k k' errors errors' middle it.middle it.taken good)
 
 -- and so does one that is asked for, whose logins the staff may lack
 pub asked_within : {D M L R W : Type 0} (by : registrar.Ghosts D) (net : loopback.Ghosts M L R W) (seen : Seen R W) (args : ServeArgs) (logins : Option (List LoginRow))
@@ -109,7 +117,44 @@ pub server_cut : {D M L R W : Type 0} (by : registrar.Ghosts D) (net : loopback.
     → ServesKeeper by net seen output output' errors errors terms k k result old new
 server_cut by net seen terms output output' errors k (Ok value) fault text listener old new is of_output stands same cut = absurd is
 server_cut by net seen terms output output' errors k (Err cause) fault text listener old new is of_output stands same cut =
-    (refl, refl, inr (listener, stands, is ∙ of_output, subst (λ (t : List ℕ). IsCut output output' t) same cut))
+    inl (refl, refl, inr (listener, stands, is ∙ of_output, subst (λ (t : List ℕ). IsCut output output' t) same cut))
+
+-- a server that listened and said so, whatever its connections came to
+pub server_ended : {D M L R W : Type 0} (by : registrar.Ghosts D) (net : loopback.Ghosts M L R W) (seen : Seen R W) (terms : Terms) (output output' errors errors' : Stream)
+    (k k' : D) (result : Done) (listener : L) (old middle new : M) → StandsOn net.stands old terms.port listener middle → WentOut output output' (serving_line terms.port)
+    → OnOk result (TakesFirst by net seen terms listener terms.count k k' errors errors' middle new)
+    → OnOk result (IsGood (by.keeper k).register → ConnectionsHaveRun by net seen terms listener terms.count k k' errors errors' middle new)
+    → OnErr result (EndsEarly by net seen terms listener k k' errors errors' middle new) → IfErr result (λ fault. fault ≡ Accept)
+    → ServesKeeper by net seen output output' errors errors' terms k k' result old new
+server_ended by net seen terms output output' errors errors' k k' (Ok value) listener old middle new stands went taken run ended fault =
+    (listener, middle, stands, went, taken, run)
+server_ended by net seen terms output output' errors errors' k k' (Err cause) listener old middle new stands went taken run ended fault =
+    inr (fault, listener, middle, stands, went, ended)
+
+-- a connection that could not be taken
+pub missed_next : {D M L R W : Type 0} (by : registrar.Ghosts D) (net : loopback.Ghosts M L R W) (seen : Seen R W) (terms : Terms) (listener : L)
+    (number : ℕ) (k : D) (errors errors' : Stream) (old new : M) (kind : ErrorKind) (result : Done)
+    → net.misses old listener (tries_of terms.service.desk) kind new
+    → OnOk result (ReportsConnection number (Err (accept_fault kind)) errors errors') → OnOk result (terms.service.desk ≡ false)
+    → OnOk result (TakesNext by net seen terms listener number k k errors errors' old new)
+missed_next by net seen terms listener number k errors errors' old new kind (Ok value) missed reported plain = inr (kind, missed, refl, reported, plain)
+missed_next by net seen terms listener number k errors errors' old new kind (Err fault) missed reported plain = tt
+
+pub missed_last : {D E M L : Type 0} (misses : M → L → ℕ → ErrorKind → M → Type 0) (is_desk : Bool) (listener : L) (k : D) (e e' : E) (old new : M)
+    (kind : ErrorKind) (result : Done) → misses old listener (tries_of is_desk) kind new → OnErr result ((is_desk ≡ true) × (e' ≡ e))
+    → OnErr result (MissesLast misses is_desk listener k k e e' old new)
+missed_last misses is_desk listener k e e' old new kind (Ok value) missed ended = tt
+missed_last misses is_desk listener k e e' old new kind (Err fault) missed (desk, quiet) = (kind, missed, desk, refl, quiet)
+
+-- any other fault comes before the first connection
+pub accept_only : (result : Done) (Same : Type 0) → IfErr result (λ fault. fault ≡ Accept) → IfErr result (λ fault. fault ≢ Accept → Same)
+accept_only (Ok value) Same is = tt
+accept_only (Err fault) Same is = λ other. absurd (other is)
+
+-- what holds of a fault that is passed on
+pub OnErr-any : {T P : Type 0} (result : Result T Fault) → P → OnErr result P
+OnErr-any (Ok value) is = tt
+OnErr-any (Err fault) is = is
 
 -- a connection that failed is reported
 pub failed_reported : (number : ℕ) (served : Result Served HttpFault) (fault : HttpFault) (errors errors' : Stream) → served ≡ Err fault

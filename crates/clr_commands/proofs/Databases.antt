@@ -1,5 +1,5 @@
 -- What is printed of registers that databases have, and why nothing is.
-use Rattle.std.proofs.Common.{◌≡◌, ap, inl, inr, subst, sym, ℕ, List, Result, Ok, Err}
+use Rattle.std.proofs.Common.{◌≡◌, ◌⊎◌, ap, inl, inr, subst, sym, ℕ, List, Result, Ok, Err}
 use Rattle.std.specs.Prelude.{IfErr, IfOk, IsErrAnd, String, string_bytes}
 use Rattle.std.specs.declared.alloc.Global.{Global}
 use Rattle.sqlite.specs.Held.{Held, state}
@@ -46,6 +46,13 @@ printed_of : {S : Type 0} (g : Ghosts S) (Is : Register → Result (List ℕ) Fa
 printed_of g Is (Ok text) before after Q fit reads gives = (Q, fit, crews_are_safe Q (IsGood.said fit.0), reads, gives)
 printed_of g Is (Err fault) before after Q fit reads gives = tt
 
+-- and so is a fault
+faulted_of : {S : Type 0} (g : Ghosts S) (Is : Register → Result (List ℕ) Fault → Type 0) (result : Result (String Global) Fault) (before after : Held S) (Q : Register)
+    → IsFit Q → ReadsAs g before after Q → Prints IsMemory (Is Q) result
+    → IfErr result (λ fault. (fault ≡ Memory → ⊥) → IsRefused g before fault after ⊎ ((R : Register) × IsFit R × ReadsAs g before after R × Is R (Err fault)))
+faulted_of g Is (Ok text) before after Q fit reads gives = tt
+faulted_of g Is (Err fault) before after Q fit reads gives = λ other. inr (Q, fit, reads, gives other)
+
 -- what is answered of the register Q that was read from a database
 pub AnswersOf-read : {S : Type 0} (g : Ghosts S) (IsOwn : Fault → Type 0) (Is : Register → Result (List ℕ) Fault → Type 0) (result : Result (String Global) Fault)
     (before after : Held S) (Q : Register) → ((R : Register) → HasRegister g R before → HasCleanDisk (state g after) → Q ≡ R)
@@ -56,6 +63,7 @@ AnswersOf-read g IsOwn Is result before after Q is_register fit reads read gives
   printed = printed_of g Is result before after Q fit reads gives;
   read = OnOk-any result (IsOnlyRead g before after) read;
   refused = unanswered g IsOwn before after Q result own reads read;
+  faulted = faulted_of g Is result before after Q fit reads gives;
 }
 
 -- nothing is answered of one whose tables were refused
@@ -67,6 +75,7 @@ AnswersOf-refused g IsOwn Is fault before after line refused survives = record {
   printed = tt;
   read = tt;
   refused = record { cause = inr refused; survives = survives };
+  faulted = λ other. inl refused;
 }
 
 -- the same of an answer that is computed

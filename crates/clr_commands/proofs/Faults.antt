@@ -17,7 +17,7 @@ use Rattle.clr_edge.specs.Database.{IsOfLine, IsOfStore}
 use Rattle.clr_edge.specs.Fault.{IsOfFile, of_desk, of_file, of_name, of_network, of_staff, of_store}
 use Rattle.clr_edge.specs.Journals.{IsOfTakingUp}
 use Rattle.clr_edge.specs.declared.fault.Fault.{Fault}
-use Rattle.clr_edge.specs.declared.fault.Fault.TheVariants.{Listen, Memory, Output}
+use Rattle.clr_edge.specs.declared.fault.Fault.TheVariants.{Accept, Listen, Memory, Output, SameFile}
 use Rattle.clr_edge.specs.declared.fault.ImportFile.{ImportFile}
 use Rattle.clr_commands.specs.Faults.{IsOfSubcommand}
 use Rattle.clr_rules.specs.Register.{Register}
@@ -29,15 +29,22 @@ use Rattle.clr_commands.specs.declared.replies.Printed.{Printed}
 use Rattle.clr_commands.specs.Stored.{IsOfOrder}
 use Rattle.clr_commands.specs.Verify.{IsOfVerify}
 use Rattle.clr_commands.specs.WayBack.{IsOfWayBack}
-use Rattle.clr_history.specs.Files.{IsOfFile as IsOfJournalFile}
+use Rattle.clr_commands.specs.Files.{IsOfFile as IsOfJournalFile}
 
 abbrev is_plain : Fault → Bool
 is_plain Output = false
 is_plain Listen = false
+is_plain Accept = false
+is_plain (SameFile file) = false
 is_plain fault = true
 
 plain : (fault : Fault) → is_plain fault ≡ true → IsOfSubcommand fault
-plain fault is = (λ e. cc (sym is ∙ ap is_plain e), λ e. cc (sym is ∙ ap is_plain e))
+plain fault is = (
+  λ e. cc (sym is ∙ ap is_plain e),
+  λ e. cc (sym is ∙ ap is_plain e),
+  λ e. cc (sym is ∙ ap is_plain e),
+  λ file e. cc (sym is ∙ ap is_plain e),
+)
 
 plain_as : (fault found : Fault) → fault ≡ found → is_plain found ≡ true → IsOfSubcommand fault
 plain_as fault found e is = plain fault (ap is_plain e ∙ is)
@@ -70,6 +77,7 @@ of_store_plain store.Sql = plain _ refl
 of_store_plain (store.WrongVersion n) = plain _ refl
 of_store_plain (store.BadRow table) = plain _ refl
 of_store_plain store.NoMemory = plain _ refl
+of_store_plain store.OtherTables = plain _ refl
 
 pub of_desk_plain : (cause : DeskFault) → IsOfSubcommand (of_desk cause)
 of_desk_plain desk.NoMemory = plain _ refl

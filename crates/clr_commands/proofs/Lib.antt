@@ -16,3 +16,4 @@ pub mod Serving
 pub mod Verifies
 pub mod WaysBack
 pub mod Written
+pub mod NoWord

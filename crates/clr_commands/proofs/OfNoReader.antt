@@ -120,6 +120,8 @@ no_reader-from_rows found.NoSuch sections points work cut told = refl
 no_reader-from_rows found.NoWay sections points work cut told = refl
 no_reader-from_rows found.Output sections points work cut told = refl
 no_reader-from_rows found.Listen sections points work cut told = refl
+no_reader-from_rows found.Accept sections points work cut told = refl
+no_reader-from_rows (found.SameFile file) sections points work cut told = refl
 
 fault_in : {T : Type 0} → Fault → Result T Fault → Fault
 fault_in other (Ok value) = other

@@ -3,6 +3,7 @@ use Rattle.std.proofs.Common.{◌≡◌, ◌∙◌, ◌⊎◌, ap, inl, inr, ref
 use Rattle.std.specs.Prelude.{Some, None, IfErr, IfSome, IsErrAnd, IsErrOf, OnErr, option_map}
 use Rattle.clr_stream.specs.Failures.{Rose}
 use Rattle.clr_rules.specs.Good.{IsGood}
+use Rattle.clr_rules.specs.Staffed.{IsStaffed}
 use Rattle.clr_rules.specs.Register.{Register}
 use Rattle.clr_desk.specs.Faults.{FailsAsStore}
 use Rattle.clr_desk.specs.Taking.{PassesOver, Taking}
@@ -65,6 +66,7 @@ of_store-no_input store.Sql fault is e = cc (sym is ∙ e)
 of_store-no_input (store.WrongVersion n) fault is e = cc (sym is ∙ e)
 of_store-no_input (store.BadRow table) fault is e = cc (sym is ∙ e)
 of_store-no_input store.NoMemory fault is e = cc (sym is ∙ e)
+of_store-no_input store.OtherTables fault is e = cc (sym is ∙ e)
 
 -- nor is one of a register that is not taken up with its journal
 desk-no_input : (cause : DeskFault) (fault : Fault) → fault ≡ of_desk cause → fault ≡ Input ReadFailed → ⊥
@@ -104,15 +106,16 @@ ReadsInput-closed input n n' before after printed closed result is reads =
 
 -- what a run over a desk leaves in the database that the desk was opened over
 pub RunsFrom-run : {T : Type 0} (g : Ghosts T) (before after : Held T) (opened last : Desk (Held T)) (input : Option (List ℕ))
-    (result : Result Printed Fault) → IsOnlyRead g before opened.store → IsGood opened.book.register
+    (result : Result Printed Fault) → IsOnlyRead g before opened.store → IsGood opened.book.register → IsStaffed opened.book.register
     → ((K : Register) → HasRegister g K before → HasCleanDisk (state g opened.store) → opened.book.register ≡ K)
     → ReadsAs g before opened.store opened.book.register → after ≡ last.store → RunsOnDesk FailsAsStore (state g) PassesOver opened last input result
     → OnErr result (last ≡ opened) → RunsFrom g input result before after
-RunsFrom-run {T} g before after opened last input (Ok printed) read good is_register reads same (bytes, is_input, answers, put) none = record {
+RunsFrom-run {T} g before after opened last input (Ok printed) read good staffed is_register reads same (bytes, is_input, answers, put) none = record {
   opened = opened.store;
   read = read;
   register = opened.book.register;
   good = good;
+  staffed = staffed;
   is_register = is_register;
   reads = reads;
   left = last.book.register;
@@ -121,7 +124,7 @@ RunsFrom-run {T} g before after opened last input (Ok printed) read good is_regi
   answers = subst (λ (h : Held T). AnswersOver FailsAsStore (state g opened.store) (state g h) opened.book.register last.book.register bytes printed) (sym same)
       answers;
 }
-RunsFrom-run {T} g before after opened last input (Err fault) read good is_register reads same of none =
+RunsFrom-run {T} g before after opened last input (Err fault) read good staffed is_register reads same of none =
     let left = sym (same ∙ ap (λ (d : Desk (Held T)). d.store) none) in
     let still = subst (λ (h : Held T). IsOnlyRead g before h) left read in
     let reads_still = subst (λ (h : Held T). ReadsAs g before h opened.book.register) left reads in record {
@@ -134,7 +137,7 @@ pub RunsLoggedFrom-run : {M J C T : Type 0} (logs : Logs M J C) (journal : List 
     (log : J) (opened last : Desk (Journaled (Held T) J C)) (input : Option (List ℕ)) (result : Result Printed Fault) → IsGood opened.book.register
     → IsTakenUp g logs.steps journal old between before opened.store opened.book.register → after ≡ last.store.keeper
     → log ≡ last.store.journal → logs.steps.lets_journal_go between log new
-    → GoThrough logs.log opened.book.register opened.store last.book.register last.store
+    → GoThrough logs.log logs.shows opened.book.register opened.store last.book.register last.store
     → RunsOnDesk (FailsToo FailsAsStore) (λ (it : Journaled (Held T) J C). state g it.keeper) (ThroughJournal logs) opened last input result
     → OnErr result (last ≡ opened) → RunsLoggedFrom logs journal g input result old before after new
 RunsLoggedFrom-run {M} {J} {C} {T} logs journal g old between new before after log opened last input (Ok printed) good taken same kept gone went
@@ -177,6 +180,7 @@ ended_memory (Some (desk.Store store.Sql)) cause = absurd cause
 ended_memory (Some (desk.Store (store.WrongVersion n))) cause = absurd cause
 ended_memory (Some (desk.Store (store.BadRow table))) cause = absurd cause
 ended_memory (Some (desk.Store store.NoMemory)) cause = absurd cause
+ended_memory (Some (desk.Store store.OtherTables)) cause = absurd cause
 ended_memory (Some desk.Journal) cause = absurd cause
 ended_memory (Some desk.NoMemory) cause = refl
 

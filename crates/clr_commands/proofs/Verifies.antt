@@ -7,17 +7,17 @@ use Rattle.clr_edge.specs.declared.fault.Fault.TheVariants.{Journal, Memory, Ver
 use Rattle.clr_edge.specs.declared.fault.JournalFault.TheVariants as edge
 use Rattle.clr_edge.specs.declared.fault.VerifyFault.TheVariants.{Reply}
 use Rattle.clr_edge.specs.declared.fault.JournalFault.TheVariants.{OpenFailed, ReadFailed, TooLong}
-use Rattle.clr_history.specs.Files.{GivesBytes, lines_of, lines_or_fault}
+use Rattle.clr_commands.specs.Files.{GivesBytes, lines_of, lines_or_fault}
 use Rattle.clr_journal.specs.Journals.{read_journal}
 use Rattle.clr_journal.specs.Line.{Entry}
 use Rattle.clr_journal.specs.declared.fault.JournalFault.{JournalFault}
 use Rattle.clr_journal.specs.declared.fault.JournalFault.TheVariants.{BadLine, NoMemory}
-use Rattle.clr_replay.proofs.Flat.{exact}
+use Rattle.clr_verify.proofs.Flat.{exact}
 use Rattle.clr_rules.specs.Register.{Register}
 use Rattle.clr_tables.specs.Tables.{tables_of}
-use Rattle.clr_rerun.specs.Rerun.{Reruns}
-use Rattle.clr_rerun.specs.declared.rerun.Rerun.{Rerun}
-use Rattle.clr_rerun.specs.declared.rerun.RerunFault.TheVariants as rerun
+use Rattle.clr_verify.specs.Rerun.{Reruns}
+use Rattle.clr_verify.specs.declared.rerun.Rerun.{Rerun}
+use Rattle.clr_verify.specs.declared.rerun.RerunFault.TheVariants as rerun
 use Rattle.clr_commands.specs.Answers.{Answers}
 use Rattle.clr_commands.specs.Import.{FileRows}
 use Rattle.clr_commands.specs.Paths.{AtPaths}
@@ -67,6 +67,10 @@ lines_come : (file : Option (List ℕ)) (read : Vec ℕ Global) (found : Result 
 lines_come None read found gives is = tt
 lines_come (Some bytes) read found gives is = lines_are bytes gives.1 ∙ ap (λ items. lines_or_fault (read_journal items)) (sym gives.0) ∙ ap lines_or_fault is
 
+bytes_are : (file : Option (List ℕ)) (read : Vec ℕ Global) → IfSome file (λ bytes. GivesBytes bytes (Ok read)) → IfSome file (λ known. read.items ≡ known)
+bytes_are None read gives = tt
+bytes_are (Some bytes) read gives = gives.0
+
 -- the lines are run again
 pub of_run : (at : AtPaths) (path : List ℕ) (rows : FileRows) (read : Vec ℕ Global) (began : Register) (run : Rerun) → rows_fault rows ≡ Ok tt → IsOpeningOf rows began
     → IfSome (at.bytes path) (λ bytes. GivesBytes bytes (Ok read)) → Reruns began (read_journal read.items) (Ok run)
@@ -76,6 +80,9 @@ of_run at path rows read began run fits is_opening gives ran = record {
   began = began;
   is_opening = is_opening;
   entries = ran.0;
+  bytes = read.items;
+  is_file = bytes_are (at.bytes path) read gives;
+  read = ran.1;
   has_lines = lines_come (at.bytes path) read (Ok ran.0) gives ran.1;
   runs = ran.2;
 }
@@ -101,28 +108,21 @@ of_reply at path rows read began number fits is_opening gives differs = λ other
   },
 ))
 
-lines_read : (bytes : List ℕ) (entries : List Entry) → lines_of bytes ≡ Ok entries → read_journal bytes ≡ Ok entries
-lines_read bytes entries is = by (nat_lt 1073741824 (length bytes)) (read_journal bytes) is
-  where
-    by : (b : Bool) (read : Result (List Entry) JournalFault) → (if b then Err (Journal TooLong) else lines_or_fault read) ≡ Ok entries → read ≡ Ok entries
-    by true read e = cc e
-    by false (Ok lines) e = let same : lines ≡ entries = cc e in ap Ok same
-    by false (Err (BadLine place)) e = cc e
-    by false (Err NoMemory) e = cc e
-
 -- what a yes says
-pub yes_is_of_journal : (bytes : List ℕ) (rows : FileRows) (run : Rerun) (R : Register) (text : List ℕ) → RunsAgain (Some bytes) rows run
-    → IsVerified run R (Ok text) → (count : ℕ) × (text ≡ verified_text count) × IsOfJournal bytes rows R count
-yes_is_of_journal bytes rows run R text again verified = (
+pub yes_is_of_journal : (file : Option (List ℕ)) (rows : FileRows) (run : Rerun) (R : Register) (text : List ℕ) → RunsAgain file rows run
+    → IsVerified run R (Ok text) → (bytes : List ℕ) × IfSome file (λ known. bytes ≡ known) × (count : ℕ) × (text ≡ verified_text count) × IsOfJournal bytes rows R count
+yes_is_of_journal file rows run R text again verified = (
+  again.bytes,
+  again.is_file,
   run.count,
   verified.1,
   record {
     began = again.began;
     is_opening = again.is_opening;
     entries = again.entries;
-    lines = again.has_lines;
+    lines = again.read;
     tables = verified.0 ∙ ap tables_of again.runs.register;
-    replied = exact bytes again.entries _ (lines_read bytes again.entries again.has_lines) again.runs.replied;
+    replied = exact again.bytes again.entries _ again.read again.runs.replied;
     count = again.runs.count;
   },
 )

@@ -48,7 +48,7 @@ module _ {D M L R W : Type 0} (by : registrar.Ghosts D) (net : loopback.Ghosts M
   next_reported number k k' errors errors' old new (inl answers) =
       let (served, answered, put, reported) = answers.served in
       (served, reported)
-  next_reported number k k' errors errors' old new (inr (kind, missed, kept, reported)) = (Err (accept_fault kind), reported)
+  next_reported number k k' errors errors' old new (inr (kind, missed, kept, reported, plain)) = (Err (accept_fault kind), reported)
 
   -- what is reported of connections that were taken
   pub first_reported : (n : ℕ) (k k' : D) (errors errors' : Stream) (old new : M)
@@ -107,7 +107,7 @@ Writes port count (Ok value) output output' errors errors' =
 Writes port count (Err fault) output output' errors errors' =
     ((fault ≢ Output) × (output' ≡ output) × (errors' ≡ errors))
     ⊎ (((fault ≡ Output) × IsCut output output' (serving_line port) × (errors' ≡ errors))
-    ⊎ ((fault ≢ Output) × WentOut output output' (serving_line port) × ReportsFirst count errors errors'))
+    ⊎ ((fault ≢ Output) × WentOut output output' (serving_line port) × ((n : ℕ) × ReportsFirst n errors errors')))
 
 -- a file of logins that has a fault
 named_other : (at : AtPaths) (path : Option (Bor (List ℕ))) (fault : Fault) → NamesLogins at path (Err fault) → fault ≢ Output
@@ -125,9 +125,11 @@ module _ {D M L R W : Type 0} (by : registrar.Ghosts D) (net : loopback.Ghosts M
   keeper_written : (terms : Terms) (k k' : D) (fault : Fault) (old new : M)
       → ServesKeeper by net seen output output' errors errors' terms k k' (Err fault) old new
       → Writes terms.port terms.count (Err fault) output output' errors errors'
-  keeper_written terms k k' fault old new (kept, quiet, inl ((address, kind, local, is, refuses), same)) =
+  keeper_written terms k k' fault old new (inl (kept, quiet, inl ((address, kind, local, is, refuses), same))) =
       inl (other_as fault (listen_fault kind) is (listen_other kind), same, quiet)
-  keeper_written terms k k' fault old new (kept, quiet, inr (listener, stands, is_output, cut)) = inr (inl (is_output, cut, quiet))
+  keeper_written terms k k' fault old new (inl (kept, quiet, inr (listener, stands, is_output, cut))) = inr (inl (is_output, cut, quiet))
+  keeper_written terms k k' fault old new (inr (is, listener, middle, stands, went, (n, short, it, run))) =
+      inr (inr (λ e. cc (sym is ∙ e), went, (n, first_reported by net seen terms listener n k k' errors errors' middle it.middle it.taken)))
 
   terms_written : (terms : Terms) (k k' : D) (served closed : Done) (old new : M)
       → ServesKeeper by net seen output output' errors errors' terms k k' served old new
@@ -138,7 +140,7 @@ module _ {D M L R W : Type 0} (by : registrar.Ghosts D) (net : loopback.Ghosts M
       closed_written : (closed : Done) → IfErr closed (λ fault. fault ≢ Output) → ReportsFirst terms.count errors errors'
           → Writes terms.port terms.count closed output output' errors errors'
       closed_written (Ok value) other reported = (went, reported)
-      closed_written (Err fault) other reported = inr (inr (other, went, reported))
+      closed_written (Err fault) other reported = inr (inr (other, went, (terms.count, reported)))
   terms_written terms k k' (Err fault) closed old new serves other = keeper_written terms k k' fault old new serves
 
   -- a server that is asked for, whose logins the staff may lack

@@ -1,11 +1,12 @@
 -- THE HEADLINE OF A PORT: the commands that its connections carry out, one after the other, are a
 -- run, and its replies are their responses.
-use Rattle.std.specs.Prelude.{◌≡◌, ◌⊎◌, ℕ, ◌+◌, Bool, List, [], ◌∷◌, length}
+use Rattle.std.specs.Prelude.{◌≡◌, ◌<◌, ◌⊎◌, ℕ, ◌+◌, Bool, List, [], ◌∷◌, length}
 use Rattle.std.specs.Prelude.{Option, None, Some, Result}
 use Rattle.clr_stream.specs.Streams.{Stream}
 use Rattle.clr_rules.specs.Agreement.{Agree}
 use Rattle.clr_rules.specs.Answer.{Answer, answer}
 use Rattle.clr_rules.specs.CrewSafety.{CrewsWorkSafely}
+use Rattle.clr_rules.specs.Good.{IsGood}
 use Rattle.clr_rules.specs.Id.{Id}
 use Rattle.clr_rules.specs.Isolation.{ShowTheSame}
 use Rattle.clr_rules.specs.Register.{Register}
@@ -24,7 +25,7 @@ use Rattle.clr_http.specs.declared.registrar.Registrar as registrar
 use Rattle.clr_http.specs.declared.serve.HttpFault.{HttpFault}
 use Rattle.clr_http.specs.declared.serve.Served.{Served}
 use Rattle.clr_edge.specs.declared.loopback.Loopback as loopback
-use Rattle.clr_commands.specs.Connections.{Answers, Misses, Seen}
+use Rattle.clr_commands.specs.Connections.{Answers, EndsAfter, Misses, Seen}
 use Rattle.clr_commands.specs.declared.serve.Terms.{Terms}
 
 -- the response to a command has its reply
@@ -87,6 +88,12 @@ module _ {D M L R W : Type 0} (by : registrar.Ghosts D) (net : loopback.Ghosts M
     pub alone : OwnStandAlone (by.keeper d).register (commands_asked carried) told
     pub safe : CrewsWorkSafely (by.keeper d).register (commands_asked carried)
         (by.keeper d').register
+
+  -- A SERVER OF A DESK ENDED before its last connection: those that were taken have run
+  abbrev pub EndsEarly : D → D → Stream → Stream → M → M → Type 0
+  EndsEarly d d' errors errors' old new = (n : ℕ) × (n < terms.count)
+      × (it : EndsAfter by net seen terms listener n d d' errors errors' old new)
+      × (IsGood (by.keeper d).register → ConnectionsHaveRun n d d' errors errors' old it.middle)
 
 -- TWO RUNS THAT SHOW A CLEARANCE THE SAME, of connections of ports or of requests in memory: the
 -- responses to its own requests are the same bytes, and the registers that are left agree again

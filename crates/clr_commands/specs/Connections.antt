@@ -1,12 +1,13 @@
 -- What becomes of the connections of a port: each is answered from the register that the one before
 -- left, and reported if it fails.
-use Rattle.std.specs.Prelude.{◌≡◌, ◌⊎◌, ℕ, zero, suc, ◌+◌, List, [], ◌∷◌, ◌++◌, codes, decimal}
-use Rattle.std.specs.Prelude.{Option, Result, Ok, Err}
+use Rattle.std.specs.Prelude.{◌≡◌, ◌⊎◌, ℕ, zero, suc, ◌+◌, Bool, true, false, List, [], ◌∷◌, ◌++◌}
+use Rattle.std.specs.Prelude.{codes, decimal, Option, Result, Ok, Err}
 use Rattle.std.specs.declared.io.ErrorKind.{ErrorKind}
 use Rattle.std.specs.declared.io.ErrorKind.TheVariants.{OutOfMemory}
 use Rattle.clr_stream.specs.Streams.{Sends, Stream}
 use Rattle.clr_http.specs.Answered.{IsAnsweredAt, Source}
 use Rattle.clr_http.specs.Puts.{PutsAt}
+use Rattle.clr_http.specs.Served.{may_be_unread}
 use Rattle.clr_http.specs.declared.options.Service.{Service}
 use Rattle.clr_http.specs.declared.registrar.Registrar as registrar
 use Rattle.clr_http.specs.declared.serve.HttpFault.{HttpFault}
@@ -27,6 +28,11 @@ abbrev pub accept_fault : ErrorKind → HttpFault
 accept_fault OutOfMemory = NoMemory
 accept_fault _ = ReadFailed
 
+-- how many times in a row a connection is asked for: of a desk's it is not one that did not come
+abbrev pub tries_of : Bool → ℕ
+tries_of true = 8
+tries_of false = 1
+
 -- the line of a connection that failed; connections count from 1
 abbrev pub connection_line : ℕ → HttpFault → List ℕ
 connection_line number fault = (codes "connection " ++ decimal number)
@@ -43,6 +49,12 @@ unfoldable pub ReportsFirst : ℕ → Stream → Stream → Type 0
 ReportsFirst zero errors errors' = errors' ≡ errors
 ReportsFirst (suc n) errors errors' = (middle : Stream) × ReportsFirst n errors middle
     × ((served : Result Served HttpFault) × ReportsConnection (n + 1) served middle errors')
+
+-- a desk's next connection could not be taken, and nothing else was done
+abbrev pub MissesLast : {D E M L : Type 0} → (M → L → ℕ → ErrorKind → M → Type 0) → Bool → L
+    → D → D → E → E → M → M → Type 0
+MissesLast misses is_desk listener d d' e e' old new = (kind : ErrorKind)
+    × misses old listener (tries_of is_desk) kind new × (is_desk ≡ true) × (d' ≡ d) × (e' ≡ e)
 
 -- what is seen of a connection: its reader, and its writer
 pub record Seen (R W : Type 0) : Type 0 where
@@ -76,13 +88,14 @@ module _ {D M L R W : Type 0} (by : registrar.Ghosts D) (net : loopback.Ghosts M
     pub middle : M
     pub came : net.comes old listener terms.deadline connection middle
     pub served : Serves by seen terms.service number d d' connection answered errors errors'
-    pub left : net.hangs_up middle answered new
+    pub left : net.hangs_up middle answered (may_be_unread served.0) new
 
-  -- none could be taken, for a reason that is reported
+  -- none could be taken, for a reason that is reported, and it goes on; but not at a desk
   abbrev pub Misses : ℕ → D → D → Stream → Stream → M → M → Type 0
   Misses number d d' errors errors' old new =
-      (kind : ErrorKind) × net.misses old listener kind new × (d' ≡ d)
+      (kind : ErrorKind) × net.misses old listener (tries_of terms.service.desk) kind new × (d' ≡ d)
       × ReportsConnection number (Err (accept_fault kind)) errors errors'
+      × (terms.service.desk ≡ false)
 
   -- THE NEXT CONNECTION was answered, or none could be taken
   abbrev pub TakesNext : ℕ → D → D → Stream → Stream → M → M → Type 0
@@ -96,3 +109,11 @@ module _ {D M L R W : Type 0} (by : registrar.Ghosts D) (net : loopback.Ghosts M
       (middle : M) × (between : D) × (reported : Stream)
       × TakesFirst n d between errors reported old middle
       × TakesNext (n + 1) between d' reported errors' middle new
+
+  -- A SERVER OF A DESK ENDED after this number of connections: the next could not be taken
+  pub record EndsAfter (n : ℕ) (d d' : D) (errors errors' : Stream) (old new : M) : Type 0 where
+    pub middle : M
+    pub taken : TakesFirst n d d' errors errors' old middle
+    pub kind : ErrorKind
+    pub missed : net.misses middle listener (tries_of terms.service.desk) kind new
+    pub desk : terms.service.desk ≡ true

@@ -28,7 +28,7 @@ over_store g = desk_keeps (state g) PassesOver HearsNothing
 -- a command goes to the database through a journal
 abbrev pub ThroughJournal : {M J C D : Type 0} → Logs M J C → Taking (Journaled (Held D) J C)
 ThroughJournal logs =
-    Journals PassesOver logs.log.text (IsDurable logs.log.text logs.log.may_leave)
+    Journals PassesOver logs.shows logs.log.text (IsDurable logs.log.text logs.log.may_leave)
 
 -- a database with a journal
 abbrev pub with_journal : {M J C D : Type 0} → Ghosts D → Logs M J C

@@ -1,12 +1,14 @@
 pub mod Answers
 pub mod Check
-pub mod Connections
 pub mod ConnectionLaws
+pub mod Connections
 pub mod Desks
 pub mod Faults
 pub mod Fence
+pub mod Files
 pub mod Import
 pub mod Init
+pub mod Journal
 pub mod Lines
 pub mod Logins
 pub mod Migrate

@@ -8,6 +8,7 @@ use Rattle.clr_staff.specs.Staff as staff
 use Rattle.clr_staff.specs.declared.employee.StaffRow.{StaffRow}
 use Rattle.clr_stream.specs.Failures.{Rose}
 use Rattle.clr_rules.specs.Good.{IsGood}
+use Rattle.clr_rules.specs.Staffed.{IsStaffed}
 use Rattle.clr_rules.specs.Register.{Register, opening}
 use Rattle.clr_rules.specs.declared.reply.Reply.{Reply}
 use Rattle.clr_desk.specs.Faults.{FailsAsStore}
@@ -136,6 +137,7 @@ pub record RunsIn {T : Type 0} (g : Ghosts T) (before after : Held T) (input : O
   pub read : IsOnlyRead g before opened
   pub register : Register
   pub good : IsGood register
+  pub staffed : IsStaffed register
   pub is_register : (R : Register) → HasRegister g R before → HasCleanDisk (state g opened)
       → register ≡ R
   pub reads : ReadsAs g before opened register
@@ -182,7 +184,7 @@ module _ {M J C : Type 0} (logs : Logs M J C) (journal : List ℕ) where
     pub taken_up : IsTakenUp g logs.steps journal old between before taken register
     pub left : Register
     pub ended : Journaled (Held T) J C
-    pub went : GoThrough logs.log register taken left ended
+    pub went : GoThrough logs.log logs.shows register taken left ended
     pub after_is : after ≡ ended.keeper
     pub gone : logs.steps.lets_journal_go between ended.journal new
     pub bytes : List ℕ

@@ -1,7 +1,7 @@
 -- What `serve` does: it reads the logins that are named, opens a database, listens on a port, answers
 -- the connections that come from the register that the database has, and closes it.
 use Rattle.std.specs.Prelude.{◌≡◌, ◌⊎◌, ℕ, List, [], ◌∷◌, ◌++◌, codes, decimal}
-use Rattle.std.specs.Prelude.{IsErrAnd, None, OnErr, Option, Some, Result, Ok, Err}
+use Rattle.std.specs.Prelude.{◌≢◌, IfErr, IsErrAnd, None, Option, Some, Result, Ok, Err}
 use Rattle.std.specs.Borrow.{Bor}
 use Rattle.sqlite.specs.Files.{over_files}
 use Rattle.sqlite.specs.Held.{Held, state}
@@ -10,6 +10,7 @@ use Rattle.sqlite_disk.specs.declared.Disk as disk
 use Rattle.sqlite_trees.specs.declared.store.Store.{Ghosts}
 use Rattle.clr_stream.specs.Streams.{IsCut, Stream, WentOut}
 use Rattle.clr_rules.specs.Good.{IsGood}
+use Rattle.clr_rules.specs.Staffed.{IsStaffed}
 use Rattle.clr_rules.specs.Register.{Register}
 use Rattle.clr_logins.specs.declared.logins.LoginRow.{LoginRow}
 use Rattle.clr_desk.specs.Kept.{Keeps}
@@ -23,10 +24,10 @@ use Rattle.clr_edge.specs.TakenUp.{GoThrough, IsNotTakenUp, IsTakenUp, Logs}
 use Rattle.clr_edge.specs.Loopback.{RefusesOn, StandsOn}
 use Rattle.clr_edge.specs.Visit.{Comes, Done, Ending, Opening, Shutting, both}
 use Rattle.clr_edge.specs.declared.fault.Fault.{Fault}
-use Rattle.clr_edge.specs.declared.fault.Fault.TheVariants.{Output}
+use Rattle.clr_edge.specs.declared.fault.Fault.TheVariants.{Accept, Output}
 use Rattle.clr_edge.specs.declared.loopback.Loopback as loopback
 use Rattle.clr_commands.specs.Connections.{Seen, TakesFirst}
-use Rattle.clr_commands.specs.ConnectionLaws.{ConnectionsHaveRun}
+use Rattle.clr_commands.specs.ConnectionLaws.{ConnectionsHaveRun, EndsEarly}
 use Rattle.clr_commands.specs.Desks.{over_store, with_journal}
 use Rattle.clr_commands.specs.Logins.{NamesLogins, terms_of}
 use Rattle.clr_commands.specs.Paths.{AtPaths}
@@ -49,7 +50,7 @@ module _ {D M L R W : Type 0} (by : registrar.Ghosts D) (net : loopback.Ghosts M
     (seen : Seen R W) (output output' errors errors' : Stream) where
   -- A SERVER ON TERMS over one who keeps a register: it listened on the port, said so, and took that
   -- number of connections, which from a good register are a run; or it did not begin, and then the
-  -- register is as it was, and all that is kept beside it
+  -- register is as it was, and all that is kept beside it; or that of a desk ended before the last
   abbrev pub ServesKeeper : Terms → D → D → Done → M → M → Type 0
   ServesKeeper terms d d' (Ok value) old new =
       (listener : L) × (middle : M) × StandsOn net.stands old terms.port listener middle
@@ -58,10 +59,14 @@ module _ {D M L R W : Type 0} (by : registrar.Ghosts D) (net : loopback.Ghosts M
       × (IsGood (by.keeper d).register
       → ConnectionsHaveRun by net seen terms listener terms.count d d' errors errors' middle new)
   ServesKeeper terms d d' (Err fault) old new =
-      (d' ≡ d) × (errors' ≡ errors)
+      ((d' ≡ d) × (errors' ≡ errors)
       × ((RefusesOn net.refuses old terms.port fault new × (output' ≡ output))
       ⊎ ((listener : L) × StandsOn net.stands old terms.port listener new × (fault ≡ Output)
-      × IsCut output output' (serving_line terms.port)))
+      × IsCut output output' (serving_line terms.port))))
+      ⊎ ((fault ≡ Accept) × (listener : L) × (middle : M)
+      × StandsOn net.stands old terms.port listener middle
+      × WentOut output output' (serving_line terms.port)
+      × EndsEarly by net seen terms listener d d' errors errors' middle new)
 
   -- the same, unless there are no such terms: the staff lacks an employee whom a login names
   abbrev pub ServesOn : Result Terms Fault → D → D → Done → M → M → Type 0
@@ -77,8 +82,10 @@ module _ {M L R W : Type 0} (net : loopback.Ghosts M L R W) (seen : Seen R W) (a
   pub record ServesOpened {D : Type 0} (g : Ghosts D) (served : Done) (old new : M)
       (before after : Held D) : Type 0 where
     pub opened : Desk (Held D)
+    pub uncounted : opened.faults ≡ 0
     pub read : IsOnlyRead g before opened.store
     pub good : IsGood opened.book.register
+    pub staffed : IsStaffed opened.book.register
     pub is_register : (R : Register) → HasRegister g R before
         → HasCleanDisk (state g opened.store) → opened.book.register ≡ R
     pub reads : ReadsAs g before opened.store opened.book.register
@@ -89,7 +96,7 @@ module _ {M L R W : Type 0} (net : loopback.Ghosts M L R W) (seen : Seen R W) (a
     pub after_is : after ≡ left.store
     pub keeps : Keeps (state g opened.store) opened.book.register (state g after)
         left.book.register
-    pub unserved : OnErr served (after ≡ opened.store)
+    pub unserved : IfErr served (λ fault. fault ≢ Accept → after ≡ opened.store)
 
   -- the same, unless its tables were refused, and then nothing more was done; those of a register
   -- that is known are refused by the database alone, or since memory ran out
@@ -132,12 +139,13 @@ module _ {M L R W J C : Type 0} (logs : Logs M J C) (net : loopback.Ghosts M L R
       pub serves : ServesOn (with_journal g logs) net seen output output' errors errors'
           (terms_of args taken.book.register.staff logins) taken left served between later
       pub goes_on : ComesWithin args.count taken.book.register left.book.register
-      pub went : GoThrough logs.log taken.book.register taken.store left.book.register left.store
+      pub went : GoThrough logs.log logs.shows taken.book.register taken.store left.book.register
+          left.store
       pub after_is : after ≡ left.store.keeper
       pub gone : logs.steps.lets_journal_go later left.store.journal new
       pub keeps : Keeps (state g taken.store.keeper) taken.book.register (state g after)
           left.book.register
-      pub unserved : OnErr served (left.store ≡ taken.store)
+      pub unserved : IfErr served (λ fault. fault ≢ Accept → left.store ≡ taken.store)
 
     -- the same, unless it was not taken up, and then nothing more was done
     abbrev pub ServesLogged : {D : Type 0} → Ghosts D → List ℕ → Done → M → M → Held D → Held D

@@ -1,5 +1,5 @@
 -- What `board` and `order` print of registers that databases have, and why nothing is printed.
-use Rattle.std.specs.Prelude.{◌≡◌, ◌⊎◌, ℕ, IfErr, IfOk, List, Ok, OnOk, Result, String}
+use Rattle.std.specs.Prelude.{◌≡◌, ◌≢◌, ◌⊎◌, ℕ, Err, IfErr, IfOk, List, Ok, OnOk, Result, String}
 use Rattle.std.specs.Prelude.{string_bytes}
 use Rattle.std.specs.declared.alloc.Global.{Global}
 use Rattle.sqlite.specs.Files.{over_files}
@@ -36,7 +36,8 @@ pub record IsUnanswered {S : Type 0} (g : Ghosts S) (before after : Held S)
 -- WHAT IS ANSWERED OF A DATABASE while it is open: of the register that it is known to have, unless
 -- the database refuses or memory runs out. What is printed is of a good and staffed register that
 -- its tables read as, on a clean disk, and in which crews are safe: of tables that read as none
--- nothing is printed there. It was only read
+-- nothing is printed there. A fault is the answer of such a register too, unless its tables were
+-- refused. It was only read
 pub record AnswersOf {S : Type 0} (g : Ghosts S) (IsOwn : Fault → Type 0)
     (Is : Register → Result (List ℕ) Fault → Type 0) (result : Result (String Global) Fault)
     (before after : Held S) : Type 0 where
@@ -46,6 +47,8 @@ pub record AnswersOf {S : Type 0} (g : Ghosts S) (IsOwn : Fault → Type 0)
       × ReadsAs g before after R × Is R (Ok (string_bytes text)))
   pub read : OnOk result (IsOnlyRead g before after)
   pub refused : IfErr result (IsUnanswered g before after IsOwn)
+  pub faulted : IfErr result (λ fault. fault ≢ Memory → IsRefused g before fault after
+      ⊎ ((R : Register) × IsFit R × ReadsAs g before after R × Is R (Err fault)))
 
 -- the same of an answer that is computed
 abbrev pub PrintsOf : {S : Type 0} → Ghosts S → (Fault → Type 0)

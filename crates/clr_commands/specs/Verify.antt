@@ -15,13 +15,13 @@ use Rattle.clr_edge.specs.declared.fault.Fault.{Fault}
 use Rattle.clr_edge.specs.declared.fault.Fault.TheVariants.{Journal, Memory, Verify}
 use Rattle.clr_edge.specs.declared.fault.JournalFault.TheVariants.{OpenFailed, ReadFailed}
 use Rattle.clr_edge.specs.declared.fault.VerifyFault.TheVariants.{Differs, Reply}
-use Rattle.clr_history.specs.Files.{lines_of}
-use Rattle.clr_journal.specs.Journals.{commands_of}
+use Rattle.clr_commands.specs.Files.{lines_of}
+use Rattle.clr_journal.specs.Journals.{commands_of, read_journal}
 use Rattle.clr_journal.specs.Line.{Entry}
-use Rattle.clr_replay.specs.Replay.{answered_in}
-use Rattle.clr_rerun.specs.Rerun.{FailsToRerun, IsRerun}
-use Rattle.clr_rerun.specs.declared.rerun.Rerun.{Rerun}
-use Rattle.clr_rerun.specs.declared.rerun.RerunFault.TheVariants as rerun
+use Rattle.clr_verify.specs.Replay.{answered_in}
+use Rattle.clr_verify.specs.Rerun.{FailsToRerun, IsRerun}
+use Rattle.clr_verify.specs.declared.rerun.Rerun.{Rerun}
+use Rattle.clr_verify.specs.declared.rerun.RerunFault.TheVariants as rerun
 use Rattle.clr_text.specs.Replies.{reply_data}
 use Rattle.clr_verify.specs.Registers.{IsFirstDifference}
 use Rattle.clr_verify.specs.declared.registers.Difference.{Difference}
@@ -43,6 +43,9 @@ pub record RunsAgain (file : Option (List ℕ)) (rows : FileRows) (run : Rerun) 
   pub began : Register
   pub is_opening : IsOpeningOf rows began
   pub entries : List Entry
+  pub bytes : List ℕ
+  pub is_file : IfSome file (λ known. bytes ≡ known)
+  pub read : read_journal bytes ≡ Ok entries
   pub has_lines : HasLines file entries
   pub runs : IsRerun began entries run
 
@@ -116,7 +119,7 @@ pub record IsOfJournal (bytes : List ℕ) (rows : FileRows) (R : Register) (n : 
   pub began : Register
   pub is_opening : IsOpeningOf rows began
   pub entries : List Entry
-  pub lines : lines_of bytes ≡ Ok entries
+  pub lines : read_journal bytes ≡ Ok entries
   pub tables : tables_of R ≡ tables_of (after_all began (commands_of entries))
   pub replied : map (λ line. line.reply) (answered_in entries)
       ≡ map reply_data (replies began (commands_of entries))
@@ -124,6 +127,7 @@ pub record IsOfJournal (bytes : List ℕ) (rows : FileRows) (R : Register) (n : 
 
 -- A YES SAYS SO, and of how many commands
 abbrev pub YesIsOfJournal : Type 0
-YesIsOfJournal = (bytes : List ℕ) (rows : FileRows) (run : Rerun) (R : Register) (text : List ℕ)
-    → RunsAgain (Some bytes) rows run → IsVerified run R (Ok text)
-    → (count : ℕ) × (text ≡ verified_text count) × IsOfJournal bytes rows R count
+YesIsOfJournal = (file : Option (List ℕ)) (rows : FileRows) (run : Rerun) (R : Register)
+    (text : List ℕ) → RunsAgain file rows run → IsVerified run R (Ok text)
+    → (bytes : List ℕ) × IfSome file (λ known. bytes ≡ known)
+    × (count : ℕ) × (text ≡ verified_text count) × IsOfJournal bytes rows R count

@@ -4,8 +4,10 @@
 pub mod board;
 pub mod check;
 pub mod fence;
+pub mod file;
 pub mod import;
 pub mod init;
+pub mod journal;
 pub mod laws;
 pub mod migrate;
 pub mod order;

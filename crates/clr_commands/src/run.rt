@@ -43,7 +43,7 @@ pub fn run<'a, R: Databases + Journals, O: Opens<'a>, I: CountedRead>(
 ) -> Result<Printed, Fault>
     ensures visit { RunsAsked
         (at_paths O.File.remaining O.File.failure_count (O.bytes_at paths.now))
-        (RunsKept (logs R.Journals R.Log.Journal) R.Medium.Disk R.opens R.shuts R.ends
+        (RunsKept (logs R.Journals R.Log.Journal R.Time.shows) R.Medium.Disk R.opens R.shuts R.ends
         (I.remaining input.old)) args.now (I.remaining input.old) result rt.old rt.new }
     ensures input { ReadsInput (I.remaining input.old) (I.failure_count input.old)
         (I.failure_count input.new) input.old input.new result }
@@ -63,7 +63,8 @@ fn run_stored<R: Databases + Journals, I: CountedRead>(
     args: &StoredArgs<'_>,
     input: &mut I,
 ) -> Result<Printed, Fault>
-    ensures visit { RunsKept (logs R.Journals R.Log.Journal) R.Medium.Disk R.opens R.shuts R.ends
+    ensures visit { RunsKept (logs R.Journals R.Log.Journal R.Time.shows)
+        R.Medium.Disk R.opens R.shuts R.ends
         (I.remaining input.old) args.now result rt.old rt.new }
     ensures input { ReadsInput (I.remaining input.old) (I.failure_count input.old)
         (I.failure_count input.new) input.old input.new result }
@@ -86,7 +87,7 @@ pub fn run_with_journal<R: Databases + Journals, I: CountedRead>(
     input: &mut I,
 ) -> Result<Printed, Fault>
     ensures visit { Comes R.Medium.Disk R.opens R.shuts R.ends path.now
-        (RunsLogged (logs R.Journals R.Log.Journal) journal.now over_files
+        (RunsLogged (logs R.Journals R.Log.Journal R.Time.shows) journal.now over_files
         (I.remaining input.old)) result rt.old rt.new }
     ensures input { ReadsInput (I.remaining input.old) (I.failure_count input.old)
         (I.failure_count input.new) input.old input.new result }
@@ -107,7 +108,7 @@ fn run_logged<S: Alter + Drop, L: Journals, I: CountedRead>(
     journal: &str,
     input: &mut I,
 ) -> (Result<Printed, Fault>, Connection<S>)
-    ensures runs { RunsLoggedFrom (logs L.Journals L.Log.Journal) journal.now S.Store
+    ensures runs { RunsLoggedFrom (logs L.Journals L.Log.Journal L.Time.shows) journal.now S.Store
         (I.remaining input.old) result.0 rt.old connection result.1 rt.new }
     ensures input { ReadsInput (I.remaining input.old) (I.failure_count input.old)
         (I.failure_count input.new) input.old input.new result.0 }

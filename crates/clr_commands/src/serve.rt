@@ -1,12 +1,14 @@
 //! The subcommand `serve`: the register of a database, answered over HTTP.
-ghost use Rattle.std.specs.Prelude.{◌≡◌, OnErr};
+ghost use Rattle.std.specs.Prelude.{◌≡◌, ◌≢◌, Err, IfErr, OnErr, OnOk, false, true};
 ghost use Rattle.std.specs.IoError.{error_kind};
 ghost use Rattle.clr_edge.specs.TakenUp.{logs};
 ghost use Rattle.clr_edge.specs.Visit.{both};
 ghost use Rattle.clr_rules.specs.Good.{IsGood};
-ghost use Rattle.clr_commands.specs.Connections.{ReportsConnection, Serves, TakesFirst, TakesNext};
-ghost use Rattle.clr_commands.specs.Connections.{accept_fault, seen};
-ghost use Rattle.clr_commands.specs.ConnectionLaws.{ConnectionsHaveRun};
+ghost use Rattle.clr_http.specs.Served.{may_be_unread};
+ghost use Rattle.clr_commands.specs.Connections.{MissesLast, ReportsConnection, Serves};
+ghost use Rattle.clr_commands.specs.Connections.{TakesFirst, TakesNext};
+ghost use Rattle.clr_commands.specs.Connections.{accept_fault, seen, tries_of};
+ghost use Rattle.clr_commands.specs.ConnectionLaws.{ConnectionsHaveRun, EndsEarly};
 ghost use Rattle.clr_commands.specs.Logins.{AreLoginsAt, NamesLogins, terms_of, terms_with};
 ghost use Rattle.clr_commands.specs.Paths.{at_paths};
 ghost use Rattle.clr_commands.specs.Serve.{ServesAt, ServesKeeper, ServesKept, ServesLogged};
@@ -23,7 +25,7 @@ use clr_edge::loopback::{Connection, Loopback, listen};
 use clr_edge::output::write_out;
 use clr_edge::paths::Opens;
 use clr_edge::taking_up::journaled_desk;
-use clr_http::{HttpFault, Registrar, Served, Service, serve_request};
+use clr_http::{HttpFault, Registrar, Served, Service, may_be_unread, serve_request};
 use clr_logins::Logins;
 use clr_rules::laws::run_headline::headline_holds_of_runs;
 use clr_staff::Staff;
@@ -51,7 +53,8 @@ pub struct Terms {
 /// A file of logins that is named is read first: where it has a fault, no database is opened. The
 /// faults of the database are those of `run`. `UnknownEmployee` where the register has no such
 /// employee, `Listen` where the port cannot be had, `Output` where the line cannot be written. A
-/// connection that fails is reported, and ends nothing.
+/// connection that fails is reported, and ends nothing; but a desk's that cannot be taken, though it
+/// is asked for eight times in a row, ends the server with `Accept`.
 pub fn serve<
     'a,
     R: Databases + Journals + Loopback,
@@ -66,7 +69,7 @@ pub fn serve<
     output: &mut W,
     errors: &mut E,
 ) -> Result<(), Fault>
-    ensures visit { ServesAt (logs R.Journals R.Log.Journal) R.Loopback
+    ensures visit { ServesAt (logs R.Journals R.Log.Journal R.Time.shows) R.Loopback
         (seen R.Reader.remaining R.Reader.failure_count R.Writer.stream)
         (at_paths O.File.remaining O.File.failure_count (O.bytes_at paths.now)) args.now
         (W.stream output.old) (W.stream output.new) (E.stream errors.old) (E.stream errors.new)
@@ -85,7 +88,7 @@ fn serve_kept<R: Databases + Journals + Loopback, W: CountedFlush, E: CountedFlu
     output: &mut W,
     errors: &mut E,
 ) -> Result<(), Fault>
-    ensures visit { ServesKept (logs R.Journals R.Log.Journal) R.Loopback
+    ensures visit { ServesKept (logs R.Journals R.Log.Journal R.Time.shows) R.Loopback
         (seen R.Reader.remaining R.Reader.failure_count R.Writer.stream) args.now logins
         (W.stream output.old) (W.stream output.new) (E.stream errors.old) (E.stream errors.new)
         R.Medium.Disk R.opens R.shuts R.ends args.now.journal args.now.database.now result
@@ -108,7 +111,7 @@ fn serve_with_journal<R: Databases + Journals + Loopback, W: CountedFlush, E: Co
     output: &mut W,
     errors: &mut E,
 ) -> Result<(), Fault>
-    ensures visit { ServesLoggedPath (logs R.Journals R.Log.Journal) R.Loopback
+    ensures visit { ServesLoggedPath (logs R.Journals R.Log.Journal R.Time.shows) R.Loopback
         (seen R.Reader.remaining R.Reader.failure_count R.Writer.stream) args.now logins
         (W.stream output.old) (W.stream output.new) (E.stream errors.old) (E.stream errors.new)
         R.Medium.Disk R.opens R.shuts R.ends journal.now args.now.database.now result
@@ -133,7 +136,7 @@ fn serve_logged<S: Alter + Drop, L: Loopback + Journals, W: CountedFlush, E: Cou
     output: &mut W,
     errors: &mut E,
 ) -> (Result<(), Fault>, sqlite::Connection<S>)
-    ensures served { ServesLogged (logs L.Journals L.Log.Journal) L.Loopback
+    ensures served { ServesLogged (logs L.Journals L.Log.Journal L.Time.shows) L.Loopback
         (seen L.Reader.remaining L.Reader.failure_count L.Writer.stream) args.now logins
         (W.stream output.old) (W.stream output.new) (E.stream errors.old) (E.stream errors.new)
         S.Store journal.now result.0 net.old net.new connection result.1 }
@@ -275,7 +278,7 @@ fn serve_on<D: Registrar, L: Loopback, W: CountedFlush, E: CountedFlush>(
         (seen L.Reader.remaining L.Reader.failure_count L.Writer.stream)
         (W.stream output.old) (W.stream output.new) (E.stream errors.old) (E.stream errors.new)
         terms desk.old desk.new result net.old net.new }
-    ensures unserved { OnErr result (desk.new ≡ desk.old) }
+    ensures unserved { IfErr result (λ fault. fault ≢ Fault.Accept → desk.new ≡ desk.old) }
     ensures led { D.leads_to desk.old desk.new }
 {
     match terms {
@@ -298,18 +301,18 @@ pub fn serve_desk<D: Registrar, L: Loopback, W: CountedFlush, E: CountedFlush>(
         (seen L.Reader.remaining L.Reader.failure_count L.Writer.stream)
         (W.stream output.old) (W.stream output.new) (E.stream errors.old) (E.stream errors.new)
         terms.now desk.old desk.new result net.old net.new }
-    ensures unserved { OnErr result (desk.new ≡ desk.old) }
+    ensures unserved { IfErr result (λ fault. fault ≢ Fault.Accept → desk.new ≡ desk.old) }
     ensures led { D.leads_to desk.old desk.new }
 {
     let listener = listen(net, terms.port)?;
     let line = serving_line(terms.port);
     write_out(line.as_str(), output)?;
-    serve_connections(alloc, net, &listener, desk, terms, errors);
-    Ok(())
+    serve_connections(alloc, net, &listener, desk, terms, errors)
 }
 
 /// Serves as many connections as the terms say, one after the other. One that fails is reported, and
-/// the next is served. The commands that they carry out from a good register are a run.
+/// the next is served. The commands that they carry out from a good register are a run. `Accept`
+/// where a desk's next connection could not be taken.
 pub fn serve_connections<D: Registrar, L: Loopback, E: CountedFlush>(
     alloc: Global,
     net: &mut L,
@@ -317,25 +320,31 @@ pub fn serve_connections<D: Registrar, L: Loopback, E: CountedFlush>(
     desk: &mut D,
     terms: &Terms,
     errors: &mut E,
-)
-    ensures taken { TakesFirst D.Registrar L.Loopback
+) -> Result<(), Fault>
+    ensures taken { OnOk result (TakesFirst D.Registrar L.Loopback
         (seen L.Reader.remaining L.Reader.failure_count L.Writer.stream) terms.now listener.now
         terms.now.count desk.old desk.new (E.stream errors.old) (E.stream errors.new)
-        net.old net.new }
-    ensures run { IsGood (D.keeper desk.old).register → ConnectionsHaveRun D.Registrar L.Loopback
+        net.old net.new) }
+    ensures run { OnOk result (IsGood (D.keeper desk.old).register
+        → ConnectionsHaveRun D.Registrar L.Loopback
         (seen L.Reader.remaining L.Reader.failure_count L.Writer.stream) terms.now listener.now
         terms.now.count desk.old desk.new (E.stream errors.old) (E.stream errors.new)
-        net.old net.new }
+        net.old net.new) }
+    ensures ended { OnErr result (EndsEarly D.Registrar L.Loopback
+        (seen L.Reader.remaining L.Reader.failure_count L.Writer.stream) terms.now listener.now
+        desk.old desk.new (E.stream errors.old) (E.stream errors.new) net.old net.new) }
+    ensures fault { IfErr result (λ fault. fault ≡ Fault.Accept) }
     ensures led { D.leads_to desk.old desk.new }
 {
     headline_holds_of_runs();
     for done in 0..terms.count {
-        serve_next(alloc, net, listener, desk, terms, done + 1, errors);
+        serve_next(alloc, net, listener, desk, terms, done + 1, errors)?;
     }
+    Ok(())
 }
 
 /// Serves the next connection, of this number counted from 1. One that cannot be accepted is
-/// reported as one whose request could not be read, or as out of memory.
+/// reported as one whose request could not be read, or as out of memory; a desk's is `Accept`.
 fn serve_next<D: Registrar, L: Loopback, E: CountedFlush>(
     alloc: Global,
     net: &mut L,
@@ -344,24 +353,60 @@ fn serve_next<D: Registrar, L: Loopback, E: CountedFlush>(
     terms: &Terms,
     number: usize,
     errors: &mut E,
-)
-    ensures taken { TakesNext D.Registrar L.Loopback
+) -> Result<(), Fault>
+    ensures taken { OnOk result (TakesNext D.Registrar L.Loopback
         (seen L.Reader.remaining L.Reader.failure_count L.Writer.stream) terms.now listener.now
-        number desk.old desk.new (E.stream errors.old) (E.stream errors.new) net.old net.new }
+        number desk.old desk.new (E.stream errors.old) (E.stream errors.new) net.old net.new) }
+    ensures missed { OnErr result (MissesLast L.misses terms.now.service.desk listener.now
+        desk.old desk.new errors.old errors.new net.old net.new) }
+    ensures fault { IfErr result (λ fault. fault ≡ Fault.Accept) }
     ensures led { D.leads_to desk.old desk.new }
 {
-    match net.accept(listener, terms.deadline) {
+    let is_desk = terms.service.desk;
+    match net.accept(listener, terms.deadline, tries_of(is_desk)) {
         Ok(connection) => {
             let service = &terms.service;
-            let connection = answered(alloc, service, desk, connection, number, errors);
-            net.hang_up(connection);
+            let (connection, more) = answered(alloc, service, desk, connection, number, errors);
+            net.hang_up(connection, more);
+            Ok(())
         }
-        Err(error) => report_connection(number, Err(accept_fault(&error)), errors),
+        Err(error) => missed(is_desk, number, &error, errors),
     }
 }
 
-/// A connection of this number, once it was answered by a service. If it fails its line goes to
-/// `errors`.
+/// How many times in a row a connection is asked for.
+fn tries_of(is_desk: bool) -> u8
+    ensures { result ≡ tries_of is_desk }
+{
+    match is_desk {
+        true => 8,
+        false => 1,
+    }
+}
+
+/// What comes of a connection that could not be taken: it is reported; a desk's ends the server.
+fn missed<E: CountedFlush>(
+    is_desk: bool,
+    number: usize,
+    error: &io::Error,
+    errors: &mut E,
+) -> Result<(), Fault>
+    ensures reported { OnOk result (ReportsConnection number
+        (Err (accept_fault (error_kind error.now))) (E.stream errors.old) (E.stream errors.new)) }
+    ensures plain { OnOk result (is_desk ≡ false) }
+    ensures ended { OnErr result ((is_desk ≡ true) × (errors.new ≡ errors.old)) }
+    ensures fault { IfErr result (λ fault. fault ≡ Fault.Accept) }
+{
+    if is_desk {
+        return Err(Fault::Accept);
+    }
+    let missed = Err(accept_fault(error));
+    report_connection(number, &missed, errors);
+    Ok(())
+}
+
+/// A connection of this number, once it was answered by a service, and whether more of its request
+/// may come. If it fails its line goes to `errors`.
 fn answered<D: Registrar, R: CountedRead + Drop, W: CountedFlush + Drop, E: CountedFlush>(
     alloc: Global,
     service: &Service,
@@ -369,9 +414,10 @@ fn answered<D: Registrar, R: CountedRead + Drop, W: CountedFlush + Drop, E: Coun
     connection: Connection<R, W>,
     number: usize,
     errors: &mut E,
-) -> Connection<R, W>
-    ensures served { Serves D.Registrar (seen R.remaining R.failure_count W.stream) service.now
-        number desk.old desk.new connection result (E.stream errors.old) (E.stream errors.new) }
+) -> (Connection<R, W>, bool)
+    ensures served { (it : Serves D.Registrar (seen R.remaining R.failure_count W.stream)
+        service.now number desk.old desk.new connection result.0
+        (E.stream errors.old) (E.stream errors.new)) × (result.1 ≡ may_be_unread it.0) }
     ensures led { D.leads_to desk.old desk.new }
 {
     let Connection {
@@ -379,8 +425,8 @@ fn answered<D: Registrar, R: CountedRead + Drop, W: CountedFlush + Drop, E: Coun
         mut writer,
     } = connection;
     let served = serve_request(alloc, service, desk, &mut reader, &mut writer);
-    report_connection(number, served, errors);
-    Connection { reader, writer }
+    report_connection(number, &served, errors);
+    (Connection { reader, writer }, may_be_unread(served))
 }
 
 /// Why a connection was not accepted.
@@ -396,13 +442,13 @@ fn accept_fault(error: &io::Error) -> HttpFault
 /// Reports a connection that failed. What cannot be written is lost.
 fn report_connection<E: CountedFlush>(
     number: usize,
-    served: Result<Served, HttpFault>,
+    served: &Result<Served, HttpFault>,
     errors: &mut E,
 )
-    ensures { ReportsConnection number served (E.stream errors.old) (E.stream errors.new) }
+    ensures { ReportsConnection number served.now (E.stream errors.old) (E.stream errors.new) }
 {
     if let Err(fault) = served {
-        let line = connection_line(number, fault);
+        let line = connection_line(number, *fault);
         let _ = write_out(line.as_str(), errors);
     }
 }

@@ -8,6 +8,7 @@ ghost use Rattle.clr_commands.specs.Verify.{IsOfVerify, IsVerified, RunsJournalA
 ghost use Rattle.clr_commands.specs.Verify.{VerifiesAt};
 ghost use Rattle.clr_edge.specs.Visit.{Comes};
 
+use crate::file::bytes_at;
 use crate::import::rows_at;
 use crate::run::desk_of_rows;
 use clr_args::asked::VerifyArgs;
@@ -15,8 +16,7 @@ use clr_desk::DeskBook;
 use clr_edge::database::{Databases, close, desk_over};
 use clr_edge::fault::{Fault, JournalFault, VerifyFault};
 use clr_edge::paths::Opens;
-use clr_history::file::bytes_at;
-use clr_rerun::{Rerun, RerunFault, compare_with, run_again};
+use clr_verify::{Rerun, RerunFault, compare_with, run_again};
 use sqlite::{Alter, Connection};
 use std::alloc::Global;
 

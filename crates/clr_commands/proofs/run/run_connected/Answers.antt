@@ -9,7 +9,7 @@ pub returns-in-Ok-clause-runs : goal.returns-in-Ok-clause-runs
 returns-in-Ok-clause-runs g c =
     let same : c.end-in-Ok.result ≡ c.run_over-printed.new.desk.store = cc in
     RunsFrom-run g.S.Store c.args.connection c.end-in-Ok.result c.in-Ok.desk c.run_over-printed.new.desk _ c.run_over-printed.result
-    c.in-Ok.ensures.read c.in-Ok.ensures.good c.in-Ok.ensures.register c.in-Ok.ensures.reads same c.run_over-printed.ensures.answer c.run_over-printed.ensures.none
+    c.in-Ok.ensures.read c.in-Ok.ensures.good c.in-Ok.ensures.staffed c.in-Ok.ensures.register c.in-Ok.ensures.reads same c.run_over-printed.ensures.answer c.run_over-printed.ensures.none
 
 pub returns-in-Ok-clause-input : goal.returns-in-Ok-clause-input
 returns-in-Ok-clause-input g c =

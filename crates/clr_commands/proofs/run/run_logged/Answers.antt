@@ -11,14 +11,14 @@ pub returns-in-Ok-clause-runs : goal.returns-in-Ok-clause-runs
 returns-in-Ok-clause-runs g c =
     let same : c.end-in-Ok.result ≡ c.run_over-printed.new.desk.store.keeper = cc in
     let kept : c.end-store.result.1 ≡ c.run_over-printed.new.desk.store.journal = cc in
-    RunsLoggedFrom-run (logs g.L.Journals g.L.Log.Journal) c.args.journal.now g.S.Store c.args.rt.now c.journaled_desk.new.rt c.let_journal_go.new.self
+    RunsLoggedFrom-run (logs g.L.Journals g.L.Log.Journal g.L.Time.Clock.shows) c.args.journal.now g.S.Store c.args.rt.now c.journaled_desk.new.rt c.let_journal_go.new.self
     c.args.connection c.end-in-Ok.result c.end-store.result.1 c.in-Ok.desk c.run_over-printed.new.desk _ c.run_over-printed.result c.in-Ok.ensures.good
     c.in-Ok.ensures.taken_up same kept c.let_journal_go.ensures (c.run_over-printed.ensures.led.given, c.run_over-printed.ensures.led.are_given)
     c.run_over-printed.ensures.answer c.run_over-printed.ensures.none
 
 pub returns-in-Ok-clause-input : goal.returns-in-Ok-clause-input
 returns-in-Ok-clause-input g c =
-    ReadsInput-desk _ (λ (it : Journaled (Held g.row.S.Denot) _ _). state g.S.Store it.keeper) (ThroughJournal (logs g.L.Journals g.L.Log.Journal))
+    ReadsInput-desk _ (λ (it : Journaled (Held g.row.S.Denot) _ _). state g.S.Store it.keeper) (ThroughJournal (logs g.L.Journals g.L.Log.Journal g.L.Time.Clock.shows))
     c.in-Ok.desk c.run_over-printed.new.desk _ _ _ _ _ c.run_over-printed.result c.run_over-printed.ensures.answer c.run_over-printed.ensures.cause
 
 -- it was not taken up

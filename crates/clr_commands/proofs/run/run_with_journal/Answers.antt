@@ -29,7 +29,7 @@ returns-clause-input g c =
 
 pub returns-clause-faults : goal.returns-clause-faults
 returns-clause-faults g c =
-    FailsAsSubcommand-logged (logs g.R.Journals g.R.Log.Journal) c.args.journal.now over_files _ _ _ _ _ c.run_logged-printed.result.0 c.close-closed.result _
+    FailsAsSubcommand-logged (logs g.R.Journals g.R.Log.Journal g.R.Time.Clock.shows) c.args.journal.now over_files _ _ _ _ _ c.run_logged-printed.result.0 c.close-closed.result _
     c.printed_after.ensures c.close-closed.ensures.fault
     c.run_logged-printed.ensures.runs
 

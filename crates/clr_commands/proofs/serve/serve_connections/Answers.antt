@@ -1,5 +1,6 @@
-use Rattle.clr_commands.proofs.ConnectionRuns.{all_have_run}
-use Rattle.clr_commands.proofs.Connections.{first_taken, next_taken}
+use Rattle.std.proofs.Common.{ap}
+use Rattle.clr_commands.proofs.ConnectionRuns.{all_have_run, ended_early}
+use Rattle.clr_commands.proofs.Connections.{OnErr-any, first_taken, next_taken}
 use Rattle.clr_commands.proofs.serve.serve_connections.Goals as goal
 
 pub loop-done-init : goal.loop-done-init
@@ -10,7 +11,7 @@ loop-done-init g c = record {
 
 pub loop-done-preserved : goal.loop-done-preserved
 loop-done-preserved g c = record {
-  taken = next_taken _ _ _ _ _ c.loop-done.done _ _ _ _ _ _ _ _ _ c.loop-done.invariant.taken c.serve_next.ensures.taken;
+  taken = next_taken _ _ _ _ _ c.loop-done.done _ _ _ _ _ _ _ _ _ c.loop-done.invariant.taken c.in_ok-serve_next.ensures.taken;
   led = g.met.D.Registrar.goes_on _ _ _ c.loop-done.invariant.led c.serve_next.ensures.led;
 }
 
@@ -18,3 +19,14 @@ pub returns-clause-run : goal.returns-clause-run
 returns-clause-run g c good =
     all_have_run _ _ _ _ _ c.headline_holds_of_runs.ensures.replies c.headline_holds_of_runs.ensures.nothing c.headline_holds_of_runs.ensures.alone
     _ _ c.loop-done.auto.done-end c.loop-done-test.false _ _ _ _ _ _ c.loop-done.invariant.taken good
+
+-- a desk's next connection could not be taken
+pub returns-in_err-serve_next-clause-ended : goal.returns-in_err-serve_next-clause-ended
+returns-in_err-serve_next-clause-ended g c =
+    let (kind, missed, desk, same, quiet) = c.in_err-serve_next.ensures.missed in
+    OnErr-any c.from_residual.result
+    (ended_early _ _ _ _ _ c.headline_holds_of_runs.ensures.replies c.headline_holds_of_runs.ensures.nothing c.headline_holds_of_runs.ensures.alone
+    c.loop-done.done c.loop-done-test.true _ _ _ _ _ _ _ _ _ c.loop-done.invariant.taken kind missed desk same (ap g.E.CountedWrite.stream quiet))
+
+pub returns-in_err-serve_next-clause-led : goal.returns-in_err-serve_next-clause-led
+returns-in_err-serve_next-clause-led g c = g.met.D.Registrar.goes_on _ _ _ c.loop-done.invariant.led c.serve_next.ensures.led

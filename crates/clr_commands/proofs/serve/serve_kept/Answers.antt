@@ -8,7 +8,7 @@ use Rattle.clr_commands.proofs.serve.serve_kept.Goals as goal
 -- a journal is named
 pub returns-in-Some : goal.returns-in-Some
 returns-in-Some g c = record {
-  visit = subst (λ (journal : Option (Bor (List ℕ))). ServesKept (logs g.R.Journals g.R.Log.Journal) g.R.Loopback
+  visit = subst (λ (journal : Option (Bor (List ℕ))). ServesKept (logs g.R.Journals g.R.Log.Journal g.R.Time.Clock.shows) g.R.Loopback
       (seen g.R.Reader.Read.remaining g.R.Reader.CountedRead.failure_count g.R.Writer.CountedWrite.stream) c.args.args.now c.args.logins
       (g.W.CountedWrite.stream c.args.output.now) (g.W.CountedWrite.stream c.serve_with_journal.new.output)
       (g.E.CountedWrite.stream c.args.errors.now) (g.E.CountedWrite.stream c.serve_with_journal.new.errors)

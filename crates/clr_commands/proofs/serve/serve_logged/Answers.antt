@@ -22,7 +22,7 @@ returns-in-Ok g c =
     let first = c.in-Ok.desk in
     let last = c.serve_on-served.new.desk in
     let terms : c.terms_of-asked.result ≡ terms_of c.args.args.now first.book.register.staff c.args.logins = search rules in
-    let serves = subst (λ (t : Result Terms Fault). ServesOn (with_journal g.S.Store (logs g.L.Journals g.L.Log.Journal)) g.L.Loopback
+    let serves = subst (λ (t : Result Terms Fault). ServesOn (with_journal g.S.Store (logs g.L.Journals g.L.Log.Journal g.L.Time.Clock.shows)) g.L.Loopback
     (seen g.L.Reader.Read.remaining g.L.Reader.CountedRead.failure_count g.L.Writer.CountedWrite.stream)
     (g.W.CountedWrite.stream c.args.output.now) (g.W.CountedWrite.stream c.serve_on-served.new.output)
     (g.E.CountedWrite.stream c.args.errors.now) (g.E.CountedWrite.stream c.serve_on-served.new.errors)
@@ -36,7 +36,7 @@ returns-in-Ok g c =
         taken_up = c.in-Ok.ensures.taken_up;
         left = last;
         serves = serves;
-        goes_on = asked_within (with_journal g.S.Store (logs g.L.Journals g.L.Log.Journal)) g.L.Loopback (seen g.L.Reader.Read.remaining g.L.Reader.CountedRead.failure_count g.L.Writer.CountedWrite.stream)
+        goes_on = asked_within (with_journal g.S.Store (logs g.L.Journals g.L.Log.Journal g.L.Time.Clock.shows)) g.L.Loopback (seen g.L.Reader.Read.remaining g.L.Reader.CountedRead.failure_count g.L.Writer.CountedWrite.stream)
             c.args.args.now c.args.logins (g.W.CountedWrite.stream c.args.output.now) (g.W.CountedWrite.stream c.serve_on-served.new.output)
             (g.E.CountedWrite.stream c.args.errors.now) (g.E.CountedWrite.stream c.serve_on-served.new.errors) first last c.serve_on-served.result
             c.journaled_desk.new.rt c.serve_on-served.new.net serves c.in-Ok.ensures.good;

@@ -27,8 +27,10 @@ returns-in-Ok g c =
     record {
       served = inr (record {
         opened = first;
+        uncounted = c.in-Ok.ensures.faults;
         read = c.in-Ok.ensures.read;
         good = c.in-Ok.ensures.good;
+        staffed = c.in-Ok.ensures.staffed;
         is_register = c.in-Ok.ensures.register;
         reads = c.in-Ok.ensures.reads;
         left = last;

@@ -2,9 +2,9 @@ use Rattle.clr_rules.proofs.keeps.EveryKind.{reached_are_good}
 use Rattle.std.proofs.Common.{ℕ, List, subst}
 use Rattle.std.specs.Prelude.{Err, Ok}
 use Rattle.clr_journal.specs.Journals.{read_journal}
-use Rattle.clr_rerun.specs.Rerun.{Reruns}
-use Rattle.clr_rerun.specs.declared.rerun.RerunFault.{RerunFault}
-use Rattle.clr_rerun.specs.declared.rerun.RerunFault.TheVariants.{BadLine}
+use Rattle.clr_verify.specs.Rerun.{Reruns}
+use Rattle.clr_verify.specs.declared.rerun.RerunFault.{RerunFault}
+use Rattle.clr_verify.specs.declared.rerun.RerunFault.TheVariants.{BadLine}
 use Rattle.clr_commands.specs.Import.{lists_of}
 use Rattle.clr_commands.specs.Paths.{at_paths}
 use Rattle.clr_commands.proofs.Faults.{any_file_plain, history_plain, passed}

@@ -1,8 +1,8 @@
 //! The subcommand `journal`.
 ghost use Rattle.std.specs.Prelude.{◌≡◌, IfErr, IfOk, IfSome, IsErrOf, map, option_map, string_bytes};
 ghost use Rattle.clr_journal.specs.Line.{entry_of};
-ghost use Rattle.clr_history.specs.Files.{FailsToRead};
-ghost use Rattle.clr_history.specs.Journal.{GivesJournal, IsOfJournal, journal_text, wanted_clearance};
+ghost use Rattle.clr_commands.specs.Files.{FailsToRead};
+ghost use Rattle.clr_commands.specs.Journal.{GivesJournal, IsOfJournal, journal_text, wanted_clearance};
 
 use crate::file::lines_at;
 use clr_args::asked::JournalArgs;

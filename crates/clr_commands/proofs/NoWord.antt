@@ -4,7 +4,7 @@ use Rattle.std.specs.Result.{result_ok}
 use Rattle.clr_rules.specs.Id.{Id}
 use Rattle.clr_edge.specs.declared.fault.Fault.{Fault}
 use Rattle.clr_edge.specs.declared.fault.Fault.TheVariants.{NoSuch}
-use Rattle.clr_history.specs.Journal.{some_or_none}
+use Rattle.clr_commands.specs.Journal.{some_or_none}
 
 pub names_none : {E : Type 0} (read : Option Id) (bad : E) → result_ok (ok_or read bad) ≡ None → Err NoSuch ≡ some_or_none read
 names_none None bad none = refl

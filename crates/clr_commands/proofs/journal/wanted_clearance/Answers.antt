@@ -1,9 +1,9 @@
 use Rattle.std.proofs.Common.{◌≡◌, ◌∙◌, ap, sym, option_map}
 use Rattle.std.specs.Result.{result_ok}
 use Rattle.clr_rules.specs.IdText.{read_id}
-use Rattle.clr_history.specs.Journal.{wanted_clearance}
-use Rattle.clr_history.proofs.NoWord.{names_none}
-use Rattle.clr_history.proofs.journal.wanted_clearance.Goals as goal
+use Rattle.clr_commands.specs.Journal.{wanted_clearance}
+use Rattle.clr_commands.proofs.NoWord.{names_none}
+use Rattle.clr_commands.proofs.journal.wanted_clearance.Goals as goal
 
 pub returns-in-None-clause-wanted : goal.returns-in-None-clause-wanted
 returns-in-None-clause-wanted c =

@@ -11,7 +11,7 @@ use Rattle.clr_log.specs.Log.{log_text}
 use Rattle.clr_args.specs.declared.asked.JournalArgs.{JournalArgs}
 use Rattle.clr_edge.specs.declared.fault.Fault.{Fault}
 use Rattle.clr_edge.specs.declared.fault.Fault.TheVariants.{NoSuch}
-use Rattle.clr_history.specs.Files.{IsOfFile, IsUnread, lines_of}
+use Rattle.clr_commands.specs.Files.{IsOfFile, IsUnread, lines_of}
 
 -- the clearance that a word names, if one was given
 abbrev pub some_or_none : Option Id → Result (Option Id) Fault

@@ -1,8 +1,8 @@
 //! The lines of a journal's file.
 ghost use Rattle.std.specs.Prelude.{◌≡◌, IfErr, IfSome, IsErrOf};
 ghost use Rattle.clr_stream.specs.Failures.{Rose};
-ghost use Rattle.clr_history.specs.Files.{FailsToRead, GivesBytes, GivesLines, IsOfFile};
-ghost use Rattle.clr_history.specs.Files.{lines_or_fault};
+ghost use Rattle.clr_commands.specs.Files.{FailsToRead, GivesBytes, GivesLines, IsOfFile};
+ghost use Rattle.clr_commands.specs.Files.{lines_or_fault};
 
 use clr_csv::CsvFault;
 use clr_edge::fault::{Fault, JournalFault};
