@@ -1,6 +1,7 @@
 -- What is reported is what every command line keeps to.
-use Rattle.std.proofs.Common.{◌≡◌, ◌⊎◌, ℕ, List, Result, Ok, Err, arith, inl, inr, refl, subst, sym}
-use Rattle.std.specs.Prelude.{◌≢◌, IfErr, IfSome, Option, Some, None, String}
+use Rattle.std.proofs.Common.{◌≡◌, ◌⊎◌, ◌∙◌, ℕ, List, Result, Ok, Err, arith, inl, inr, refl, subst, sym}
+use Rattle.std.specs.Prelude.{◌≢◌, IfErr, IfSome, IsSomeAnd, Option, Some, None, String}
+use Rattle.std.specs.Borrow.{Bor}
 use Rattle.std.specs.declared.alloc.Global.{Global}
 use Rattle.std.specs.declared.io.ErrorKind.{ErrorKind}
 use Rattle.std.specs.declared.io.ErrorKind.TheVariants.{OutOfMemory}
@@ -9,6 +10,8 @@ use Rattle.clr_args.specs.Parsed.{MayAnswer, Parses}
 use Rattle.clr_args.proofs.ParsedWords.{MayAnswer-parsed}
 use Rattle.clr_args.specs.declared.asked.Asked.{Asked}
 use Rattle.clr_args.specs.declared.asked.Asked.TheVariants as asked
+use Rattle.clr_args.specs.declared.asked.Files.{Files}
+use Rattle.clr_args.specs.declared.asked.RunArgs.TheVariants as run
 use Rattle.clr_args.specs.declared.parsing.Parsed.{Parsed}
 use Rattle.clr_args.specs.declared.parsing.Parsed.TheVariants as parsed
 use Rattle.clr_edge.specs.TakenUp.{Logs}
@@ -23,6 +26,7 @@ use Rattle.clr_commands.specs.declared.replies.Printed.{Printed}
 use Rattle.clr_commands.proofs.Written.{Writes, serve_written}
 use Rattle.clr_stream.specs.Streams.{Stream}
 use Rattle.clr_command_line.specs.CommandLine.{AnswersNone, CarriesOut, DoesParsed, Moment}
+use Rattle.clr_command_line.specs.OwnFiles.{NamesOthers, NamesOwn, OwnsFile, UnlessMemory}
 use Rattle.clr_command_line.specs.Report.{HasServed, IsFaulted, IsReported, Reports, ReportsFault, ReportsRun, ReportsServed, ReportsText}
 
 -- a fault, at which nothing went to the output
@@ -76,8 +80,8 @@ written_before : (port count : ℕ) (fault : Fault) (output output' errors middl
     → ((middle ≡ errors) × IsFaulted fault output output') ⊎ ((fault ≢ Output) × HasServed output output' errors middle)
 written_before port count fault output output' errors middle (inl (other, same, quiet)) = inl (quiet, inr (other, inl same))
 written_before port count fault output output' errors middle (inr (inl (is_output, cut, quiet))) = inl (quiet, inl (is_output, cut.1))
-written_before port count fault output output' errors middle (inr (inr (other, began, reported))) =
-    inr (other, record { port = port; count = count; began = began; reported = reported })
+written_before port count fault output output' errors middle (inr (inr (other, began, (n, reported)))) =
+    inr (other, record { port = port; count = n; began = began; reported = reported })
 
 -- a server that came to its end
 reported_served : (port count : ℕ) (served : Done) (status : ℕ) (output output' errors middle errors' : Stream)
@@ -106,10 +110,32 @@ unread status output output' errors errors' two same = record {
   unread = λ _. same;
 }
 
+file_other : (owns : List ℕ → List ℕ → Type 0) (database : List ℕ) (files : Files) (fault : Fault) → OwnsFile owns database files fault → fault ≢ Output
+file_other owns database files fault (inl (own, is)) e = cc (sym is ∙ e)
+file_other owns database files fault (inr (inl (own, is))) e = cc (sym is ∙ e)
+file_other owns database files fault (inr (inr (own, is))) e = cc (sym is ∙ e)
+
+init_other : (owns : List ℕ → List ℕ → Type 0) (database : Option (Bor (List ℕ))) (files : Files) (fault : Fault)
+    → IsSomeAnd database (λ d. OwnsFile owns d.now files fault) → fault ≢ Output
+init_other owns None files fault own e = absurd own
+init_other owns (Some d) files fault own e = file_other owns d.now files fault own e
+
+-- the fault of a file of the database is not of the output
+own_other : (owns : List ℕ → List ℕ → Type 0) (what : Asked) (fault : Fault) → UnlessMemory (NamesOwn owns what) fault → fault ≢ Output
+own_other owns what fault (inl memory) e = cc (sym memory ∙ e)
+own_other owns (asked.Init args) fault (inr own) e = init_other owns args.database args.files fault own e
+own_other owns (asked.Run (run.Stored args)) fault (inr (own, is)) e = cc (sym is ∙ e)
+own_other owns (asked.Serve args) fault (inr (inl (own, is))) e = cc (sym is ∙ e)
+own_other owns (asked.Serve args) fault (inr (inr (own, is))) e = cc (sym is ∙ e)
+own_other owns (asked.Verify args) fault (inr (inl (own, is))) e = cc (sym is ∙ e)
+own_other owns (asked.Verify args) fault (inr (inr own)) e = file_other owns args.database.now args.files fault own e
+own_other owns what fault (inr own) e = absurd own
+
 module _ {M D L R W I J C : Type 0} (logs : Logs M J C) (g : disk.Ghosts D) (makes opens : Opening M D) (shuts : Shutting M) (ends : Ending M D)
-    (net : loopback.Ghosts M L R W) (seen : Seen R W) (files : AtPaths) (remaining : I → Option (List ℕ)) (failures : I → ℕ) where
+    (net : loopback.Ghosts M L R W) (seen : Seen R W) (files : AtPaths)
+    (owns spares : List ℕ → List ℕ → Type 0) (remaining : I → Option (List ℕ)) (failures : I → ℕ) where
   carried_out : (what : Asked) (status : ℕ) (before after : Moment M I)
-      → CarriesOut logs g makes opens shuts ends net seen files remaining failures what status before after
+      → CarriesOut logs g makes opens shuts ends net seen files owns spares remaining failures what status before after
       → IsReported status before.output after.output before.errors after.errors
   carried_out (asked.Fence args) status before after (answer, does, own, untouched, reports) = reported answer status _ _ _ _ own reports
   carried_out (asked.Check three) status before after (answer, does, own, untouched, reports) = reported answer status _ _ _ _ own reports
@@ -127,15 +153,17 @@ module _ {M D L R W I J C : Type 0} (logs : Logs M J C) (g : disk.Ghosts D) (mak
   carried_out (asked.Migrate path) status before after (answer, does, own, untouched, reports) = reported answer status _ _ _ _ own reports
 
   pub does : (what : Parsed) (status : ℕ) (before after : Moment M I)
-      → DoesParsed logs g makes opens shuts ends net seen files remaining failures what status before after
+      → DoesParsed logs g makes opens shuts ends net seen files owns spares remaining failures what status before after
       → IsReported status before.output after.output before.errors after.errors
-  does (parsed.Asked what) status before after is = carried_out what status before after is
+  does (parsed.Asked what) status before after (inl (fault, own, untouched, same, line)) =
+      reported_fault fault status _ _ _ _ (own_other owns what fault own) same line
+  does (parsed.Asked what) status before after (inr (others, is)) = carried_out what status before after is
   does (parsed.Help text) status before after (untouched, is) = reported_text _ None status _ _ _ _ tt is
   does (parsed.Unread text) status before after (untouched, two, same, line) = unread status _ _ _ _ two same
 
   -- the status is 0 only for words that may have an answer
   pub MayAnswer-does : (words : List (List ℕ)) (what : Parsed) (status : ℕ) (before after : Moment M I) → Parses words what
-      → DoesParsed logs g makes opens shuts ends net seen files remaining failures what status before after → status ≡ 0 → MayAnswer words
+      → DoesParsed logs g makes opens shuts ends net seen files owns spares remaining failures what status before after → status ≡ 0 → MayAnswer words
   MayAnswer-does words (parsed.Asked what) status before after is is_done zero =
       MayAnswer-parsed words (parsed.Asked what) is (λ unread. unread)
   MayAnswer-does words (parsed.Help text) status before after is is_done zero =

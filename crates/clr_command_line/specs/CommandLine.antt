@@ -33,7 +33,8 @@ use Rattle.clr_commands.specs.Stored.{PrintsBoard, PrintsOrder}
 use Rattle.clr_commands.specs.Verify.{Verifies, VerifiesAt}
 use Rattle.clr_commands.specs.WayBack.{PrintsWayBack}
 use Rattle.clr_commands.specs.declared.replies.Printed.{Printed}
-use Rattle.clr_history.specs.Journal.{GivesJournal}
+use Rattle.clr_commands.specs.Journal.{GivesJournal}
+use Rattle.clr_command_line.specs.OwnFiles.{NamesOthers, NamesOwn, UnlessMemory}
 use Rattle.clr_command_line.specs.Report.{Reports, ReportsFault, ReportsRun, ReportsServed}
 use Rattle.clr_command_line.specs.Report.{ReportsText}
 
@@ -72,7 +73,8 @@ pub record PrintsJournal (files : AtPaths) (args : JournalArgs)
 -- input shows of itself, what is left to read and how many reads failed.
 module _ {M D L R W I J C : Type 0} (logs : Logs M J C) (g : disk.Ghosts D) (makes opens : Opening M D)
     (shuts : Shutting M) (ends : Ending M D) (net : loopback.Ghosts M L R W) (seen : Seen R W)
-    (files : AtPaths) (remaining : I → Option (List ℕ)) (failures : I → ℕ) where
+    (files : AtPaths) (owns spares : List ℕ → List ℕ → Type 0) (remaining : I → Option (List ℕ))
+    (failures : I → ℕ) where
   -- what `run` printed is reported, and the input is read for it
   abbrev pub RunComesTo : (Result Printed Fault → M → M → Type 0) → ℕ → Moment M I → Moment M I
       → Type 0
@@ -115,9 +117,16 @@ module _ {M D L R W I J C : Type 0} (logs : Logs M J C) (g : disk.Ghosts D) (mak
       (Migrates (Comes g opens shuts ends path.now (Alone (MovesRegister over_files))))
       status before after
 
+  -- a file that is named beside a database is one of its own, or memory ran out: nothing is done
+  abbrev pub RefusesOwn : Asked → ℕ → Moment M I → Moment M I → Type 0
+  RefusesOwn asked status before after = (fault : Fault) × UnlessMemory (NamesOwn owns asked) fault
+      × IsUntouched before after × (after.output ≡ before.output)
+      × ReportsFault fault status before.errors after.errors
+
   -- what words come to is done: help goes to the output, and why words do not parse to the errors
   abbrev pub DoesParsed : Parsed → ℕ → Moment M I → Moment M I → Type 0
-  DoesParsed (parsed.Asked asked) status before after = CarriesOut asked status before after
+  DoesParsed (parsed.Asked asked) status before after = RefusesOwn asked status before after
+      ⊎ (NamesOthers spares asked × CarriesOut asked status before after)
   DoesParsed (parsed.Help text) status before after = IsUntouched before after
       × ReportsText (string_bytes text) None status before.output after.output before.errors
       after.errors

@@ -9,6 +9,7 @@ ghost use Rattle.clr_command_line.specs.CommandLine.{AnswersNone, AnswersWords, 
 ghost use Rattle.clr_command_line.specs.CommandLine.{DoesParsed, ReportsNoWords, moment};
 ghost use Rattle.clr_command_line.specs.Report.{IsReported};
 
+use crate::own_files::expect_others;
 use crate::report::{report, report_fault, report_run, report_served, report_text};
 use clr_args::asked::Asked;
 use clr_args::parsing::{Parsed, parse};
@@ -16,6 +17,7 @@ use clr_commands::board::board;
 use clr_commands::check::check;
 use clr_commands::fence::fence;
 use clr_commands::init::init;
+use clr_commands::journal::journal;
 use clr_commands::migrate::migrate;
 use clr_commands::order::order;
 use clr_commands::run::run;
@@ -28,7 +30,6 @@ use clr_edge::journals::Journals;
 use clr_edge::loopback::Loopback;
 use clr_edge::output::write_out;
 use clr_edge::paths::Opens;
-use clr_history::journal::journal;
 use clr_stream::{CountedFlush, CountedRead};
 use std::alloc::AllocError;
 use std::convert::AsStr;
@@ -54,11 +55,12 @@ where
     W: CountedFlush,
     E: CountedFlush,
     ensures answer { IfOk words.now (λ given. AnswersWords
-        (logs R.Journals R.Log.Journal)
+        (logs R.Journals R.Log.Journal R.Time.shows)
         R.Medium.Disk R.makes R.opens R.shuts R.ends R.Loopback
         (seen R.Reader.remaining R.Reader.failure_count R.Writer.stream)
         (at_paths O.File.remaining O.File.failure_count (O.bytes_at paths.now))
-        I.remaining I.failure_count (map S.text given.items) result
+        (O.owns paths.now) (O.spares paths.now) I.remaining I.failure_count
+        (map S.text given.items) result
         (moment rt.old input.old (W.stream output.old) (E.stream errors.old))
         (moment rt.new input.new (W.stream output.new) (E.stream errors.new))) }
     ensures no_words { IfErr words.now (λ cause. AnswersNone (error_kind cause) result
@@ -92,11 +94,12 @@ where
     W: CountedFlush,
     E: CountedFlush,
     ensures answer { AnswersWords
-        (logs R.Journals R.Log.Journal)
+        (logs R.Journals R.Log.Journal R.Time.shows)
         R.Medium.Disk R.makes R.opens R.shuts R.ends R.Loopback
         (seen R.Reader.remaining R.Reader.failure_count R.Writer.stream)
         (at_paths O.File.remaining O.File.failure_count (O.bytes_at paths.now))
-        I.remaining I.failure_count (map S.text words.now) result
+        (O.owns paths.now) (O.spares paths.now) I.remaining I.failure_count
+        (map S.text words.now) result
         (moment rt.old input.old (W.stream output.old) (E.stream errors.old))
         (moment rt.new input.new (W.stream output.new) (E.stream errors.new)) }
     ensures reported { IsReported result
@@ -125,16 +128,19 @@ where
     W: CountedFlush,
     E: CountedFlush,
     ensures { DoesParsed
-        (logs R.Journals R.Log.Journal)
+        (logs R.Journals R.Log.Journal R.Time.shows)
         R.Medium.Disk R.makes R.opens R.shuts R.ends R.Loopback
         (seen R.Reader.remaining R.Reader.failure_count R.Writer.stream)
         (at_paths O.File.remaining O.File.failure_count (O.bytes_at paths.now))
-        I.remaining I.failure_count parsed.now result
+        (O.owns paths.now) (O.spares paths.now) I.remaining I.failure_count parsed.now result
         (moment rt.old input.old (W.stream output.old) (E.stream errors.old))
         (moment rt.new input.new (W.stream output.new) (E.stream errors.new)) }
 {
     match parsed {
-        Parsed::Asked(asked) => carry_out(rt, paths, asked, input, output, errors),
+        Parsed::Asked(asked) => match expect_others(rt.alloc(), paths, asked) {
+            Ok(()) => carry_out(rt, paths, asked, input, output, errors),
+            Err(fault) => report_fault(fault, errors),
+        },
         Parsed::Help(text) => report_text(text.as_str(), None, output, errors),
         Parsed::Unread(text) => {
             let _ = write_out(text.as_str(), errors);
@@ -159,11 +165,11 @@ where
     W: CountedFlush,
     E: CountedFlush,
     ensures { CarriesOut
-        (logs R.Journals R.Log.Journal)
+        (logs R.Journals R.Log.Journal R.Time.shows)
         R.Medium.Disk R.makes R.opens R.shuts R.ends R.Loopback
         (seen R.Reader.remaining R.Reader.failure_count R.Writer.stream)
         (at_paths O.File.remaining O.File.failure_count (O.bytes_at paths.now))
-        I.remaining I.failure_count asked.now result
+        (O.owns paths.now) (O.spares paths.now) I.remaining I.failure_count asked.now result
         (moment rt.old input.old (W.stream output.old) (E.stream errors.old))
         (moment rt.new input.new (W.stream output.new) (E.stream errors.new)) }
 {

@@ -2,4 +2,5 @@
 #![tactic(auto)]
 
 pub mod command_line;
+mod own_files;
 pub mod report;

@@ -3,6 +3,7 @@
 
 ghost use Rattle.std.specs.Prelude.{◌≡◌, ◌≤◌};
 ghost use Rattle.std.specs.Process.{exit_status};
+ghost use Rattle.clr_stream.specs.Streams.{Stream};
 ghost use Rattle.clr_command_line.specs.Report.{IsReported};
 
 mod input;
@@ -13,7 +14,7 @@ use clr_disk::{Behind, Host, System, Watch};
 use clr_edge::database::Makes;
 use clr_edge::journals::Journals;
 use clr_edge::loopback::Loopback;
-use clr_edge::machine::{AnyFiles, Machine};
+use clr_edge::machine::{DatabaseStart, JournalStart, Machine};
 use clr_edge::paths::Paths;
 use clr_stream::{Counted, CountedFlush, CountedRead};
 use std::alloc::Global;
@@ -40,64 +41,81 @@ fn program(rt: &HostRuntime) -> ExitCode
         Ok(words) => words.collect(rt.alloc()).map_err(io::Error::from),
         Err(fault) => Err(fault),
     };
-    let mut input = Behind::new(Counted::new(stdin), &watch);
-    let mut output = Behind::new(Counted::new(rt.stdout()), &watch);
-    let mut errors = Behind::new(Counted::new(rt.stderr()), &watch);
-    let status = answer(
-        rt.alloc(),
-        Host::new(rt, AnyFiles),
-        &Host::new(rt, AnyFiles),
-        &watch,
-        &words,
-        &mut input,
-        &mut output,
-        &mut errors,
-    );
+    let files: Host<DatabaseStart, JournalStart> = Host::of_files(rt);
+    let mut line = CommandLine {
+        paths: Paths::new(&files),
+        words: &words,
+        input: Behind::new(Counted::new(stdin), &watch),
+        output: Behind::new(Counted::new(rt.stdout()), &watch),
+        errors: Behind::new(Counted::new(rt.stderr()), &watch),
+    };
+    let system = Host::new(rt, DatabaseStart, JournalStart);
+    let status = answer(rt.alloc(), system, &watch, &mut line);
     exit_code(status)
 }
 
-/// Answers the words of a command line on a system: one value of it opens databases and listens, the
-/// other opens files.
-fn answer<Y: System + Drop, K: Clock, I: CountedRead, W: CountedFlush, E: CountedFlush>(
-    alloc: Global,
-    system: Y,
-    files: &Y,
-    watch: &Watch<K>,
-    words: &io::Result<Vec<String>>,
-    input: &mut I,
-    output: &mut W,
-    errors: &mut E,
-) -> u8
-    ensures status { result ≤ 2 }
-    ensures reported { IsReported result
-        (W.stream output.old) (W.stream output.new) (E.stream errors.old) (E.stream errors.new) }
-{
-    let mut machine = Machine::watched(alloc, system, watch);
-    let paths = Paths::new(files);
-    answer_on(&mut machine, &paths, words, input, output, errors)
+/// A command line that is answered on a machine. It is a trait, so that a machine meets what is asked
+/// of one without the streams: at both together the prover runs out of steps.
+trait Answers {
+    /// What the output has.
+    ghost output: { Self → Stream };
+
+    /// What the error stream has.
+    ghost errors: { Self → Stream };
+
+    /// Answers the words on any machine, and returns the status.
+    fn answer_on<R>(&mut self, machine: &mut R) -> u8
+    where
+        R: Makes + Journals + Loopback + AllocGlobal,
+        ensures status { result ≤ 2 }
+        ensures reported { IsReported result (output self.old) (output self.new)
+            (errors self.old) (errors self.new) };
 }
 
-/// Answers them on any machine. Only the paths have their type here, and only the machine has its own
-/// in `answer`: at both together the prover runs out of steps.
-fn answer_on<Y, R, I, W, E>(
-    machine: &mut R,
-    paths: &Paths<'_, Y>,
-    words: &io::Result<Vec<String>>,
-    input: &mut I,
-    output: &mut W,
-    errors: &mut E,
+/// The words of a process, the files that they name, and its streams.
+#[derive(Drop)]
+struct CommandLine<'a, Y, I: Drop, W: Drop, E: Drop> {
+    paths: Paths<'a, Y>,
+    words: &'a io::Result<Vec<String>>,
+    input: I,
+    output: W,
+    errors: E,
+}
+
+impl<'a, Y: System, I: CountedRead + Drop, W: CountedFlush + Drop, E: CountedFlush + Drop> Answers
+    for CommandLine<'a, Y, I, W, E> {
+    ghost output = { λ line. W.stream line.output };
+
+    ghost errors = { λ line. E.stream line.errors };
+
+    fn answer_on<R>(&mut self, machine: &mut R) -> u8
+    where
+        R: Makes + Journals + Loopback + AllocGlobal,
+    {
+        command_line(
+            machine,
+            &self.paths,
+            self.words,
+            &mut self.input,
+            &mut self.output,
+            &mut self.errors,
+        )
+    }
+}
+
+/// Answers a command line on a system that opens databases and listens.
+fn answer<Y: System + Drop, K: Clock, L: Answers>(
+    alloc: Global,
+    system: Y,
+    watch: &Watch<K>,
+    line: &mut L,
 ) -> u8
-where
-    Y: System,
-    R: Makes + Journals + Loopback + AllocGlobal,
-    I: CountedRead,
-    W: CountedFlush,
-    E: CountedFlush,
     ensures status { result ≤ 2 }
-    ensures reported { IsReported result
-        (W.stream output.old) (W.stream output.new) (E.stream errors.old) (E.stream errors.new) }
+    ensures reported { IsReported result (L.output line.old) (L.output line.new)
+        (L.errors line.old) (L.errors line.new) }
 {
-    command_line(machine, paths, words, input, output, errors)
+    let mut machine = Machine::watched(alloc, system, watch);
+    line.answer_on(&mut machine)
 }
 
 /// The status as the system has it.

@@ -1,0 +1,83 @@
+-- The files that a command line names beside a database, and which of them are the database's own.
+use Rattle.std.specs.Prelude.{◌≡◌, ◌⊎◌, ℕ, IfSome, IsSomeAnd, List, Option, None, Some}
+use Rattle.std.specs.Borrow.{Bor}
+use Rattle.clr_args.specs.declared.asked.Asked.{Asked}
+use Rattle.clr_args.specs.declared.asked.Asked.TheVariants as asked
+use Rattle.clr_args.specs.declared.asked.Files.{Files}
+use Rattle.clr_args.specs.declared.asked.InitArgs.{InitArgs}
+use Rattle.clr_args.specs.declared.asked.RunArgs.{RunArgs}
+use Rattle.clr_args.specs.declared.asked.RunArgs.TheVariants as run
+use Rattle.clr_args.specs.declared.asked.ServeArgs.{ServeArgs}
+use Rattle.clr_args.specs.declared.asked.VerifyArgs.{VerifyArgs}
+use Rattle.clr_edge.specs.declared.fault.Fault.{Fault}
+use Rattle.clr_edge.specs.declared.fault.Fault.TheVariants.{Journal, Memory, SameFile}
+use Rattle.clr_edge.specs.declared.fault.ImportFile.TheVariants.{Logins, Points, Sections, Staff}
+use Rattle.clr_edge.specs.declared.fault.JournalFault.TheVariants as journal
+
+-- a fault is one of these, or memory ran out
+abbrev pub UnlessMemory : (Fault → Type 0) → Fault → Type 0
+UnlessMemory Of fault = (fault ≡ Memory) ⊎ Of fault
+
+-- ---- none of them is: by what says so of a database and a path
+
+module _ (spares : List ℕ → List ℕ → Type 0) where
+  abbrev pub SparesOne : List ℕ → Option (Bor (List ℕ)) → Type 0
+  SparesOne database path = IfSome path (λ p. spares database p.now)
+
+  abbrev pub SparesFiles : List ℕ → Files → Type 0
+  SparesFiles database files = spares database files.sections.now
+      × spares database files.points.now × spares database files.staff.now
+
+  abbrev pub SparesServed : ServeArgs → Type 0
+  SparesServed args = SparesOne args.database.now args.logins
+      × SparesOne args.database.now args.journal
+
+  abbrev pub SparesVerified : VerifyArgs → Type 0
+  SparesVerified args = spares args.database.now args.journal.now
+      × SparesFiles args.database.now args.files
+
+  abbrev pub SparesRun : RunArgs → Type 0
+  SparesRun (run.Files files) = Unit {0}
+  SparesRun (run.Stored args) = SparesOne args.database.now args.journal
+
+  -- NO FILE THAT IS NAMED BESIDE A DATABASE is one of its own
+  abbrev pub NamesOthers : Asked → Type 0
+  NamesOthers (asked.Init args) = IfSome args.database (λ d. SparesFiles d.now args.files)
+  NamesOthers (asked.Run args) = SparesRun args
+  NamesOthers (asked.Serve args) = SparesServed args
+  NamesOthers (asked.Verify args) = SparesVerified args
+  NamesOthers what = Unit {0}
+
+-- ---- one of them is, and the fault names it
+
+module _ (owns : List ℕ → List ℕ → Type 0) where
+  abbrev pub OwnsOne : List ℕ → Option (Bor (List ℕ)) → Fault → Fault → Type 0
+  OwnsOne database path fault told = IsSomeAnd path (λ p. owns database p.now) × (told ≡ fault)
+
+  abbrev pub OwnsFile : List ℕ → Files → Fault → Type 0
+  OwnsFile database files fault =
+      (owns database files.sections.now × (fault ≡ SameFile Sections))
+      ⊎ (owns database files.points.now × (fault ≡ SameFile Points))
+      ⊎ (owns database files.staff.now × (fault ≡ SameFile Staff))
+
+  abbrev pub OwnsServed : ServeArgs → Fault → Type 0
+  OwnsServed args fault = OwnsOne args.database.now args.logins (SameFile Logins) fault
+      ⊎ OwnsOne args.database.now args.journal (Journal journal.SameFile) fault
+
+  abbrev pub OwnsVerified : VerifyArgs → Fault → Type 0
+  OwnsVerified args fault =
+      (owns args.database.now args.journal.now × (fault ≡ Journal journal.SameFile))
+      ⊎ OwnsFile args.database.now args.files fault
+
+  abbrev pub OwnsRun : RunArgs → Fault → Type 0
+  OwnsRun (run.Files files) fault = ⊥
+  OwnsRun (run.Stored args) fault =
+      OwnsOne args.database.now args.journal (Journal journal.SameFile) fault
+
+  -- A FILE THAT IS NAMED BESIDE A DATABASE is one of its own
+  abbrev pub NamesOwn : Asked → Fault → Type 0
+  NamesOwn (asked.Init args) fault = IsSomeAnd args.database (λ d. OwnsFile d.now args.files fault)
+  NamesOwn (asked.Run args) fault = OwnsRun args fault
+  NamesOwn (asked.Serve args) fault = OwnsServed args fault
+  NamesOwn (asked.Verify args) fault = OwnsVerified args fault
+  NamesOwn what fault = ⊥

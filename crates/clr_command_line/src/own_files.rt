@@ -1,0 +1,137 @@
+//! Files that are named beside a database, none of which is to be one of the database's own.
+ghost use Rattle.std.specs.Prelude.{◌≡◌, IfErr, OnOk};
+ghost use Rattle.clr_command_line.specs.OwnFiles.{NamesOthers, NamesOwn, OwnsFile, OwnsOne};
+ghost use Rattle.clr_command_line.specs.OwnFiles.{OwnsServed, OwnsVerified, SparesFiles};
+ghost use Rattle.clr_command_line.specs.OwnFiles.{SparesOne, SparesServed, SparesVerified};
+ghost use Rattle.clr_command_line.specs.OwnFiles.{UnlessMemory};
+
+use clr_args::asked::{Asked, Files, RunArgs, ServeArgs, StoredArgs, VerifyArgs};
+use clr_edge::fault::{Fault, ImportFile, JournalFault};
+use clr_edge::paths::Opens;
+use std::alloc::{AllocError, Global};
+
+/// Refuses the first file that is asked for beside a database and is one of the database's own.
+/// Nothing is opened for it.
+pub(crate) fn expect_others<'a, O: Opens<'a>>(
+    alloc: Global,
+    paths: &O,
+    asked: &Asked<'a>,
+) -> Result<(), Fault>
+    ensures others { OnOk result (NamesOthers (O.spares paths.now) asked.now) }
+    ensures own { IfErr result (UnlessMemory (NamesOwn (O.owns paths.now) asked.now)) }
+{
+    match asked {
+        Asked::Init(args) => match args.database {
+            Some(database) => expect_files(alloc, paths, database, &args.files),
+            None => Ok(()),
+        },
+        Asked::Run(RunArgs::Stored(args)) => expect_journal(alloc, paths, args),
+        Asked::Serve(args) => expect_served(alloc, paths, args),
+        Asked::Verify(args) => expect_verified(alloc, paths, args),
+        _ => Ok(()),
+    }
+}
+
+/// Refuses a journal that is a file of the database.
+fn expect_journal<'a, O: Opens<'a>>(
+    alloc: Global,
+    paths: &O,
+    args: &StoredArgs<'a>,
+) -> Result<(), Fault>
+    ensures others { OnOk result
+        (SparesOne (O.spares paths.now) args.now.database.now args.now.journal) }
+    ensures own { IfErr result (UnlessMemory (OwnsOne (O.owns paths.now) args.now.database.now
+        args.now.journal (Fault.Journal JournalFault.SameFile))) }
+{
+    let fault = Fault::Journal(JournalFault::SameFile);
+    match args.journal {
+        Some(journal) => expect_other(alloc, paths, args.database, journal, fault),
+        None => Ok(()),
+    }
+}
+
+/// Refuses logins or a journal that are a file of the database.
+fn expect_served<'a, O: Opens<'a>>(
+    alloc: Global,
+    paths: &O,
+    args: &ServeArgs<'a>,
+) -> Result<(), Fault>
+    ensures others { OnOk result (SparesServed (O.spares paths.now) args.now) }
+    ensures own { IfErr result (UnlessMemory (OwnsServed (O.owns paths.now) args.now)) }
+{
+    if let Some(logins) = args.logins {
+        let fault = Fault::SameFile(ImportFile::Logins);
+        expect_other(alloc, paths, args.database, logins, fault)?;
+    }
+    let stored = StoredArgs {
+        database: args.database,
+        journal: args.journal,
+    };
+    expect_journal(alloc, paths, &stored)
+}
+
+/// Refuses a journal or files to begin with that are a file of the database.
+fn expect_verified<'a, O: Opens<'a>>(
+    alloc: Global,
+    paths: &O,
+    args: &VerifyArgs<'a>,
+) -> Result<(), Fault>
+    ensures others { OnOk result (SparesVerified (O.spares paths.now) args.now) }
+    ensures own { IfErr result (UnlessMemory (OwnsVerified (O.owns paths.now) args.now)) }
+{
+    let stored = StoredArgs {
+        database: args.database,
+        journal: Some(args.journal),
+    };
+    expect_journal(alloc, paths, &stored)?;
+    expect_files(alloc, paths, args.database, &args.files)
+}
+
+/// Refuses three files of which one is a file of the database.
+fn expect_files<'a, O: Opens<'a>>(
+    alloc: Global,
+    paths: &O,
+    database: &str,
+    files: &Files<'a>,
+) -> Result<(), Fault>
+    ensures others { OnOk result (SparesFiles (O.spares paths.now) database.now files.now) }
+    ensures own { IfErr result
+        (UnlessMemory (OwnsFile (O.owns paths.now) database.now files.now)) }
+{
+    let (sections, points) = (ImportFile::Sections, ImportFile::Points);
+    expect_other(
+        alloc,
+        paths,
+        database,
+        files.sections,
+        Fault::SameFile(sections),
+    )?;
+    expect_other(
+        alloc,
+        paths,
+        database,
+        files.points,
+        Fault::SameFile(points),
+    )?;
+    let staff = Fault::SameFile(ImportFile::Staff);
+    expect_other(alloc, paths, database, files.staff, staff)
+}
+
+/// Refuses a file of the database, with this fault.
+fn expect_other<'a, O: Opens<'a>>(
+    alloc: Global,
+    paths: &O,
+    database: &str,
+    path: &str,
+    fault: Fault,
+) -> Result<(), Fault>
+    ensures other { OnOk result (O.spares paths.now database.now path.now) }
+    ensures own { IfErr result (UnlessMemory (λ told.
+        O.owns paths.now database.now path.now × (told ≡ fault))) }
+{
+    match paths.is_own(alloc, database, path) {
+        Ok(true) => Err(fault),
+        Ok(false) => Ok(()),
+        Err(AllocError) => Err(Fault::Memory),
+    }
+}
