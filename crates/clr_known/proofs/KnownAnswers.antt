@@ -22,6 +22,10 @@ use Rattle.clr_edge.specs.Answers.{After}
 use Rattle.clr_edge.specs.Files.{told_of}
 use Rattle.clr_edge.specs.declared.fault.ImportFile.TheVariants.{Points, Sections, Staff}
 use Rattle.clr_edge.specs.Database.{HasRegister, IsMade, IsOfLine}
+use Rattle.clr_edge.specs.TakenUp.{Logs}
+use Rattle.clr_journal.specs.Line.{Entry}
+use Rattle.clr_journaled.specs.Journaling.{FailsToo}
+use Rattle.clr_journaled.specs.Redo.{IsRead, redone_by}
 use Rattle.clr_edge.specs.Visit.{Alone, Comes, Done, Ending, IsLeft, MakesRegister, MovesRegister, Opening, Over, Shutting, Visits, both}
 use Rattle.clr_edge.specs.declared.fault.Fault.{Fault}
 use Rattle.clr_edge.specs.declared.fault.Fault.TheVariants.{Memory}
@@ -30,9 +34,9 @@ use Rattle.clr_commands.specs.Import.{AreRead, Contents, FileRows, IsUnreadFile,
 use Rattle.clr_commands.specs.Init.{Stores, counts_of}
 use Rattle.clr_commands.specs.Migrate.{Migrates, PrintsMoved}
 use Rattle.clr_commands.specs.Replies.{AnswersInput}
-use Rattle.clr_commands.specs.Run.{IsOpeningOf, RunsFrom, RunsStored, printed_after, rows_fault}
+use Rattle.clr_commands.specs.Run.{IsOpeningOf, RunsFrom, RunsLogged, RunsLoggedFrom, RunsStored, printed_after, rows_fault}
 use Rattle.clr_commands.specs.declared.replies.Printed.{Printed}
-use Rattle.clr_known.specs.Known.{IsAlwaysClean, IsRunOfJones, IsVersionTwo, KnowsJones, StoresWorked}
+use Rattle.clr_known.specs.Known.{IsAlwaysClean, IsLoggedRunOfJones, IsRunOfJones, IsVersionTwo, KnowsJones, StoresWorked}
 use Rattle.clr_known.specs.Known.{jones_register, point_file, section_file, staff_file, worked_counts}
 use Rattle.clr_known.proofs.WorkedRows.{file_sections, file_staff, is_worked_net, is_worked_staff, points_read, sections_read, staff_read}
 
@@ -50,7 +54,7 @@ rows_with s p e = do
   staff ← told_of Staff e
   Ok (record { sections = sections; points = points; staff = staff })
 
-rows_read : rows_of worked_files ≡ Ok worked_rows
+pub rows_read : rows_of worked_files ≡ Ok worked_rows
 rows_read = λ i. rows_with (sections_read i) (points_read i) (staff_read i)
 
 -- the line of counts, where the rows are a network and a staff
@@ -65,16 +69,16 @@ counts_given (Err fault) text is counts =
     ap (λ (t : Result (Unit {0}) Fault). t >>= (λ _. Ok worked_counts)) (sym is) ∙ counts in
     absurd (cc given)
 
-opening_given : (R : Register) → IsOpeningOf worked_rows R → R ≡ worked_opening
+pub opening_given : (R : Register) → IsOpeningOf worked_rows R → R ≡ worked_opening
 opening_given R is =
     is.register ∙ (λ i. opening (is_worked_net is.net is.is_network i) (is_worked_staff is.team is.is_staff i))
 
-moved_line : (told closed : Done) → IfErr told IsOfLine → IfErr closed IsOfLine → IfErr (both told closed) IsOfLine
+pub moved_line : (told closed : Done) → IfErr told IsOfLine → IfErr closed IsOfLine → IfErr (both told closed) IsOfLine
 moved_line (Ok value) closed of_told of_closed = of_closed
 moved_line (Err fault) closed of_told of_closed = of_told
 
 -- a fault of closing is one of the database
-closing_line : {D : Type 0} {g : disk.Ghosts D} (c : Over g) (files : Files D) (closed : Done) → IsLeft c files closed → IfErr closed IsOfLine
+pub closing_line : {D : Type 0} {g : disk.Ghosts D} (c : Over g) (files : Files D) (closed : Done) → IsLeft c files closed → IfErr closed IsOfLine
 closing_line c files (Ok value) left = tt
 closing_line c files (Err fault) left =
     let (error, is, fails) = left.copies in
@@ -93,6 +97,11 @@ still_given : (input : List ℕ) (printed : Result Printed Fault) (closed : Done
     → IsRunOfJones input (printed_after printed closed)
 still_given input (Ok printed) closed runs = runs
 still_given input (Err fault) closed runs = runs
+
+still_logged : (input : List ℕ) (printed : Result Printed Fault) (closed : Done) → IsLoggedRunOfJones input printed
+    → IsLoggedRunOfJones input (printed_after printed closed)
+still_logged input (Ok printed) closed runs = runs
+still_logged input (Err fault) closed runs = runs
 
 -- what is read of files that are the worked ones
 pub known_read : (s p e : Option (List ℕ)) → s ≡ Some section_file → p ≡ Some point_file → e ≡ Some staff_file
@@ -157,6 +166,39 @@ module _ {D : Type 0} (g : disk.Ghosts D) (clean : IsAlwaysClean g) where
         let runs = visit.does.1 in
         subst (λ (r : Result Printed Fault). IsRunOfJones bytes r) (sym runs.result_is)
         (still_given bytes runs.printed visit.closed (ran_given bytes runs.printed visit.before visit.after (knows _ _ _ _ visit.opened) runs.runs))
+
+    -- the same with a journal, which is new: no line of it is redone
+    module _ {J C : Type 0} (logs : Logs M J C)
+        (is_new : (old new : M) (path : List ℕ) (journal : J) (last : Option (List ℕ)) → logs.steps.opens_journal old path journal last new
+        → last ≡ None) where
+      logged_ran : (journal input : List ℕ) (printed : Result Printed Fault) (old new : M) (before after : Over g) → HasRegister over_files jones_register before
+          → RunsLoggedFrom logs journal over_files (Some input) printed old before after new → IsLoggedRunOfJones input printed
+      logged_ran journal input (Ok printed) old new before after has runs =
+          let up = runs.taken_up in
+          let unread : up.entry ≡ None =
+          subst (λ (last : Option (List ℕ)). IsRead last up.entry) (is_new _ _ _ _ _ up.journal.opened) up.journal.goes_on.read in
+          let register : runs.register ≡ jones_register =
+          up.register ∙ ap (λ (entry : Option Entry). redone_by entry up.kept.first) unread ∙ up.kept.is_register _ has (clean up.kept.opened) in (
+            runs.left,
+            runs.answers.told,
+            printed,
+            subst (λ (S : Register). AnswersInput (FailsToo FailsAsStore) S runs.left input runs.answers.told printed) register
+                (subst (λ (b : List ℕ). AnswersInput (FailsToo FailsAsStore) runs.register runs.left b runs.answers.told printed) runs.is_input.0 runs.answers.run),
+            refl,
+          )
+      logged_ran journal input (Err fault) old new before after has runs = tt
+
+      pub logged_given : KnowsJones g opens → (path journal : List ℕ) (input : Option (List ℕ)) (result : Result Printed Fault) (old new : M)
+          → Comes g opens shuts ends path (RunsLogged logs journal over_files input) result old new
+          → IfSome input (λ bytes. IsLoggedRunOfJones bytes result)
+      logged_given knows path journal None result old new comes = tt
+      logged_given knows path journal (Some bytes) result old new (inl (fault, is, of_line, shut)) =
+          subst (λ (r : Result Printed Fault). IsLoggedRunOfJones bytes r) (sym is) tt
+      logged_given knows path journal (Some bytes) result old new (inr visit) =
+          let runs = visit.does in
+          subst (λ (r : Result Printed Fault). IsLoggedRunOfJones bytes r) (sym runs.result_is)
+          (still_logged bytes runs.printed visit.closed
+          (logged_ran journal bytes runs.printed visit.middle visit.later visit.before visit.after (knows _ _ _ _ visit.opened) runs.runs))
 
     stored_given : (path : List ℕ) (R : Register) (stored : Done) (old new : M) → R ≡ worked_opening → stored ≡ Ok tt
         → Comes g opens shuts ends path (Alone (MakesRegister over_files R)) stored old new

@@ -77,12 +77,12 @@ module _ {M D : Type 0} (g : disk.Ghosts D) (clean : IsAlwaysClean g)
       answered : (port : ℕ) (k k' : X) (l : L) (reported : Stream) (old new : M) → (by.keeper k).register ≡ jones_register
           → IsGood (by.keeper k).register → reported ≡ fresh → TakesNext by net seen (once_at port) l 1 k k' reported fresh old new
           → IsBoardResponse (response new)
-      answered port k k' l reported old new register good none (inr (kind, missed, same, told)) = absurd (asked.misses _ _ _ _ missed)
+      answered port k k' l reported old new register good none (inr missed) = absurd (asked.misses _ _ _ _ _ missed.1)
       answered port k k' l reported old new register good none (inl it) =
           let (served, is, put, reports) = it.served in
           let (comes, empty) = asked.comes _ _ _ _ _ it.came in
           let quiet = subst (λ (e : Stream). ReportsConnection 1 served e fresh) none reports in
-          board_sent (by.keeper k) (by.keeper k') _ _ served _ register empty (asked.keeps _ _ _ it.left) (is.served _ _ _ comes begins good) quiet
+          board_sent (by.keeper k) (by.keeper k') _ _ served _ register empty (asked.keeps _ _ _ _ it.left) (is.served _ _ _ comes begins good) quiet
 
       taken : (port : ℕ) (k k' : X) (l : L) (old new : M) → (by.keeper k).register ≡ jones_register → IsGood (by.keeper k).register
           → TakesFirst by net seen (once_at port) l 1 k k' fresh fresh old new → IsBoardResponse (response new)

@@ -4,3 +4,7 @@ pub mod JonesRegister
 pub mod BoardServed
 pub mod KnownVisits
 pub mod KnownAnswers
+pub mod JonesJournal
+pub mod Verified
+pub mod OldTables
+pub mod OldMoved

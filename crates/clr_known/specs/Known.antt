@@ -1,8 +1,8 @@
 -- A machine whose databases have a known register, over whose connections the board is asked for, and
 -- what it answers.
-use Rattle.std.specs.Prelude.{ℕ, ◌==◌, codes, find, List, [], ◌∷◌, Option, option_map}
+use Rattle.std.specs.Prelude.{ℕ, ◌==◌, Bool, codes, find, List, [], ◌∷◌, Option, option_map}
 use Rattle.std.specs.Prelude.{◌≡◌, ◌⊎◌, None, Some, IfOk, IfSome, Result, Ok, Err, String, false, pos}
-use Rattle.std.specs.Prelude.{string_bytes}
+use Rattle.std.specs.Prelude.{string_bytes, ⊤}
 use Rattle.std.specs.declared.alloc.Global.{Global}
 use Rattle.std.specs.declared.io.ErrorKind.{ErrorKind}
 use Rattle.std.specs.Borrow.{Bor}
@@ -23,6 +23,7 @@ use Rattle.clr_text.specs.Lines.{commands_in}
 use Rattle.clr_tables.specs.Tables.{tables_of}
 use Rattle.clr_load.specs.Stored.{HasTables}
 use Rattle.clr_desk.specs.Faults.{FailsAsStore}
+use Rattle.clr_journaled.specs.Journaling.{FailsToo}
 use Rattle.clr_http.specs.Answered.{Source}
 use Rattle.clr_http.specs.Options.{plain}
 use Rattle.clr_http.specs.Response.{json, printed, response_bytes}
@@ -35,6 +36,8 @@ use Rattle.clr_edge.specs.declared.loopback.Connection.{Connection}
 use Rattle.clr_edge.specs.declared.loopback.Loopback as loopback
 use Rattle.clr_commands.specs.Answers.{GivesText}
 use Rattle.clr_commands.specs.Connections.{Seen}
+use Rattle.clr_commands.specs.Files.{IsUnread}
+use Rattle.clr_commands.specs.Import.{IsUnreadFile}
 use Rattle.clr_commands.specs.Init.{counts_line}
 use Rattle.clr_commands.specs.Logins.{terms_with}
 use Rattle.clr_commands.specs.Migrate.{version_line}
@@ -44,6 +47,7 @@ use Rattle.clr_commands.specs.Run.{IsOfInput}
 use Rattle.clr_commands.specs.WayBack.{way_back_to}
 use Rattle.clr_commands.specs.declared.replies.Printed.{Printed}
 use Rattle.clr_commands.specs.declared.serve.Terms.{Terms}
+use Rattle.clr_known.specs.JonesJournal.{jones_journal, jones_log, jones_run, jones_verified}
 
 -- ---- the register
 
@@ -88,8 +92,10 @@ pub record IsAskedForBoard {M D L R W J C : Type 0} (ends : Ending M D) (at : jo
       → net.comes old l deadline c new
       → (Source.remaining (seen.source c.reader) ≡ Some board_request)
       × (Stream.contents (seen.stream c.writer) ≡ Some [])
-  pub misses : (old new : M) (l : L) (kind : ErrorKind) → net.misses old l kind new → ⊥
-  pub keeps : (old new : M) (c : Connection R W) → net.hangs_up old c new
+  pub misses : (old new : M) (l : L) (tries : ℕ) (kind : ErrorKind) → net.misses old l tries kind new
+      → ⊥
+  pub keeps : (old new : M) (c : Connection R W) (is_expected : Bool)
+      → net.hangs_up old c is_expected new
       → Stream.contents (seen.stream c.writer) ≡ Some (response new)
   pub ended : (old new : M) (files : Files D) → ends old files new → response new ≡ response old
 
@@ -112,11 +118,16 @@ abbrev pub staff_file : List ℕ
 staff_file =
     codes "employee,role,supervisor\nOPS,operator,\nREED,field,\nDALE,field,\nJONES,charge,BOSS\nKIM,charge,\nBOSS,charge,\n"
 
--- they are at these paths
+-- they are at these paths, and so is the journal of JONES/1
 pub record HasWorkedFiles (bytes_at : List ℕ → Option (List ℕ)) : Type 0 where
   pub sections : bytes_at (codes "sections.csv") ≡ Some section_file
   pub points : bytes_at (codes "points.csv") ≡ Some point_file
   pub staff : bytes_at (codes "staff.csv") ≡ Some staff_file
+  pub journal : bytes_at (codes "jones.journal") ≡ Some jones_journal
+
+-- a file or the database could not be had, or memory ran out
+abbrev pub IsNotHad : Fault → Type 0
+IsNotHad fault = IsUnreadFile fault ⊎ IsUnread fault ⊎ IsOfLine fault
 
 -- ---- what goes out of a server
 
@@ -152,6 +163,13 @@ IsRunOfJones input (Ok given) = (left : Register) × (told : List Reply) × (who
     × (given.text ≡ whole.text)
 IsRunOfJones input (Err fault) = IsOfLine fault ⊎ IsOfInput (Some input) fault
 
+-- the same of a run with a journal that is new. Of a fault in its place nothing is said
+abbrev pub IsLoggedRunOfJones : List ℕ → Result Printed Fault → Type 0
+IsLoggedRunOfJones input (Ok given) = (left : Register) × (told : List Reply) × (whole : Printed)
+    × AnswersInput (FailsToo FailsAsStore) jones_register left input told whole
+    × (given.text ≡ whole.text)
+IsLoggedRunOfJones input (Err fault) = ⊤
+
 -- the line of counts of the worked files
 abbrev pub worked_counts : List ℕ
 worked_counts = counts_line 5 5 6
@@ -165,10 +183,10 @@ StoresWorked {M} g makes ends path result old new = IfOk result (λ text.
     × Visits g makes ends path (λ (middle : M) before after (closed : Done) (later : M).
     HasTables (state over_files after).now (tables_of worked_opening)) old new)
 
--- WHAT THEY ANSWER of that register, and of an input whose bytes may be known
+-- WHAT THEY ANSWER of that register and its journal, and of an input whose bytes may be known
 pub record AreAnswers (input : Option (List ℕ))
-    (board order way_back moved made : Result (String Global) Fault) (ran : Result Printed Fault)
-    : Type 0 where
+    (board order way_back moved made verified logged commands : Result (String Global) Fault)
+    (ran : Result Printed Fault) : Type 0 where
   pub board_is : GivesText IsOfLine (Ok (board_text jones_register (pos 0))) board
   pub order_is : GivesText IsOfLine
       (order_told jones_register (codes "JONES/1") (codes "1") (pos 0)) order
@@ -176,4 +194,7 @@ pub record AreAnswers (input : Option (List ℕ))
       (way_back_to jones_register (read_id (codes "JONES/1"))) way_back
   pub moved_is : IsVersionTwo moved
   pub made_is : IfOk made (λ text. string_bytes text ≡ worked_counts)
+  pub verified_is : GivesText IsNotHad (Ok jones_verified) verified
+  pub logged_is : GivesText IsUnread (Ok jones_log) logged
+  pub commands_are : GivesText IsUnread (Ok jones_run) commands
   pub ran_is : IfSome input (λ bytes. IsRunOfJones bytes ran)

@@ -1,2 +1,4 @@
 pub mod Clean
+pub mod JonesJournal
 pub mod Known
+pub mod OldTables

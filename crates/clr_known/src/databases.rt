@@ -1,5 +1,5 @@
 //! A database whose register is known: that of JONES/1 with its first step done.
-ghost use Rattle.std.specs.Prelude.{◌≡◌, ◌++◌, ◌∷◌, [], IfErr, IfOk, Ok, OnOk};
+ghost use Rattle.std.specs.Prelude.{◌≡◌, ◌++◌, ◌∷◌, [], false, IfErr, IfOk, Ok, OnOk};
 ghost use Rattle.sqlite.specs.Files.{over_files};
 ghost use Rattle.sqlite.specs.Held.{state};
 ghost use Rattle.sqlite.specs.State.{HasCleanDisk};
@@ -71,6 +71,7 @@ impl Databases for Known {
     fn stored(&mut self, path: &str) -> Result<Connection<FileStore<Memory>>, Fault>
         ensures opens { IfOk result (λ connection.
             (self.new ≡ self.old) × HasRegister over_files jones_register connection) }
+        ensures mode { IfOk result (λ connection. connection.in_transaction ≡ false) }
         ensures shuts { IfErr result (λ _. self.new ≡ self.old) }
         ensures fault { IfErr result IsOfLine }
     {
@@ -96,6 +97,7 @@ impl Makes for Known {
 
     fn database(&mut self, _path: &str) -> Result<Connection<FileStore<Memory>>, Fault>
         ensures makes { IfOk result (λ _. self.new ≡ self.old) }
+        ensures mode { IfOk result (λ connection. connection.in_transaction ≡ false) }
         ensures shuts { IfErr result (λ _. self.new ≡ self.old) }
         ensures fault { IfErr result IsOfLine }
     {
@@ -104,7 +106,8 @@ impl Makes for Known {
 }
 
 /// An empty database.
-fn empty_database(alloc: Global) -> Result<Connection<FileStore<Memory>>, Fault>
+pub(crate) fn empty_database(alloc: Global) -> Result<Connection<FileStore<Memory>>, Fault>
+    ensures mode { IfOk result (λ connection. connection.in_transaction ≡ false) }
     ensures fault { IfErr result IsOfLine }
 {
     let files = Files {
@@ -118,7 +121,7 @@ fn empty_database(alloc: Global) -> Result<Connection<FileStore<Memory>>, Fault>
 }
 
 /// Any other fault than want of memory is one of the database.
-fn of_line(fault: Fault) -> Fault
+pub(crate) fn of_line(fault: Fault) -> Fault
     ensures { IsOfLine result }
 {
     match fault {
@@ -131,6 +134,7 @@ fn of_line(fault: Fault) -> Fault
 fn jones_database(alloc: Global) -> Result<Connection<FileStore<Memory>>, Fault>
     ensures register { IfOk result (λ connection.
         HasRegister over_files jones_register connection) }
+    ensures mode { IfOk result (λ connection. connection.in_transaction ≡ false) }
     ensures fault { IfErr result IsOfLine }
 {
     let connection = empty_database(alloc)?;
@@ -145,8 +149,9 @@ fn jones_made<S: Alter + Drop>(
     alloc: Global,
     connection: Connection<S>,
 ) -> Result<Connection<S>, Fault>
-    ensures { IfOk result (λ made. HasCleanDisk (state S.Store made)
+    ensures register { IfOk result (λ made. HasCleanDisk (state S.Store made)
         → HasRegister S.Store jones_register made) }
+    ensures mode { IfOk result (λ made. made.in_transaction ≡ false) }
 {
     match jones_desk(alloc, connection) {
         Ok(desk) => Ok(desk.end().end()),

@@ -33,9 +33,9 @@ impl Loopback for Known {
         × ((counted_inner connection.reader).now ≡ board_request)
         × ((counted_inner connection.writer).items ≡ []) };
 
-    ghost misses = { λ _ _ _ _. ⊥ };
+    ghost misses = { λ _ _ _ _ _. ⊥ };
 
-    ghost hangs_up = { λ old connection new.
+    ghost hangs_up = { λ old connection _ new.
         new ≡ record old { response = counted_inner connection.writer } };
 
     fn bind(&mut self, address: SocketAddr) -> io::Result<()>
@@ -55,6 +55,7 @@ impl Loopback for Known {
         &mut self,
         _listener: &(),
         _deadline: Option<u16>,
+        _tries: u8,
     ) -> io::Result<Connection<Counted<&'static [u8]>, Counted<Vec<u8>>>>
         ensures comes { IfOk result (λ connection. (self.new ≡ self.old)
             × ((counted_inner connection.reader).now ≡ board_request)
@@ -67,7 +68,11 @@ impl Loopback for Known {
         })
     }
 
-    fn hang_up(&mut self, connection: Connection<Counted<&'static [u8]>, Counted<Vec<u8>>>)
+    fn hang_up(
+        &mut self,
+        connection: Connection<Counted<&'static [u8]>, Counted<Vec<u8>>>,
+        _is_expected: bool,
+    )
         ensures { self.new
             ≡ record self.old { response = counted_inner connection.entry.writer } }
     {

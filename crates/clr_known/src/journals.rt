@@ -66,7 +66,13 @@ fn new_journal(alloc: Global) -> Result<OpenedJournal<OnDisk<Memory>>, Fault>
 pub struct NoTime;
 
 impl Clock for NoTime {
-    fn seconds(&mut self) -> u64 {
+    ghost use Rattle.std.specs.Prelude.{◌≡◌};
+
+    ghost shows = { λ _ seconds. seconds ≡ 0 };
+
+    fn seconds(&self) -> u64
+        ensures { result ≡ 0 }
+    {
         0
     }
 }

@@ -10,8 +10,11 @@ mod exchange;
 mod files;
 mod journals;
 mod machine;
+mod old_tables;
+mod version_one;
 mod visits;
 
-pub use answers::{Answers, known_answers};
+pub use answers::{Answers, known_answers, known_logged_run};
 pub use machine::Known;
+pub use version_one::{OldKnown, known_move};
 pub use visits::known_service;

@@ -45,8 +45,8 @@ impl JonesMachine for Known {
       logged = λ old new path journal last begun. begun.1;
       comes = λ old new listener deadline connection came.
           (ap (λ (bytes : List ℕ). Some bytes) came.1, ap (λ (bytes : List ℕ). Some bytes) came.2);
-      misses = λ old new listener kind missed. missed;
-      keeps = λ old new connection left. ap (λ (m : AnyKnown). Some m.response.items) (sym left);
+      misses = λ old new listener tries kind missed. missed;
+      keeps = λ old new connection is_expected left. ap (λ (m : AnyKnown). Some m.response.items) (sym left);
       gone = λ old new journal let_go. ap (λ (m : AnyKnown). m.response.items) let_go;
       ended = λ old new files back. ap (λ (m : AnyKnown). m.response.items) back;
     } };

@@ -72,9 +72,9 @@ impl Loopback for Torn {
 
     ghost comes = { λ old _ _ _ new. new ≡ record old { asked = one_more old.asked } };
 
-    ghost misses = { λ old _ _ new. new ≡ record old { asked = one_more old.asked } };
+    ghost misses = { λ old _ _ _ new. new ≡ record old { asked = one_more old.asked } };
 
-    ghost hangs_up = { λ old _ new. new ≡ record old { let_go = one_more old.let_go } };
+    ghost hangs_up = { λ old _ _ new. new ≡ record old { let_go = one_more old.let_go } };
 
     fn bind(&mut self, _address: SocketAddr) -> io::Result<()>
         ensures stands { IfOk result (λ _. self.new ≡ self.old) }
@@ -87,6 +87,7 @@ impl Loopback for Torn {
         &mut self,
         _listener: &(),
         _deadline: Option<u16>,
+        _tries: u8,
     ) -> io::Result<Connection<Counted<TornReader>, Counted<TornWriter>>>
         ensures comes { IfOk result (λ _.
             self.new ≡ record self.old { asked = one_more self.old.asked }) }
@@ -106,7 +107,11 @@ impl Loopback for Torn {
         })
     }
 
-    fn hang_up(&mut self, connection: Connection<Counted<TornReader>, Counted<TornWriter>>)
+    fn hang_up(
+        &mut self,
+        connection: Connection<Counted<TornReader>, Counted<TornWriter>>,
+        _is_expected: bool,
+    )
         ensures { self.new ≡ record self.old { let_go = one_more self.old.let_go } }
     {
         drop(connection);
@@ -162,7 +167,7 @@ fn lines_of_three<D: Registrar, L: Loopback>(
         service: Service::plain(),
     };
     let mut errors = Counted::new(Vec::with_capacity(alloc, 256)?);
-    serve_connections(alloc, net, listener, desk, &terms, &mut errors);
+    let _ = serve_connections(alloc, net, listener, desk, &terms, &mut errors);
     let lines = String::from_utf8(errors.into_inner())?;
     if lines.as_str().contains("NoMemory") {
         return Err(Fail::new("out of memory"));

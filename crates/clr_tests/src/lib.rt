@@ -24,6 +24,8 @@ mod known;
 #[cfg(test)]
 mod limits;
 #[cfg(test)]
+mod reopened;
+#[cfg(test)]
 mod stops;
 #[cfg(test)]
 mod store;

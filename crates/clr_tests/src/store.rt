@@ -74,6 +74,28 @@ fn versions_that_are_not_opened(rt: HostRuntime) -> Result<(), Fail> {
 }
 
 #[test]
+fn tables_that_are_others(rt: HostRuntime) -> Result<(), Fail> {
+    let cases = [
+        (
+            "CREATE TABLE more (name TEXT PRIMARY KEY) STRICT",
+            StoreFault::OtherTables,
+        ),
+        ("CREATE INDEX held ON hold (place)", StoreFault::OtherTables),
+        (
+            "CREATE VIEW held AS SELECT place FROM hold",
+            StoreFault::OtherTables,
+        ),
+        ("DROP TABLE hold", StoreFault::OtherTables),
+        (
+            "INSERT INTO meta VALUES ('mark', 1)",
+            StoreFault::OtherTables,
+        ),
+        ("DROP TABLE meta", StoreFault::Sql),
+    ];
+    expect_faults(&rt, rt.alloc(), &cases)
+}
+
+#[test]
 fn rows_that_do_not_read(rt: HostRuntime) -> Result<(), Fail> {
     let cases = [
         (

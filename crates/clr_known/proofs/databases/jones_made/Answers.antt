@@ -7,8 +7,8 @@ use Rattle.clr_tables.specs.Tables.{tables_of}
 use Rattle.clr_known.specs.Known.{jones_register}
 use Rattle.clr_known.proofs.databases.jones_made.Goals as goal
 
-pub returns-in-Ok : goal.returns-in-Ok
-returns-in-Ok g c clean =
+pub returns-in-Ok-clause-register : goal.returns-in-Ok-clause-register
+returns-in-Ok-clause-register g c clean =
     let same = c.end-in-Ok.ensures.connection ∙ c.end.ensures in record {
       good = c.in-Ok.ensures.good;
       staffed = reached_are_staffed jones_register c.in-Ok.ensures.reached;

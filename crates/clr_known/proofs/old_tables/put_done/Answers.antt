@@ -1,0 +1,4 @@
+use Rattle.clr_known.proofs.old_tables.put_done.Goals as goal
+
+pub returns : goal.returns
+returns g c = c.put.ensures

@@ -1,0 +1,121 @@
+//! A machine whose database has the register of JONES/1 in tables of version 1, and their move.
+ghost use Rattle.std.specs.Prelude.{◌≡◌, codes, false, IfErr, IfOk};
+ghost use Rattle.sqlite.specs.Files.{over_files};
+ghost use Rattle.sqlite.specs.Held.{state};
+ghost use Rattle.sqlite.specs.State.{HasCleanDisk};
+ghost use Rattle.clr_edge.specs.Database.{IsOfLine};
+ghost use Rattle.clr_known.specs.Known.{IsAlwaysClean, IsVersionTwo};
+ghost use Rattle.clr_known.specs.OldTables.{HasOldJones, KnowsOldJones, MovesJones};
+
+use crate::databases::{empty_database, of_line};
+use crate::old_tables::make_old;
+use clr_commands::migrate::migrate;
+use clr_edge::database::Databases;
+use clr_edge::fault::Fault;
+use clr_load::StoreFault;
+use sqlite::{Alter, Connection, FileStore};
+use sqlite_disk::{Files, Memory};
+use std::alloc::Global;
+
+/// A machine in memory whose database is of version 1.
+#[derive(Drop)]
+pub struct OldKnown {
+    pub alloc: Global,
+}
+
+/// None keeps what is written to it.
+impl Databases for OldKnown {
+    ghost use Rattle.std.specs.Prelude.{◌≡◌};
+    ghost use Rattle.sqlite.specs.Files.{over_files};
+    ghost use Rattle.sqlite.specs.Held.{state};
+    ghost use Rattle.clr_known.specs.OldTables.{HasOldJones};
+
+    type Medium = Memory;
+
+    ghost opens = { λ old _ _ connection new.
+        (new ≡ old) × HasOldJones (state over_files connection).now };
+
+    ghost shuts = { λ old _ _ new. new ≡ old };
+
+    ghost ends = { λ old _ new. new ≡ old };
+
+    fn stored(&mut self, path: &str) -> Result<Connection<FileStore<Memory>>, Fault>
+        ensures opens { IfOk result (λ connection.
+            (self.new ≡ self.old) × HasOldJones (state over_files connection).now) }
+        ensures mode { IfOk result (λ connection. connection.in_transaction ≡ false) }
+        ensures shuts { IfErr result (λ _. self.new ≡ self.old) }
+        ensures fault { IfErr result IsOfLine }
+    {
+        if path == "old.db" {
+            old_database(self.alloc)
+        } else {
+            Err(Fault::Store(StoreFault::Sql))
+        }
+    }
+
+    fn give_back(&mut self, files: Files<Memory>)
+        ensures { self.new ≡ self.old }
+    {
+        drop(files);
+    }
+}
+
+/// A machine whose databases have the register of JONES/1 in tables of version 1, and whose disks are
+/// clean.
+pub trait OldMachine: Databases {
+    ghost knows: { KnowsOldJones Self.Medium.Disk Self.opens };
+
+    ghost clean: { IsAlwaysClean Self.Medium.Disk };
+}
+
+impl OldMachine for OldKnown {
+    ghost use Rattle.clr_known.specs.Clean.{always_clean};
+
+    ghost knows = { λ old new path connection opened. opened.1 };
+
+    ghost clean = { λ connection. always_clean connection };
+}
+
+/// The move of its tables.
+fn move_of_old<R: OldMachine>(alloc: Global, machine: &mut R) -> Result<String, Fault>
+    ensures moved { MovesJones R.Medium.Disk R.opens R.ends (codes "old.db") result machine.old
+        machine.new }
+    ensures printed { IsVersionTwo result }
+{
+    migrate(alloc, machine, "old.db")
+}
+
+/// The same of the machine in memory.
+pub fn known_move(machine: &mut OldKnown) -> Result<String, Fault>
+    ensures { IsVersionTwo result }
+{
+    move_of_old(machine.alloc, machine)
+}
+
+/// A database of version 1 that has the register.
+fn old_database(alloc: Global) -> Result<Connection<FileStore<Memory>>, Fault>
+    ensures tables { IfOk result (λ connection.
+        HasOldJones (state over_files connection).now) }
+    ensures mode { IfOk result (λ connection. connection.in_transaction ≡ false) }
+    ensures fault { IfErr result IsOfLine }
+{
+    let connection = empty_database(alloc)?;
+    match old_made(connection) {
+        Ok(connection) => Ok(connection),
+        Err(fault) => Err(of_line(Fault::from(fault))),
+    }
+}
+
+/// An empty database, once it has those tables.
+fn old_made<S: Alter + Drop>(connection: Connection<S>) -> Result<Connection<S>, StoreFault>
+    ensures tables { IfOk result (λ made. HasCleanDisk (state S.Store made)
+        → HasOldJones (state S.Store made).now) }
+    ensures mode { connection.in_transaction ≡ false
+        → IfOk result (λ made. made.in_transaction ≡ false) }
+{
+    let mut made = connection;
+    match make_old(&mut made) {
+        Ok(()) => Ok(made),
+        Err(fault) => Err(fault),
+    }
+}
