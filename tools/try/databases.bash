@@ -101,6 +101,26 @@ huge="CAST(replace(hex(zeroblob(1000000)), '00', 'A') AS TEXT)"
 written 'WrongVersion 9' 'another version' 'UPDATE meta SET value = 9'
 written 'WrongVersion -9223372036854775808' 'the least version' 'UPDATE meta SET value = -9223372036854775808'
 written 'BadRow meta' 'no version' 'DELETE FROM meta'
+written Sql 'no meta' 'DROP TABLE meta'
+written Sql 'a view for meta' 'DROP TABLE meta' "CREATE VIEW meta AS SELECT 'version' AS name, 2 AS value"
+written 'BadRow meta' 'a version that is a text' 'DROP TABLE meta' 'CREATE TABLE meta (name, value)' \
+  "INSERT INTO meta VALUES ('version', '2')"
+written 'WrongVersion 9' 'another version and another table' 'UPDATE meta SET value = 9' 'CREATE TABLE more (name TEXT)'
+written OtherTables 'another table' 'CREATE TABLE more (name TEXT PRIMARY KEY) STRICT'
+written OtherTables 'the table of version 1' 'CREATE TABLE point (name TEXT)'
+written OtherTables 'a table that the program cannot read' 'CREATE TABLE more (name TEXT COLLATE RTRIM, size AS (length(name)))'
+written OtherTables 'an index' 'CREATE INDEX held ON hold (place)'
+written OtherTables 'a view' 'CREATE VIEW held AS SELECT place FROM hold'
+written OtherTables 'a trigger' 'CREATE TRIGGER held AFTER INSERT ON hold BEGIN DELETE FROM step; END'
+written OtherTables 'statistics' ANALYZE
+written OtherTables 'no table of holds' 'DROP TABLE hold'
+written OtherTables 'a table under another name' 'ALTER TABLE hold RENAME TO holds'
+written OtherTables 'a column more' 'ALTER TABLE section ADD COLUMN note TEXT'
+written OtherTables 'a meta of two rows' "INSERT INTO meta VALUES ('mark', 1)"
+written OtherTables 'a meta that is not STRICT' 'DROP TABLE meta' \
+  'CREATE TABLE meta (name TEXT NOT NULL, value INTEGER NOT NULL, PRIMARY KEY (name))' "INSERT INTO meta VALUES ('version', 2)"
+written OtherTables 'a table with a CHECK' 'DROP TABLE hold' \
+  "CREATE TABLE hold (kind TEXT NOT NULL CHECK (kind <> ''), place TEXT NOT NULL, requester TEXT NOT NULL, number INTEGER NOT NULL, PRIMARY KEY (kind, place, requester, number)) STRICT"
 written 'BadRow section' 'a name of a million bytes' "UPDATE section SET name = $huge WHERE name = 'L2'"
 written 'BadRow section' 'a name of 25 bytes' "UPDATE section SET name = 'ABCDEFGHIJKLMNOPQRSTUVWXY' WHERE name = 'G'"
 written 'BadRow section' 'an empty name' "UPDATE section SET name = '' WHERE name = 'G'"

@@ -70,7 +70,12 @@ not_moved 'BadRow meta' 'no version' 'DELETE FROM meta'
 not_moved Sql 'no meta' 'DROP TABLE meta'
 not_moved 'BadRow point' 'half a hand' "UPDATE point SET hand_requester = 'JONES' WHERE name = 'S3'"
 not_moved 'BadRow point' 'a position beyond its type' "UPDATE point SET position = 2 WHERE name = 'T1'"
-not_moved Sql 'a network_point of somebody else' 'CREATE TABLE network_point (name TEXT PRIMARY KEY)'
+not_moved OtherTables 'a network_point of somebody else' 'CREATE TABLE network_point (name TEXT PRIMARY KEY)'
+not_moved OtherTables 'another index, before a point that does not read' 'CREATE INDEX held ON hold (place)' \
+  "UPDATE point SET position = 2 WHERE name = 'T1'"
+not_moved OtherTables 'statistics' ANALYZE
+not_moved OtherTables 'a meta of two rows' "INSERT INTO meta VALUES ('mark', 1)"
+not_moved OtherTables 'no table of holds' 'DROP TABLE hold'
 no_register 'no file' migrate "$place/room.db"
 : >"$place/room.db"
 no_register 'an empty file' migrate "$place/room.db"

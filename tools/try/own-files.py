@@ -1,0 +1,87 @@
+#!/usr/bin/env python3
+"""A file of the database that is named for something else is refused, however it is spelled, and nothing is changed."""
+
+import os
+import shutil
+
+from looks import EXAMPLES, FILES, REQUEST, look, main, register, run, same
+
+ENDINGS = ("", "-journal", "-wal", "-shm")
+LOGINS = "login,employee\nJONES,JONES\n"
+
+
+def held(folder):
+    """All files of a folder, with their bytes, and where its links lead."""
+    found = {}
+    for path in sorted(folder.rglob("*")):
+        name = str(path.relative_to(folder))
+        found[name] = os.readlink(path) if path.is_symlink() else path.read_bytes() if path.is_file() else None
+    return found
+
+
+def refused(folder, title, subject, *words):
+    before = held(folder)
+    same(title, run(*words, lines=[REQUEST], folder=folder), (1, "", f"fault: {subject} SameFile\n"))
+    look(f"{title}: nothing is changed", held(folder) == before, sorted(held(folder)))
+
+
+def spellings(folder, name):
+    """Other words for a file of this folder."""
+    (folder / "sub").mkdir(exist_ok=True)
+    if not (folder / "there").exists():
+        (folder / "there").symlink_to(".")
+    return name, f"./{name}", f"sub/../{name}", f"there/{name}", f".//{name}", str(folder / name)
+
+
+def journals(folder):
+    register(folder / "room.db", [REQUEST])
+    for ending in ENDINGS:
+        for path in spellings(folder, f"room.db{ending}"):
+            refused(folder, f"run --journal {path}", "journal", "run", "--db", "room.db", "--journal", path)
+            refused(folder, f"serve --journal {path}", "journal", "serve", "room.db", "--port", "1", "--count", "1", "--journal", path)
+            refused(folder, f"serve --logins {path}", "logins", "serve", "room.db", "--port", "1", "--count", "1", "--desk", "--logins", path)
+
+
+def links(folder):
+    path = register(folder / "room.db", [REQUEST])
+    (folder / "link.db").symlink_to("room.db")
+    for ending in ENDINGS:
+        refused(folder, f"by a link, room.db{ending}", "journal", "run", "--db", "link.db", "--journal", f"room.db{ending}")
+    (folder / "link").symlink_to("room.db")
+    refused(folder, "a link to the database", "journal", "run", "--db", "room.db", "--journal", "link")
+    os.link(path, folder / "second")
+    refused(folder, "a second name of the database", "journal", "run", "--db", "room.db", "--journal", "second")
+    (folder / "second").unlink()
+    if (folder / "room.db-wal").exists():
+        os.link(folder / "room.db-wal", folder / "second")
+        refused(folder, "a second name of the log", "journal", "run", "--db", "room.db", "--journal", "second")
+        (folder / "second").unlink()
+
+
+def files(folder):
+    """The three files of `init` and of `verify`."""
+    for ending in ENDINGS:
+        for place, subject in enumerate(("sections", "points", "staff")):
+            name = f"room.db{ending}"
+            shutil.copy(FILES[place], folder / name)
+            words = list(FILES)
+            words[place] = name
+            refused(folder, f"init, {subject} in {name}", subject, "init", *words, "--db", "room.db")
+            refused(folder, f"init, {subject} in ./{name}", subject, "init", *[word if word != name else f"./{name}" for word in words], "--db", "room.db")
+            (folder / name).unlink()
+    register(folder / "room.db")
+    refused(folder, "verify, its journal", "journal", "verify", "room.db", "room.db-wal", *FILES)
+
+
+def others(folder):
+    """A file of another database, or of a like name, is none of these."""
+    register(folder / "room.db")
+    register(folder / "other.db")
+    same("a journal of a like name", run("run", "--db", "room.db", "--journal", "room.db-log", lines=[REQUEST], folder=folder)[0], 0)
+    same("a journal beside another database", run("run", "--db", "room.db", "--journal", "other.db-journal", lines=[REQUEST], folder=folder)[0], 0)
+    (folder / "logins.csv").write_text(LOGINS, encoding="ascii")
+    look("the examples are there", (EXAMPLES / "sections.csv").exists())
+
+
+if __name__ == "__main__":
+    main(journals, links, files, others)
