@@ -83,17 +83,30 @@ def of_descriptors(folder):
         limited(server)
         with server.connect():
             same("without options: a line for each", server.ended(), (0, "".join(map(MISSED.format, (1, 2, 3)))))
+    for _ in range(TRIES // 10):
+        if taken_at_a_later_try(path):
+            break
+    else:
+        look("--desk: descriptors are short for a moment", False, "the machine was too slow to try it")
+
+
+def taken_at_a_later_try(path):
+    """Descriptors are short for less time than a desk's server asks for. Says whether this machine was quick enough."""
     with Server(path, "--desk", count=2) as server:
+        since = time.monotonic()
         hard = limited(server)
         with server.connect() as connection:
             connection.sendall(get("/board", OWN))
             time.sleep(0.3)
             resource.prlimit(server.process.pid, resource.RLIMIT_NOFILE, (hard, hard))
+            if time.monotonic() - since > 0.6:
+                return False
             answer = connection.recv(65536)
         look("--desk: a connection that is taken at a later try is answered", answer.startswith(b"HTTP/1.1 200 "), answer)
         answer, error = asked(server, get("/board", OWN))
         look("--desk: it counts once", answer.startswith(b"HTTP/1.1 200 ") and not error, (answer, error))
         same("--desk: and nothing is reported", server.ended(), (0, ""))
+    return True
 
 
 if __name__ == "__main__":
