@@ -1,9 +1,9 @@
 -- Registers that have the same of a clearance: each check of a command that names it says the same.
-use Rattle.std.proofs.Common.{◌≡◌, ℕ, Bool, false, not, List, [], ◌∷◌, Option, Some, None, is_some, sym, ap, subst}
+use Rattle.std.proofs.Common.{◌≡◌, ℕ, Bool, false, not, List, Option, Some, None, is_some, sym, ap, subst}
 use Rattle.clr_staff.specs.declared.employee.Role.{Role}
-use Rattle.clr_rules.proofs.Common.{StepState, named_clearance, Kind, Tested, Ground, Crew, Phase, Refusal, StepRow, Id, Register, is_granted, step_at, has_hold, is_order, is_in_turn}
-use Rattle.clr_rules.specs.Commands.{Known, by_holder, by_role, checks}
-use Rattle.clr_rules.specs.Checks.{at_step, at_work, crew_is_on, is_charge, no_step, no_ground, not_tested, out_of_turn, refuse, where_some, wrong_state}
+use Rattle.clr_rules.proofs.Common.{StepState, named_clearance, Kind, Tested, Ground, Phase, Refusal, StepRow, Id, Register, step_at, is_order, is_in_turn}
+use Rattle.clr_rules.specs.Commands.{Known, by_role, checks}
+use Rattle.clr_rules.specs.Checks.{at_step, no_step, no_ground, not_tested, out_of_turn, refuse, where_some, wrong_state}
 use Rattle.clr_rules.specs.laws.Own.{SameOwn, is_instruct}
 use Rattle.clr_rules.proofs.near.OwnQuestions.{same_has_hold, same_held_among, same_present, same_round, same_some_hold}
 use Rattle.clr_rules.specs.declared.command.Kind.TheVariants as kinds
@@ -28,23 +28,17 @@ module _ (c : Id) (R S : Register) (same : SameOwn c R S) where
   grounded_at : (section : List ℕ) → no_ground R c section ≡ no_ground S c section
   grounded_at section = ap (λ (b : Bool). refuse (not b) refusals.NotGrounded) (same_has_hold c R S same Ground section)
 
-  crew : (name : List ℕ) → has_hold R.holds c Crew name ≡ has_hold S.holds c Crew name
-  crew name = same_has_hold c R S same Crew name
+  -- as one check of each section
+  pub tested_alike : not_tested R c ≡ not_tested S c
+  tested_alike = λ i section. tested section i
 
-  at_works : (first second : List ℕ → Option Refusal) → ((work : List ℕ) → first work ≡ second work) → at_work R c first ≡ at_work S c second
-  at_works first second alike = λ i. where_some (same.own_record i) (λ r. where_some r.work (λ work. alike work i))
-
-  no_crew : (name : List ℕ) → crew_is_on R c name ≡ crew_is_on S c name
-  no_crew name = ap (λ (b : Bool). refuse b refusals.CrewState) (crew name)
+  pub grounded_alike : no_ground R c ≡ no_ground S c
+  grounded_alike = λ i section. grounded_at section i
 
   -- commands that begin alike
   pub same_by_role : (by : List ℕ) (at : ℕ) (roles : Role → Bool) (phases : Phase → Bool) {own others : List (Option Refusal)} → own ≡ others
       → by_role R by at c roles phases own ≡ by_role S by at c roles phases others
   same_by_role by at roles phases own = simp (same.staff, same.own_record, own)
-
-  same_by_holder : (by : List ℕ) (at : ℕ) (roles : Role → Bool) (phases : Phase → Bool) {own others : List (Option Refusal)} → own ≡ others
-      → by_holder R by at c roles phases own ≡ by_holder S by at c roles phases others
-  same_by_holder by at roles phases own = simp (same.staff, same.own_record, own)
 
 -- the same of the clearance that is named
 abbrev pub SameOfNamed : Register → Register → Option Id → Type 0
@@ -61,7 +55,6 @@ module _ (k : Known) (R S : Register) (by : List ℕ) (at : ℕ) where
   same_checks (kinds.Jumper point from to lockable remote) same no_order no_instruct = absurd same
   same_checks (kinds.Order c points tasks) same no_order no_instruct = cc no_order
   same_checks (kinds.Instruct c n) same no_order no_instruct = cc no_instruct
-  same_checks (kinds.SignOn c crew) same no_order no_instruct = same_by_holder c R S same by at is_charge is_granted (λ i. at_works c R S same (not_tested R c) (not_tested S c) (tested c R S same) i ∷ at_works c R S same (no_ground R c) (no_ground S c) (grounded_at c R S same) i ∷ no_crew c R S same crew i ∷ [])
   -- a check that looks at no more than the record, the steps, the holds and the staff
   same_checks _ same no_order no_instruct = simp (
     same.staff,
@@ -71,6 +64,8 @@ module _ (k : Known) (R S : Register) (by : List ℕ) (at : ℕ) where
     same_has_hold _ R S same,
     same_some_hold _ R S same,
     same_held_among _ R S same,
+    tested_alike _ R S same,
+    grounded_alike _ R S same,
   )
 
 pub checks_of_own : (c : Id) (R S : Register) → SameOwn c R S → (k : Known) (by : List ℕ) (at : ℕ) (kind : Kind)
