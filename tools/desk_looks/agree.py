@@ -15,23 +15,6 @@ BOARD = """const text = (node) => node.innerText.replace(/\\s+/g, ' ').trim();
 PLACES = """return Object.fromEntries([...document.querySelectorAll('main .net [data-kind]')].map((node) =>
     [node.dataset.kind + ' ' + node.dataset.name, node.getAttribute('transform')]))"""
 PRINTED = re.compile(r"(\d+)  (-|\S+ \S+ \S+)  (\S+)  (\S+(?: \(\S+\))?)  (.*)  (accepted|added|refused \S+)")
-# The words of the program, and those of the page for the same.
-WORDS = (
-    (r"request (\S+)", r"asked for, section \1"),
-    (r"(instruct) (\d+) (\S+ \S+)", r"step \2, \3: given out"),
-    (r'(repeat) (\d+) (\S+ \S+) ".*"', r"step \2, \3: repeated"),
-    (r"(report) (\d+) (\S+ \S+) ((?:not )?done)", r"step \2, \3: \4"),
-    (r"grant", "granted"),
-    (r"cancel", "cancelled"),
-    (r"release, notified, clear", "released: all notified, all clear"),
-    (r"test (\S+) dead", r"\1 tested dead"),
-    (r"test (\S+) not dead", r"\1 tested live"),
-    (r"ground (\S+)", r"ground on at \1"),
-    (r"unground (\S+)", r"ground off at \1"),
-    (r"sign (on|off) (\S+)", r"crew \2 \1"),
-    (r"switch, (.*)", r"switch order: \1"),
-    (r"jumper (\S+) from (\S+) to (\S+)(.*)", r"add jumper \1 between \2 and \3\4"),
-)
 SAID = {
     "request": "request section {section}", "order": "order {clearance}: points ", "restore": "restore {clearance}: ", "switch": "switch order: ",
     "instruct": "instruct step {step} of {clearance}", "repeat": "repeat step {step} of {clearance}: “{text}”", "report": "report step {step} of {clearance} ",
@@ -88,18 +71,7 @@ class Facts:
         at = entry["received"] if moment == "-" else seconds(moment)
         if entry["reply"]["reply"] == "added":
             reply = "added"  # which the program prints as accepted
-        return [number, at, clearance.replace("-", "–") if clearance == "-" else clearance, who.replace("(", "(login "), page_words(what), reply.replace("refused ", "refused: ")]
-
-
-def page_words(what):
-    steps = re.fullmatch(r"(order|restore)(.*?), (.*)", what)
-    if steps:
-        count = len(steps[3].split(", "))
-        return f"isolating order: points {', '.join(steps[2].split())}, {count} steps" if steps[1] == "order" else f"restoring order: {count} steps"
-    found = next((re.sub(own, page, what) for own, page in WORDS if re.fullmatch(own, what)), None)
-    if found is None:
-        raise Differs(f"the journal is printed with words that this look does not know: {what}")
-    return found
+        return [number, at, clearance.replace("-", "–") if clearance == "-" else clearance, who.replace("(", "(login "), what, reply.replace("refused ", "refused: ")]
 
 
 def steps_words(view):

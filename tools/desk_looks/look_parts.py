@@ -71,7 +71,7 @@ def of_record(stage):
     step = next(row for row in rows(hand) if row[0] == "1.1")
     if step[1] != "OPEN N15-Q13" or not all(name in cell for name, cell in zip(("DISP1", "REED", "REED"), step[2:])):
         raise Differs(f"the first step is {step}")
-    hand.shows("asked for, section N15-F13")
+    hand.shows("request N15-F13")
     hand.press("print 1")
     hand.shows("Repeated by", "main .paper")
     hand.shows("OPEN N15-Q13", "main .paper .story")
@@ -106,7 +106,7 @@ def searches(stage):
     if len(found) != 1 or "OPEN N14-Q21" not in found[0][4]:
         raise Differs(f"at N14-F21 are {found}")
     texts = [row[4] for row in search(hand, section="N13-F11")]
-    if not any("N13-F11 tested live" in text for text in texts) or not any("OPEN N13-Q11: given out" in text for text in texts) or any("N14-Q21" in text for text in texts):
+    if not any("test N13-F11 not dead" in text for text in texts) or not any("instruct 1 OPEN N13-Q11" in text for text in texts) or any("N14-Q21" in text for text in texts):
         raise Differs(f"at N13-F11 are {texts}")
     if search(hand, login="OPS") or search(hand) != everything:
         raise Differs("without logins the search by login finds something")

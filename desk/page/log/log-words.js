@@ -1,23 +1,27 @@
 // The journal as a log: what each entry says in words, with the texts of steps, and the story of a record.
 
-import { SAID } from "../replies/words.js";
 import { shortTime, span } from "../shared/moments.js";
 import { isLackedByBoard } from "./board-lacks.js";
 import { journal } from "./journal.js";
 
 const LATE = 60; // seconds from the stated moment to that of the machine that are said
-const STEP_WORDS = { instruct: "given out", repeat: "repeated", amend: "amended to LEAVE" };
-const OTHER_WORDS = {
-  request: (c) => `asked for, section ${c.section}`,
-  order: (c) => `isolating order: points ${c.points.join(", ")}, ${c.steps.length} steps`,
-  restore: (c) => `restoring order: ${c.steps.length} steps`,
-  switch: (c) => `switch order: ${c.steps.join(", ")}`,
-  grant: () => "granted", cancel: () => "cancelled", release: () => "released: all notified, all clear",
-  test: (c) => `${c.section} tested ${c.dead ? "dead" : "live"}`,
-  ground: (c) => `ground on at ${c.section}`, unground: (c) => `ground off at ${c.section}`,
-  sign_on: (c) => `crew ${c.crew} on`, sign_off: (c) => `crew ${c.crew} off`,
-  show: () => "looked at",
-  transfer: (c) => `transferred to ${c.to}${c.emergency ? " in an emergency" : ""}`,
+const numbered = ({ step }, text) => (text ? `${step} ${text}` : `${step}`);
+const points = (c) => c.points.map((point) => ` ${point}`).join("");
+const steps = (c) => c.steps.map((step) => `, ${step}`).join("");
+
+// What a command says: the words of `gridclear journal`.
+const WORDS = {
+  request: (c) => `request ${c.section}`,
+  order: (c) => `order${points(c)}${steps(c)}`, restore: (c) => `restore${steps(c)}`, switch: (c) => `switch${steps(c)}`,
+  instruct: (c, text) => `instruct ${numbered(c, text)}`, amend: (c, text) => `amend ${numbered(c, text)}`,
+  repeat: (c, text) => `repeat ${numbered(c, text)} ${JSON.stringify(c.text)}`,
+  report: (c, text) => `report ${numbered(c, text)} ${c.done ? "done" : "not done"}`,
+  test: (c) => `test ${c.section} ${c.dead ? "dead" : "not dead"}`,
+  ground: (c) => `ground ${c.section}`, unground: (c) => `unground ${c.section}`,
+  sign_on: (c) => `sign on ${c.crew}`, sign_off: (c) => `sign off ${c.crew}`,
+  transfer: (c) => `${c.emergency ? "emergency transfer" : "transfer"} to ${c.to}`,
+  release: (c) => `release, ${c.notified ? "notified" : "not notified"}, ${c.clear ? "clear" : "not clear"}`,
+  jumper: (c) => `jumper ${c.point} from ${c.from} to ${c.to}${c.lockable ? ", lockable" : ""}${c.remote ? ", remote" : ""}`,
 };
 
 export function recordOf({ command, reply }) {
@@ -51,13 +55,8 @@ function rowsOf(entries) {
     const texts = orders.get(`${id} ${round}`) ?? [];
     const text = command.step ? texts[command.step - 1] ?? repeated.get(`${id} ${round}.${command.step}`) ?? null : null;
     if (done && command.do === "amend" && text) texts[command.step - 1] = text.replace(/^CLOSE/, "LEAVE");
-    return { entry, id, round, at: command.at ?? entry.received, by: command.by, text, done, what: whatWords(command, text) };
+    return { entry, id, round, at: command.at ?? entry.received, by: command.by, text, done, what: WORDS[command.do]?.(command, text) ?? command.do };
   });
-}
-
-function whatWords(command, text) {
-  if (command.step) return `step ${command.step}${text ? `, ${text}` : ""}: ${command.do === "report" ? (command.done ? "done" : "not done") : STEP_WORDS[command.do]}`;
-  return (OTHER_WORDS[command.do] ?? SAID[command.do])?.(command) ?? command.do;
 }
 
 // Who gave it, with the login where that is another.

@@ -86,7 +86,7 @@ export function statusWords(status) {
 }
 
 // A command as one would say it.
-export const SAID = {
+const SAID = {
   request: (c) => `request section ${c.section}`,
   order: (c) => `order ${c.clearance}: points ${c.points.join(", ")}, ${c.steps.length} steps`,
   instruct: (c) => `instruct step ${c.step} of ${c.clearance}`,
