@@ -149,7 +149,7 @@ ties_shift : (n at : ℕ) (k v : Value) (key row : Row) → ties_from (suc at) n
 ties_shift zero at k v key row = refl
 ties_shift (suc n) at k v key row = ap (λ b. is_eq (value_cmp (column row at) (column key at)) && b) (ties_shift n (suc at) k v key row)
 
-sets_shift : (n at : ℕ) (k : Value) (key : Row) → sets_from (suc at) n (k ∷ key) ≡ sets_from at n key
+pub sets_shift : (n at : ℕ) (k : Value) (key : Row) → sets_from (suc at) n (k ∷ key) ≡ sets_from at n key
 sets_shift zero at k key = refl
 sets_shift (suc n) at k key = ap (λ b. is_set (column key at) && b) (sets_shift n (suc at) k key)
 

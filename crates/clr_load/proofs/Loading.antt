@@ -6,7 +6,7 @@ use Rattle.std.specs.Ordering.{is_lt}
 use Rattle.std.specs.declared.cmp.Ordering.{Ordering}
 use Rattle.std.specs.declared.cmp.Ordering.TheVariants.{Less, Equal, Greater}
 use Rattle.std.proofs.lemmas.List.{length-take-le}
-use Rattle.std.proofs.lemmas.List.Sorted.{IsPermutation-map, IsPermutation-trans}
+use Rattle.std.proofs.lemmas.List.Sorted.{IsPermutation-map, IsPermutation-trans, length_permutation}
 use Rattle.sqlite.specs.Order.{Row, column, row_cmp}
 use Rattle.sqlite.specs.Program.{overlay}
 use Rattle.sqlite.specs.Query.{IsAnswer, Output, output, output_cmp}
@@ -155,6 +155,32 @@ lists l old new name t shown there has ordered ran =
     let text = select_is l name there in
     let read = reads_as (select_sql name) [] old new (schema_in l) has.schema _ text.is text.plain (select_unlisted l name there) shown ran in
     answer_is l name old.now.trees (rows_in l name t) shown (has.rows name there) (ordered name) (read.answer Null)
+
+pub no_length : {X : Type 0} (xs : List X) → length xs ≡ 0 → xs ≡ []
+no_length [] few = refl
+no_length (x ∷ xs) few = absurd (omega (arith, few))
+
+-- where nothing is listed, nothing is there
+no_items : {X Y : Type 0} (f : X → Y) (xs : List X) → [] ≡ map f xs → xs ≡ []
+no_items f [] none = refl
+no_items f (x ∷ xs) none = absurd cc
+
+none_answered : (l : Layout) (name : TableName) (db : Trees) → IsAnswer (listing l name) (overlay db []) [] [] → db (tree_in l name) ≡ []
+none_answered l name db a =
+    let tree = db (tree_in l name) in
+    let kept : a.kept ≡ map (shown_as name) (bodies tree) =
+    a.distinct ∙ ap (map (output (listing l name))) (a.grouped ∙ ap (flat_map (λ r. ([] ∷ r ∷ []) ∷ [])) (laid db (tree_in l name)) ∙ each_row tree) ∙ outputs l name tree in
+    let ordered = no_items (λ (o : Output). o.1) a.ordered a.shown in
+    let few : length a.kept ≡ 0 = sym (length_permutation a.kept a.ordered a.same) ∙ ap length ordered in
+    let none : [] ≡ map (shown_as name) (bodies tree) = sym (no_length a.kept few) ∙ kept in
+    no_items (drop 1) tree (sym (no_items (shown_as name) (bodies tree) none))
+
+pub none_listed : (l : Layout) (old new : State) (name : TableName) (shown : List Row) → has_table l name ≡ true → old.now.schema ≡ schema_in l
+    → Shown (select_sql name) [] old new shown → shown ≡ [] → old.now.trees (tree_in l name) ≡ []
+none_listed l old new name shown there has ran none =
+    let text = select_is l name there in
+    let read = reads_as (select_sql name) [] old new (schema_in l) has _ text.is text.plain (select_unlisted l name there) shown ran in
+    none_answered l name old.now.trees (subst (IsAnswer (listing l name) (overlay old.now.trees []) []) none (read.answer Null))
 
 -- the rows that have the version are listed whatever the other tables are
 pub lists_meta : (old new : State) (meta shown : List Row) → HasMeta old.now meta → Shown (select_sql Meta) [] old new shown → shown ≡ meta

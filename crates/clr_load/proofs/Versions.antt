@@ -1,5 +1,5 @@
 -- How a version that was read is reported.
-use Rattle.std.proofs.Common.{◌≡◌, ◌∙◌, ◌≤◌, ℕ, zero, suc, arith, Err, Ok, pos, ap, Result, List, Option, Some, None, sym, subst, ℤ}
+use Rattle.std.proofs.Common.{◌≡◌, ◌∙◌, ◌≤◌, ◌⊎◌, inl, inr, ℕ, zero, suc, arith, Err, Ok, pos, ap, Result, List, Option, Some, None, sym, subst, ℤ}
 use Rattle.std.specs.Prelude.{find, IfErr}
 use Rattle.sqlite.specs.Effect.{Database}
 use Rattle.sqlite.specs.Order.{Row, column}
@@ -88,6 +88,11 @@ not_other NoMemory of is = absurd cc
 not_other (BadRow table) of is = absurd of
 not_other (WrongVersion n) of is = absurd of
 not_other OtherTables of is = of
+
+-- so what holds unless the database is at fault holds of other tables
+pub surely : (P : Type 0) (fault : StoreFault) → fault ≡ OtherTables → P ⊎ IsOfDatabase fault → P
+surely P fault is (inl here) = here
+surely P fault is (inr of) = absurd (not_other fault of is)
 
 pub version_not_other : (fault : StoreFault) → IsOfVersion fault → fault ≡ OtherTables → ⊥
 version_not_other Sql of is = absurd cc

@@ -1,7 +1,7 @@
 -- WHAT A DATABASE HOLDS: the tables of a register, each row once, in any order.
 use Rattle.std.specs.Prelude.{◌≡◌, ℕ, Bool, true, false, ◌&&◌, ◌==◌, length, List, [], ◌∷◌, map}
 use Rattle.std.specs.Prelude.{None, drop, take}
-use Rattle.std.specs.List.{list_all}
+use Rattle.std.specs.List.{AllByRecursion, list_all}
 use Rattle.std.specs.List.Sorted.{IsPermutation}
 use Rattle.sqlite.specs.Effect.{Database, IsDatabase}
 use Rattle.sqlite.specs.Kind.{Kind}
@@ -124,6 +124,25 @@ pub record IsLaidOut (version : ℕ) (db : Database) : Type 0 where
   pub layout : Layout
   pub version_is : version_of layout ≡ version
   pub schema : db.schema ≡ schema_in layout
+  -- the `point` that a move has emptied is empty
+  pub emptied : layout ≡ AsMoved → db.trees (tree_in AsMoved Point) ≡ []
+
+-- the rows of each table of a layout have numbers of their own, which rise from row to row
+abbrev pub AreNumbered : Layout → Trees → Type 0
+AreNumbered l trees = (name : TableName) → has_table l name ≡ true
+    → IsShaped Table (trees (tree_in l name))
+
+-- EACH ROW OF A LAYOUT IS WHOLE: it has its number, and all columns of its table. A row that was
+-- written before a column was added may lack it
+pub record AreWhole (l : Layout) (trees : Trees) : Type 0 where
+  pub numbered : AreNumbered l trees
+  pub columns : (name : TableName) → has_table l name ≡ true
+      → AllByRecursion (λ row. length (drop 1 row) ≡ length (columns_in name))
+      (trees (tree_in l name))
+
+-- the same of the layout that a database has, if it has one
+abbrev pub HasWholeRows : Database → Type 0
+HasWholeRows db = (l : Layout) → db.schema ≡ schema_in l → AreWhole l db.trees
 
 -- AND NO OTHER ROWS: the database has tables of this version, and `meta` has its one row
 pub record HasVersion (version : ℕ) (db : Database) : Type 0 where

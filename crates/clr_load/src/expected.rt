@@ -4,12 +4,14 @@ ghost use Rattle.std.specs.Prelude.{IfNone, IfOk, IfSome, IsErrAnd, List};
 ghost use Rattle.std.specs.Prelude.{IsTrue, MatchResult, Ok, OnOk};
 ghost use Rattle.sqlite.specs.Held.{state};
 ghost use Rattle.sqlite.specs.Order.{Row as SqlRow};
-ghost use Rattle.sqlite.specs.State.{HasCleanDisk, IsUnchanged, Shown, Survives};
+ghost use Rattle.sqlite.specs.State.{HasCleanDisk, IsLive, IsUnchanged, Shown, Survives};
 ghost use Rattle.clr_tables.specs.RowsRead.{read_version};
+ghost use Rattle.clr_tables.specs.declared.table_name.TableName.TheVariants.{Point};
 ghost use Rattle.clr_load.specs.Cause.{SqlHasCause};
 ghost use Rattle.clr_load.specs.Contract.{TellsVersion};
 ghost use Rattle.clr_load.specs.Fault.{IsOfDatabase, IsOfExpected, IsOfTables};
-ghost use Rattle.clr_load.specs.Layout.{Layout as AnyLayout, has_table, version_of};
+ghost use Rattle.clr_load.specs.Layout.{AsMoved, Layout as AnyLayout, has_table, tree_in};
+ghost use Rattle.clr_load.specs.Layout.{version_of};
 ghost use Rattle.clr_load.specs.Loads.{Stays};
 ghost use Rattle.clr_load.specs.Schema.{schema_in};
 ghost use Rattle.clr_load.specs.Sql.{select_sql};
@@ -75,6 +77,9 @@ fn expect_rows<S: Alter>(conn: &mut Connection<S>, layout: Layout) -> Result<(),
     ensures committed { HasCleanDisk (state S.Store conn.new)
         → IsTrue (state S.Store conn.new).is_open
         → (state S.Store conn.new).committed ≡ (state S.Store conn.old).committed }
+    ensures emptied { HasCleanDisk (state S.Store conn.new)
+        → (state S.Store conn.old).now.schema ≡ schema_in layout → OnOk result (layout ≡ AsMoved
+        → (state S.Store conn.old).now.trees (tree_in AsMoved Point) ≡ []) }
     ensures cause { conn.old.in_transaction ≡ false → HasCleanDisk (state S.Store conn.new)
         → (state S.Store conn.old).now.schema ≡ schema_in layout
         → IfErr result (SqlHasCause (state S.Store conn.old) (state S.Store conn.new)) }
@@ -126,6 +131,7 @@ pub fn expect_version<S: Alter>(conn: &mut Connection<S>, oldest: u8) -> Result<
     ensures alone { HasCleanDisk (state S.Store conn.new) → IfOk result (λ version. (n : ℕ)
         → version ≡ pos n → 1 ≤ n → oldest ≤ n → n ≤ 2 → (meta : List SqlRow)
         → HasMeta (state S.Store conn.old).now meta → length meta ≡ 1) }
+    ensures live { IsLive (state S.Store conn.old) }
     ensures bare { LacksMeta (state S.Store conn.old).now → result ≡ Err Sql }
     ensures fault { IfErr result IsOfExpected }
     ensures other { HasCleanDisk (state S.Store conn.new) → IfErr result (λ fault.
@@ -133,6 +139,8 @@ pub fn expect_version<S: Alter>(conn: &mut Connection<S>, oldest: u8) -> Result<
     ensures cause { conn.old.in_transaction ≡ false → HasCleanDisk (state S.Store conn.new)
         → (meta : List SqlRow) → HasMeta (state S.Store conn.old).now meta
         → IfErr result (SqlHasCause (state S.Store conn.old) (state S.Store conn.new)) }
+    ensures was_open { HasCleanDisk (state S.Store conn.new)
+        → OnOk result (IsTrue (state S.Store conn.old).is_open) }
     ensures same { HasCleanDisk (state S.Store conn.new) → IsTrue (state S.Store conn.new).is_open
         → (state S.Store conn.new).now ≡ (state S.Store conn.old).now }
     ensures committed { HasCleanDisk (state S.Store conn.new)

@@ -1,5 +1,5 @@
 //! The version that the tables say they are of.
-ghost use Rattle.std.specs.Prelude.{◌≡◌, ◌↔◌, false, find, Err, List, IsTrue, IfErr, None};
+ghost use Rattle.std.specs.Prelude.{◌≡◌, ◌↔◌, false, find, Err, List, IsTrue, IfErr, None, OnOk};
 ghost use Rattle.std.specs.Option.{option_copied};
 ghost use Rattle.sqlite.specs.Held.{state};
 ghost use Rattle.sqlite.specs.Order.{Row, column};
@@ -77,6 +77,8 @@ pub fn read_version<S: Alter>(conn: &mut Connection<S>) -> Result<i64, StoreFaul
     ensures cause { conn.old.in_transaction ≡ false → HasCleanDisk (state S.Store conn.new)
         → (meta : List Row) → HasMeta (state S.Store conn.old).now meta
         → IfErr result (SqlHasCause (state S.Store conn.old) (state S.Store conn.new)) }
+    ensures was_open { HasCleanDisk (state S.Store conn.new)
+        → OnOk result (IsTrue (state S.Store conn.old).is_open) }
     ensures same { HasCleanDisk (state S.Store conn.new) → IsTrue (state S.Store conn.new).is_open
         → (state S.Store conn.new).now ≡ (state S.Store conn.old).now }
     ensures committed { HasCleanDisk (state S.Store conn.new)

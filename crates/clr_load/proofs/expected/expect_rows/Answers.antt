@@ -2,13 +2,15 @@ use Rattle.std.proofs.Common.{◌≡◌, ◌∙◌, ap, arith, inl, refl, rules,
 use Rattle.sqlite.specs.Effect.{Database}
 use Rattle.sqlite.specs.Held.{state}
 use Rattle.sqlite.specs.State.{HasCleanDisk}
-use Rattle.clr_load.specs.Layout.{AsMoved, version_of}
+use Rattle.clr_tables.specs.declared.table_name.TableName.TheVariants.{Point}
+use Rattle.clr_load.specs.Layout.{AsMoved, tree_in, version_of}
 use Rattle.clr_load.specs.Schema.{schema_in}
 use Rattle.clr_load.specs.Stored.{HasVersion}
 use Rattle.clr_load.proofs.Inside.{both_survive}
 use Rattle.clr_load.proofs.Loading.{lists_meta}
 use Rattle.clr_load.proofs.Staying.{then_stays, unchanged_stays}
-use Rattle.clr_load.proofs.Versioned.{alone, emptied}
+use Rattle.clr_load.proofs.Loading.{no_length, none_listed}
+use Rattle.clr_load.proofs.Versioned.{alone, emptied, moved_point}
 use Rattle.clr_load.proofs.expected.expect_rows.Goals as goal
 
 -- `meta` has another row
@@ -143,3 +145,14 @@ pub returns-clause-committed : goal.returns-clause-committed
 returns-clause-committed g c clean shown =
     let early : HasCleanDisk (state g.S.Store c.list_table.new.conn) = omega (arith, c.list_table-2.ensures.survives.clean) in
     (c.in_ok-points.ensures.unchanged clean).0.committed_is ∙ (c.in_ok-meta.ensures.unchanged early).0.committed_is
+
+-- ---- the `point` that a move has emptied is empty
+pub returns-clause-emptied : goal.returns-clause-emptied
+returns-clause-emptied g c clean is moved =
+    let mid = state g.S.Store c.list_table.new.conn in
+    let early : HasCleanDisk mid = omega (arith, c.list_table-2.ensures.survives.clean) in
+    let same : mid.now ≡ (state g.S.Store c.args.conn.now).now = (c.in_ok-meta.ensures.unchanged early).0.now_is in
+    let schema : mid.now.schema ≡ schema_in AsMoved = ap (λ (db : Database). db.schema) same ∙ is ∙ ap schema_in moved in
+    let none = no_length c.in_ok-points.points.items (search rules) in
+    sym (ap (λ (db : Database). db.trees (tree_in AsMoved Point)) same)
+    ∙ none_listed AsMoved mid (state g.S.Store c.list_table-2.new.conn) Point c.in_ok-points.points.items moved_point schema (c.in_ok-points.ensures.shown clean) none

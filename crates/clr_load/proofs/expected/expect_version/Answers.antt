@@ -14,7 +14,7 @@ use Rattle.clr_load.specs.declared.fault.StoreFault.TheVariants.{OtherTables}
 use Rattle.clr_load.proofs.Causes.{then_cause}
 use Rattle.clr_load.proofs.Inside.{both_survive}
 use Rattle.clr_load.proofs.Versioned.{numbered_as, one_layout}
-use Rattle.clr_load.proofs.Versions.{expected_tables, expected_version, tells_tables, tells_version, version_not_other}
+use Rattle.clr_load.proofs.Versions.{expected_tables, expected_version, surely, tells_tables, tells_version, version_not_other}
 use Rattle.clr_load.proofs.expected.expect_version.Goals as goal
 
 pub returns-in_err-version-clause-version : goal.returns-in_err-version-clause-version
@@ -86,3 +86,41 @@ returns-clause-alone g c clean n is one low two meta has =
     let same = c.in_ok-version.ensures.same early open_then in
     let rows = c.expect_rows.ensures.alone clean meta (subst (λ (db : Database). HasMeta db meta) (sym same) has) in
     search rules
+
+pub returns-clause-laid_out : goal.returns-clause-laid_out
+returns-clause-laid_out g c clean n is low old high =
+    let before = state g.S.Store c.args.conn.now in
+    let mid = state g.S.Store c.read_version.new.conn in
+    let early : HasCleanDisk mid = omega (arith, c.expect_rows.ensures.survives.clean) in
+    let schema : before.now.schema ≡ schema_in c.in-Some-found.layout = search rules in
+    let same : mid.now ≡ before.now = c.in_ok-version.ensures.same early (search rules) in
+    record {
+      layout = c.in-Some-found.layout;
+      version_is = search rules;
+      schema = schema;
+      emptied = λ moved. search rules;
+    }
+
+pub returns-clause-was_open : goal.returns-clause-was_open
+returns-clause-was_open g c clean =
+    let early : HasCleanDisk (state g.S.Store c.read_version.new.conn) = omega (arith, c.expect_rows.ensures.survives.clean) in
+    let open_then : IsTrue (state g.S.Store c.args.conn.now).is_open = c.in_ok-version.ensures.was_open early in
+    search rules
+
+pub returns-in_err-expect_rows-clause-other : goal.returns-in_err-expect_rows-clause-other
+returns-in_err-expect_rows-clause-other g c clean =
+    let old = state g.S.Store c.args.conn.now in
+    let mid = state g.S.Store c.read_version.new.conn in
+    let fault = c.in_err-expect_rows.field-0.0 in
+    let layout = c.in-Some-found.layout in
+    let early : HasCleanDisk mid = omega (arith, c.expect_rows.ensures.survives.clean) in
+    let told : c.from_residual-in_err-expect_rows.result ≡ Err fault = search rules in
+    subst (λ r. IfErr r (λ fault. fault ≡ OtherTables → (n : _) → HasVersion n old.now → ⊥)) (sym told) (λ is n has.
+    let here : IsTrue mid.is_open = surely (IsTrue mid.is_open) fault is (c.in_err-expect_rows.ensures.was_open clean) in
+    let same : mid.now ≡ old.now = c.in_ok-version.ensures.same early here in
+    let version : c.in_ok-version.version ≡ pos c.in-Some.number = search rules in
+    let number : c.in-Some.number ≡ version_of layout = search rules in
+    let there = numbered_as n c.in-Some.number old.now has (λ meta first. c.in_ok-version.ensures.version early meta first ∙ ap Ok version) in
+    let schema : old.now.schema ≡ schema_in layout = search rules in
+    let own = subst (λ (db : Database). HasVersion (version_of layout) db) (sym same) (subst (λ k. HasVersion k old.now) number there) in
+    c.in_err-expect_rows.ensures.other clean (ap (λ (db : Database). db.schema) same ∙ schema) is own)

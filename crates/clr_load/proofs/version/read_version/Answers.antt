@@ -52,3 +52,12 @@ returns-clause-version g c clean meta has =
 
 pub returns-then-not-has_meta-clause-cause : goal.returns-then-not-has_meta-clause-cause
 returns-then-not-has_meta-clause-cause g c out clean meta has = absurd (meta_is_there (state g.S.Store c.args.conn.now).now meta has (search rules))
+
+pub returns-clause-was_open : goal.returns-clause-was_open
+returns-clause-was_open g c clean =
+    let mid = c.list_rows.new.tx.conn.now in
+    let end = c.drop-tx-2.new.self.0 in
+    let late : HasCleanDisk (state g.S.Store end) = search rules in
+    let early : HasCleanDisk (state g.S.Store mid) = omega (arith, c.drop-tx-2.ensures.survives.clean) in
+    let begun = c.transaction-tx.ensures.begun in
+    rw begun at (c.in_ok-rows.ensures.lists.step early (rw begun refl)).was_open
