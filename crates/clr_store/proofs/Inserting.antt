@@ -50,7 +50,7 @@ use Rattle.clr_store.proofs.RowLemmas.{put_fresh}
 
 -- ---- no other row has the key of a row that is inserted
 -- a row agrees in its key with a row under a number where it passes the tests of that key
-agree_tests : (n at : ℕ) (row r : Row) (x : Value) → agree plain (first_columns (suc at) n) r (first_columns (suc at) n) (x ∷ row) ≡ list_all (holds (row ∷ r ∷ [])) (tests_from at n)
+pub agree_tests : (n at : ℕ) (row r : Row) (x : Value) → agree plain (first_columns (suc at) n) r (first_columns (suc at) n) (x ∷ row) ≡ list_all (holds (row ∷ r ∷ [])) (tests_from at n)
 unfolding first_key
 agree_tests zero at row r x = refl
 agree_tests (suc n) at row r x = ap (λ b. equal Binary (column r (suc at)) (column row at) && b) (agree_tests n (suc at) row r x)

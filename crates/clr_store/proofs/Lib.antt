@@ -10,3 +10,5 @@ pub mod Given
 pub mod Creating
 pub mod Versions
 pub mod Moving
+mod There
+mod Rising

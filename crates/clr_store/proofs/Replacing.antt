@@ -62,7 +62,7 @@ use Rattle.clr_store.proofs.RowLemmas.{put_fresh, removed}
 use Rattle.clr_store.proofs.Updates.{fresh_parts, given_numbers, put_all_fresh}
 
 -- ---- the rows of a key are met by the first parameters
-column_taken : (n at : ℕ) (row : Row) → at < n → column (take n row) at ≡ column row at
+pub column_taken : (n at : ℕ) (row : Row) → at < n → column (take n row) at ≡ column row at
 column_taken zero at row low = absurd (omega arith)
 column_taken (suc n) at [] low = refl
 column_taken (suc n) zero (v ∷ row) low = refl

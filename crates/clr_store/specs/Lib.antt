@@ -1,3 +1,4 @@
 pub mod Change
 pub mod Contract
 pub mod Moving
+pub mod There

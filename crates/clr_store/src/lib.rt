@@ -4,10 +4,12 @@
 
 mod create;
 mod edits;
+mod laws;
 mod migrate;
 mod sql;
 mod statements;
 mod store;
 mod values;
 
+pub use laws::{files_are_numbered, tables_are_there};
 pub use store::{Back, Store};

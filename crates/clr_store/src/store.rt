@@ -13,7 +13,7 @@ ghost use Rattle.clr_tables.specs.Tables.{Tables, tables_by, tables_of, version_
 ghost use Rattle.clr_tables.specs.TypedRows.{IsTyped};
 ghost use Rattle.clr_load.specs.Schema.{no_schema};
 ghost use Rattle.clr_load.specs.Stored.{AreTables, HasMeta, HasOldTables, HasTables, HasVersion};
-ghost use Rattle.clr_load.specs.Stored.{IsLaidOut, LacksMeta};
+ghost use Rattle.clr_load.specs.Stored.{HasWholeRows, IsLaidOut, LacksMeta};
 ghost use Rattle.clr_load.specs.Cause.{SqlHasCause};
 ghost use Rattle.clr_load.specs.Fault.{IsOfDatabase};
 ghost use Rattle.clr_load.specs.Filling.{GivesInto, IsLoaded};
@@ -116,9 +116,14 @@ impl<S: Alter + Drop> Store<S> {
         ensures opened { IfOk result (λ store. HasCleanDisk (state S.Store store)
             → IsTrue (state S.Store store).is_open → (state S.Store store).now
             ≡ (state S.Store connection).now) }
+        ensures kept { IfOk result (λ store. HasCleanDisk (state S.Store store)
+            → IsTrue (state S.Store store).is_open → (state S.Store store).committed
+            ≡ (state S.Store connection).committed) }
         ensures version { IfOk result (λ store. HasCleanDisk (state S.Store store)
             → (meta : List Row) → HasMeta (state S.Store connection).now meta
             → read_version meta ≡ Ok (pos 2)) }
+        ensures was_open { IfOk result (λ store. HasCleanDisk (state S.Store store)
+            → IsTrue (state S.Store connection).is_open) }
         ensures inside { connection.in_transaction ≡ true → IsErrAnd result
             (λ back. back.fault ≡ Sql) }
         ensures mode { MatchResult result
@@ -130,6 +135,9 @@ impl<S: Alter + Drop> Store<S> {
         ensures alone { IfOk result (λ store. HasCleanDisk (state S.Store store)
             → (meta : List Row) → HasMeta (state S.Store connection).now meta
             → length meta ≡ 1) }
+        ensures there { IfOk result (λ store. HasCleanDisk (state S.Store store)
+            → HasWholeRows (state S.Store connection).now
+            → HasVersion 2 (state S.Store connection).now) }
         ensures bare { LacksMeta (state S.Store connection).now → IsErrAnd result
             (λ back. back.fault ≡ Sql) }
         ensures other { IfErr result (λ back. HasCleanDisk (state S.Store back.connection)
@@ -184,6 +192,10 @@ impl<S: Alter + Drop> Store<S> {
             → IsTrue (state S.Store store).is_open → (meta : List Row)
             → HasMeta (state S.Store connection).now meta → read_version meta ≡ Ok (pos 2)
             → (state S.Store store).now ≡ (state S.Store connection).now) }
+        ensures kept { IfOk result (λ store. HasCleanDisk (state S.Store store)
+            → IsTrue (state S.Store store).is_open → (meta : List Row)
+            → HasMeta (state S.Store connection).now meta → read_version meta ≡ Ok (pos 2)
+            → (state S.Store store).committed ≡ (state S.Store connection).committed) }
         ensures moved { IfOk result (λ store. HasCleanDisk (state S.Store store) → (t : Tables)
             → HasOldTables (state S.Store connection).now t → read_version t.meta ≡ Ok (pos 1)
             → IsTrue (is_ok (old_points t)) × IsSaved (state S.Store store)
@@ -195,6 +207,8 @@ impl<S: Alter + Drop> Store<S> {
         ensures version { IfOk result (λ store. HasCleanDisk (state S.Store store)
             → (meta : List Row) → HasMeta (state S.Store connection).now meta
             → (read_version meta ≡ Ok (pos 1)) ⊎ (read_version meta ≡ Ok (pos 2))) }
+        ensures was_open { IfOk result (λ store. HasCleanDisk (state S.Store store)
+            → IsTrue (state S.Store connection).is_open) }
         ensures inside { connection.in_transaction ≡ true → IsErrAnd result
             (λ back. back.fault ≡ Sql) }
         ensures mode { MatchResult result
@@ -207,6 +221,10 @@ impl<S: Alter + Drop> Store<S> {
         ensures alone { IfOk result (λ store. HasCleanDisk (state S.Store store)
             → (meta : List Row) → HasMeta (state S.Store connection).now meta
             → length meta ≡ 1) }
+        ensures there { IfOk result (λ store. HasCleanDisk (state S.Store store)
+            → HasWholeRows (state S.Store connection).now
+            → HasVersion 1 (state S.Store connection).now
+            ⊎ HasVersion 2 (state S.Store connection).now) }
         ensures bare { LacksMeta (state S.Store connection).now → IsErrAnd result
             (λ back. back.fault ≡ Sql) }
         ensures other { IfErr result (λ back. HasCleanDisk (state S.Store back.connection)

@@ -9,6 +9,7 @@ use Rattle.clr_load.specs.declared.layout.Layout.TheVariants.{OfOne}
 use Rattle.clr_load.specs.Stored.{HasOldTables, HasTables}
 use Rattle.clr_load.proofs.Loading.{has_meta}
 use Rattle.clr_store.proofs.Moving.{leaves_moved, opened_cause, surely_open}
+use Rattle.clr_store.proofs.There.{version_there}
 use Rattle.clr_store.proofs.Versions.{move_unread, old_failed, one_has, old_stopped, old_unread, one_is_told, points_not_other}
 use Rattle.clr_store.proofs.store.Store.migrate.Goals as goal
 
@@ -125,3 +126,28 @@ returns-in-Ok-move_tables-clause-alone g c clean meta has =
 
 pub returns-in-2-clause-alone : goal.returns-in-2-clause-alone
 returns-in-2-clause-alone g c clean meta has = c.in-Ok.ensures.alone clean 2 (search rules) (omega arith) (omega arith) (omega arith) meta has
+
+-- ---- there is the version
+pub returns-in-Ok-move_tables-clause-there : goal.returns-in-Ok-move_tables-clause-there
+returns-in-Ok-move_tables-clause-there g c clean whole =
+    let early : HasCleanDisk (state g.S.Store c.expect_version.new.conn) = omega (arith, c.move_tables.ensures.crash.clean) in
+    let is_open = c.in-Ok.ensures.was_open early in
+    let laid = c.in-Ok.ensures.laid_out early 1 (search rules) (omega arith) (omega arith) (omega arith) in
+    inl (version_there 1 (state g.S.Store c.args.connection).now laid (c.expect_version.ensures.live is_open).0 whole (λ meta has.
+    let told = c.in-Ok.ensures.version early meta has in
+    let one : read_version meta ≡ Ok (pos 1) = search rules in
+    (c.in-Ok.ensures.alone early 1 (search rules) (omega arith) (omega arith) (omega arith) meta has, one)))
+
+pub returns-in-2-clause-there : goal.returns-in-2-clause-there
+returns-in-2-clause-there g c clean whole =
+    let is_open = c.in-Ok.ensures.was_open clean in
+    let laid = c.in-Ok.ensures.laid_out clean 2 (search rules) (omega arith) (omega arith) (omega arith) in
+    inr (version_there 2 (state g.S.Store c.args.connection).now laid (c.expect_version.ensures.live is_open).0 whole (λ meta has.
+    let told = c.in-Ok.ensures.version clean meta has in
+    let two : read_version meta ≡ Ok (pos 2) = search rules in
+    (c.in-Ok.ensures.alone clean 2 (search rules) (omega arith) (omega arith) (omega arith) meta has, two)))
+
+pub returns-in-Ok-move_tables-clause-was_open : goal.returns-in-Ok-move_tables-clause-was_open
+returns-in-Ok-move_tables-clause-was_open g c clean =
+    let early : HasCleanDisk (state g.S.Store c.expect_version.new.conn) = omega (arith, c.move_tables.ensures.crash.clean) in
+    c.in-Ok.ensures.was_open early

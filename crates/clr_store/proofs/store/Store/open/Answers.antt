@@ -1,6 +1,8 @@
-use Rattle.std.proofs.Common.{arith, rules}
+use Rattle.std.proofs.Common.{◌≡◌, Ok, arith, pos, rules}
+use Rattle.sqlite.specs.Held.{state}
 use Rattle.clr_tables.specs.RowsRead.{read_version}
 use Rattle.clr_load.proofs.Loading.{has_meta}
+use Rattle.clr_store.proofs.There.{version_there}
 use Rattle.clr_store.proofs.Versions.{of_opening, refuses, refuses_opening, two_has}
 use Rattle.clr_store.proofs.store.Store.open.Goals as goal
 
@@ -30,3 +32,12 @@ returns-in-Ok-eq2-clause-laid_out g c clean = c.in-Ok-eq2.ensures.laid_out clean
 
 pub returns-in-Ok-eq2-clause-alone : goal.returns-in-Ok-eq2-clause-alone
 returns-in-Ok-eq2-clause-alone g c clean meta has = c.in-Ok-eq2.ensures.alone clean 2 (search rules) (omega arith) (omega arith) (omega arith) meta has
+
+pub returns-in-Ok-eq2-clause-there : goal.returns-in-Ok-eq2-clause-there
+returns-in-Ok-eq2-clause-there g c clean whole =
+    let is_open = c.in-Ok-eq2.ensures.was_open clean in
+    let laid = c.in-Ok-eq2.ensures.laid_out clean 2 (search rules) (omega arith) (omega arith) (omega arith) in
+    version_there 2 (state g.S.Store c.args.connection).now laid (c.expect_version.ensures.live is_open).0 whole (λ meta has.
+    let told = c.in-Ok-eq2.ensures.version clean meta has in
+    let two : read_version meta ≡ Ok (pos 2) = search rules in
+    (c.in-Ok-eq2.ensures.alone clean 2 (search rules) (omega arith) (omega arith) (omega arith) meta has, two))
