@@ -1,11 +1,10 @@
 -- In files the rows of a table have numbers that rise.
-use Rattle.std.proofs.Common.{◌≡◌, List, [], ◌∷◌, ap, subst, sym}
+use Rattle.std.proofs.Common.{◌≡◌, List, [], ◌∷◌, subst, sym}
 use Rattle.std.specs.Prelude.{IsTrue}
 use Rattle.std.specs.List.{AllByRecursion}
 use Rattle.std.proofs.Math.Logic.{∥∥₁_elim}
 use Rattle.sqlite.specs.Effect.{Database}
-use Rattle.sqlite.specs.Files.{IsOpened, file_state}
-use Rattle.sqlite.specs.Held.{Held}
+use Rattle.sqlite.specs.Files.{file_state}
 use Rattle.sqlite_catalog.proofs.LayoutLemmas.{laid_out}
 use Rattle.sqlite.specs.Schema.{Schema}
 use Rattle.sqlite_disk.specs.declared.Disk as disk
@@ -22,7 +21,6 @@ use Rattle.sqlite_trees.specs.Objects.{IsListed, catalog_tree}
 use Rattle.sqlite_trees.specs.Props.{IsOrdered-prop}
 use Rattle.sqlite_trees.specs.Tree.{Trees}
 use Rattle.sqlite_trees.specs.View.{IsOrdered, IsShaped}
-use Rattle.sqlite_trees.specs.declared.store.Shape.{Shape}
 use Rattle.sqlite_trees.specs.declared.store.Shape.TheVariants.{Table}
 use Rattle.sqlite_wal.proofs.StateLemmas.{clean_of}
 use Rattle.clr_load.specs.Layout.{place_in}

@@ -1,11 +1,10 @@
 -- A database that is laid out as a register has tables: its rows, in the order of their keys.
-use Rattle.std.proofs.Common.{◌≡◌, ◌≤◌, ◌+◌, ◌∙◌, ℕ, zero, suc, List, [], ◌∷◌, map, drop, take, length, Bool, true, false, not, ◌&&◌, ◌||◌, ◌==◌, None, Some, Ok, pos, inl, inr, refl, sym, ap, subst, arith}
+use Rattle.std.proofs.Common.{◌≡◌, ◌≤◌, ◌+◌, ◌∙◌, ℕ, zero, suc, List, [], ◌∷◌, drop, take, length, Bool, true, false, not, ◌&&◌, ◌||◌, ◌==◌, None, Some, Ok, pos, inl, inr, refl, sym, ap, subst, arith}
 use Rattle.std.specs.Prelude.{IsTrue, ⊤, codes, filter, if◌then◌else◌}
 use Rattle.std.specs.List.{AllByRecursion, list_all}
 use Rattle.std.specs.List.Sorted.{IsPermutation}
 use Rattle.std.specs.Ordering.{is_eq}
-use Rattle.std.specs.declared.cmp.Ordering.{Ordering}
-use Rattle.std.specs.declared.cmp.Ordering.TheVariants.{Less, Equal, Greater}
+use Rattle.std.specs.declared.cmp.Ordering.TheVariants.{Less}
 use Rattle.std.proofs.lemmas.Bool.{true≢false}
 use Rattle.std.proofs.lemmas.Slice.Eq.{bytes_eq-Decides}
 use Rattle.std.specs.Str.{bytes_eq}
@@ -15,7 +14,6 @@ use Rattle.sqlite.specs.Kind.{Kind}
 use Rattle.sqlite.specs.Schema.{Schema}
 use Rattle.sqlite.specs.Kind.TheVariants as kind
 use Rattle.sqlite.specs.Order.{Row, column, row_cmp, value_cmp}
-use Rattle.sqlite.specs.Term.{holds}
 use Rattle.sqlite.specs.Tree.{Trees, rowid}
 use Rattle.sqlite.specs.View.{IsShaped}
 use Rattle.sqlite.specs.declared.types.Value.{Value}
@@ -23,7 +21,6 @@ use Rattle.sqlite.specs.declared.types.Value.TheVariants.{Null, Int, Real, Text,
 use Rattle.sqlite_catalog.specs.Listing.{IsSound}
 use Rattle.sqlite_rules.specs.Lists.{Has}
 use Rattle.sqlite_rules.proofs.ListLemmas.{all_has, some_from, test_from}
-use Rattle.sqlite_schema.specs.Names.{is_key}
 use Rattle.sqlite_schema.specs.Rules.{agree, are_present, are_typed, clashes, differ, is_of, kind_code, passes}
 use Rattle.sqlite_schema.specs.declared.schema.Column.{Column}
 use Rattle.sqlite_schema.specs.declared.schema.Constraint.{Constraint}
@@ -48,7 +45,6 @@ use Rattle.clr_load.specs.Schema.{behind_meta, columns_in, first_columns, keys_i
 use Rattle.clr_load.specs.Stored.{AreWhole, HasMeta, HasRows, HasVersion, HasWholeRows, IsInOrder, IsLaidOut, bodies, fits_columns, is_of_kind, is_set, rows_in}
 use Rattle.clr_load.proofs.Columns.{both_true, sets_from, sets_shift}
 use Rattle.clr_load.proofs.Loading.{has_meta}
-use Rattle.clr_load.proofs.Texts.{tests_from}
 use Rattle.clr_store.specs.There.{MetaIsThere, TablesAreThere}
 use Rattle.clr_store.proofs.Effects.{is_met_in}
 use Rattle.clr_store.proofs.Inside.{list_all-permutation, met_is, put_again}

@@ -11,10 +11,8 @@ use Rattle.clr_load.specs.Layout.{version_of}
 use Rattle.clr_load.specs.Schema.{schema_in}
 use Rattle.clr_load.specs.Stored.{HasMeta, HasVersion}
 use Rattle.clr_load.specs.declared.fault.StoreFault.TheVariants.{OtherTables}
-use Rattle.clr_load.proofs.Causes.{then_cause}
-use Rattle.clr_load.proofs.Inside.{both_survive}
 use Rattle.clr_load.proofs.Versioned.{numbered_as, one_layout}
-use Rattle.clr_load.proofs.Versions.{expected_tables, expected_version, surely, tells_tables, tells_version, version_not_other}
+use Rattle.clr_load.proofs.Versions.{expected_version, surely, tells_tables, tells_version, version_not_other}
 use Rattle.clr_load.proofs.expected.expect_version.Goals as goal
 
 pub returns-in_err-version-clause-version : goal.returns-in_err-version-clause-version

@@ -2,7 +2,6 @@ use Rattle.std.proofs.Common.{◌≡◌, ◌∙◌, Err, ap, sym, refl, arith, r
 use Rattle.sqlite.specs.Held.{state}
 use Rattle.sqlite.specs.State.{HasCleanDisk}
 use Rattle.clr_tables.specs.RowsRead.{read_version}
-use Rattle.clr_tables.specs.declared.table_name.TableName.TheVariants.{Meta}
 use Rattle.clr_load.specs.declared.fault.StoreFault.TheVariants.{BadRow}
 use Rattle.clr_load.specs.Cause.{SqlHasCause}
 use Rattle.clr_load.proofs.Causes.{begun_cause, cause_later}
