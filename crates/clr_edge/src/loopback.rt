@@ -57,7 +57,8 @@ pub trait Loopback {
     /// once a quarter of that number of seconds has passed since it came, and each write once all
     /// have. So a client that sends nothing holds up the next ones for a quarter alone.
     ///
-    /// One that could not be taken is asked for again, up to this number of tries in a row.
+    /// One that could not be taken is asked for again, up to this number of tries in a row. One that
+    /// has a single handle is kept, and the other is asked for by the tries that are left.
     fn accept(
         &mut self,
         listener: &Self::Listener,
@@ -117,26 +118,66 @@ fn limits_now<Y: System>(system: &Y, deadline: Option<u16>) -> io::Result<Limits
     })
 }
 
-/// How long it takes until a connection is asked for again.
+/// How long it takes until a connection, or the second handle of one, is asked for again.
 const PAUSE_MILLIS: u64 = 125;
 
+/// A connection that came, of which one handle is there.
+#[derive(Drop)]
+struct Half<K> {
+    reader: TcpStream,
+    limits: Limits<K>,
+}
+
 /// The next connection to a listener, with the limits that it has from now on.
-fn taken<Y: System>(
+fn next_half<Y: System>(
     system: &Y,
     listener: &TcpListener,
     deadline: Option<u16>,
-) -> io::Result<Connection<Handle<Y::Clock>, Handle<Y::Clock>>>
-    ensures { IfOk result (λ connection.
+) -> io::Result<Half<Y::Clock>>
+    ensures { IfOk result (λ half.
         KeepDeadline (Y.has_clock system.now) (Y.is_now system.now) deadline
-        (counted_inner connection.reader).limit (counted_inner connection.writer).limit) }
+        half.limits.reader half.limits.writer) }
 {
     let (reader, _) = listener.accept()?;
     let limits = limits_now(system, deadline)?;
-    let writer = reader.try_clone()?;
-    Ok(Connection {
+    Ok(Half { reader, limits })
+}
+
+/// A connection that came, with both of its handles. It is kept while the second is asked for
+/// again, up to this number of times.
+fn with_both<Y: System>(
+    system: &Y,
+    half: Half<Y::Clock>,
+    more: u8,
+) -> io::Result<Connection<Handle<Y::Clock>, Handle<Y::Clock>>>
+    ensures reader { IfOk result (λ connection.
+        (counted_inner connection.reader).limit ≡ half.limits.reader) }
+    ensures writer { IfOk result (λ connection.
+        (counted_inner connection.writer).limit ≡ half.limits.writer) }
+{
+    for _ in 0..more {
+        if let Ok(writer) = half.reader.try_clone() {
+            return Ok(connection_of(half, writer));
+        }
+        thread::sleep(&system.clock(), Duration::from_millis(PAUSE_MILLIS));
+    }
+    let writer = half.reader.try_clone()?;
+    Ok(connection_of(half, writer))
+}
+
+/// A connection by its two handles.
+fn connection_of<K: Clock>(
+    half: Half<K>,
+    writer: TcpStream,
+) -> Connection<Handle<K>, Handle<K>>
+    ensures reader { (counted_inner result.reader).limit ≡ half.limits.reader }
+    ensures writer { (counted_inner result.writer).limit ≡ half.limits.writer }
+{
+    let Half { reader, limits } = half;
+    Connection {
         reader: Counted::new(Timed::new(reader, limits.reader)),
         writer: Counted::new(Timed::new(writer, limits.writer)),
-    })
+    }
 }
 
 impl<'a, Y: System, K: Clock> Loopback for Machine<'a, Y, K> {
@@ -183,13 +224,14 @@ impl<'a, Y: System, K: Clock> Loopback for Machine<'a, Y, K> {
             (counted_inner connection.reader).limit (counted_inner connection.writer).limit) }
         ensures misses { IfErr result (λ _. self.new ≡ self.old) }
     {
-        for _ in 1..tries {
-            if let Ok(connection) = taken(&self.system, listener, deadline) {
-                return Ok(connection);
+        for tried in 1..tries {
+            if let Ok(half) = next_half(&self.system, listener, deadline) {
+                return with_both(&self.system, half, tries - tried);
             }
             thread::sleep(&self.system.clock(), Duration::from_millis(PAUSE_MILLIS));
         }
-        taken(&self.system, listener, deadline)
+        let half = next_half(&self.system, listener, deadline)?;
+        with_both(&self.system, half, 0)
     }
 
     fn hang_up(
