@@ -16,3 +16,4 @@ pub mod StepMoves
 pub mod PutRows
 pub mod PlainEdits
 pub mod Growing
+pub mod Shapes
