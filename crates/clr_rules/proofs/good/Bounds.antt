@@ -1,20 +1,23 @@
 -- No command makes a number over 9,999, or a step of a third round.
-use Rattle.std.proofs.Common.{◌≡◌, ℕ, ◌+◌, ◌≤◌, true, false, nat_eq, List, [], ◌∷◌, Option, Some, None, refl, sym, subst, arith, ◌⊎◌, inl, inr, ⊎_elim, ◌==◌}
-use Rattle.clr_rules.proofs.Common.{AllByRecursion, All-contains, All-nil, Grid, StaffRow, Task, member-row_of, Answer, known_of, answer_by_checks, checks, edits_of, new_jumper, new_steps, put_steps}
-use Rattle.clr_rules.proofs.Common.{refusal_of, is_switch_order, opening, IsReached, after}
+use Rattle.std.proofs.Common.{◌≡◌, ℕ, ◌+◌, ◌≤◌, List, [], ◌∷◌, Option, Some, None, refl, sym, subst, arith, ◌⊎◌, inl, inr, ⊎_elim, ◌==◌}
+use Rattle.clr_rules.proofs.Common.{All-contains, All-nil, Answer, Grid, IsReached, Known, StaffRow, Task, after, answer_by_checks, checks, edits_of, known_of, member-row_of, named_clearance, opening}
+use Rattle.clr_rules.proofs.Common.{refusal_of}
 use Rattle.std.proofs.lemmas.Bool.{eqb-false}
 use Rattle.clr_shelf.proofs.Groups.{All-with_row}
+use Rattle.clr_rules.specs.Answer.{requester_for}
 use Rattle.clr_rules.specs.laws.Bounds.{IsBounded}
 use Rattle.clr_rules.specs.Checks.{too_many_clearances}
-use Rattle.clr_rules.specs.Prelude.{Edit, PutRecord, PutStep, Command, Kind, Tested, Record, Refusal, StepRow, Id, id_cmp, id_cmp_total, Register, greatest_number, record_key, record_of, step_key}
-use Rattle.clr_rules.specs.Prelude.{step_key_cmp, step_key_cmp_total, present_steps, step_at, places_of, after_edit, after_edits, TooManyClearances}
-use Rattle.clr_rules.proofs.good.Keeping.{asked}
+use Rattle.clr_rules.specs.Prelude.{Edit, PutRecord, PutStep, Command, Kind, Record, Refusal, StepRow, Id, id_cmp, id_cmp_total, Register, greatest_number, record_key, step_key}
+use Rattle.clr_rules.specs.Prelude.{step_key_cmp, step_key_cmp_total, after_edit, after_edits, TooManyClearances}
 use Rattle.clr_rules.proofs.lists.FoundSteps.{present_step}
 use Rattle.clr_rules.proofs.lists.Greatest.{greatest_is_greatest}
 use Rattle.clr_rules.proofs.edits.Passing.{Pass, all_pass, not_refused}
-use Rattle.clr_rules.proofs.edits.PutRows.{AllPutSuch, by_added, by_record, by_step, done_put, steps_put, takes_put}
+use Rattle.clr_rules.proofs.edits.PutRows.{AllPutSuch}
 use Rattle.clr_rules.proofs.edits.Runs.{reached_have}
-use Rattle.clr_rules.specs.declared.command.Kind.TheVariants as kinds
+use Rattle.clr_rules.proofs.edits.Shapes.{GivesRound, RecordPut, StepPut, edits_of_accepted, puts_such}
+use Rattle.clr_rules.proofs.edits.Shapes.GivesRound.{order, restore, switch}
+use Rattle.clr_rules.proofs.edits.Shapes.RecordPut.{requested, switched, written}
+use Rattle.clr_rules.proofs.edits.Shapes.StepPut.{given, moved}
 
 abbrev IsNumber : Record → Type 0
 IsNumber r = r.id.number ≤ 9999
@@ -25,55 +28,33 @@ IsRound row = (row.round ≡ 1) ⊎ (row.round ≡ 2)
 abbrev PutInBounds : List Edit → Type 0
 PutInBounds edits = AllPutSuch IsNumber IsRound edits
 
-new_in_bounds : (d : Id) (round n : ℕ) (tasks : List Task) → (round ≡ 1) ⊎ (round ≡ 2) → AllByRecursion IsRound (new_steps d round n tasks)
-unfolding new_steps
-new_in_bounds d round n [] is = tt
-new_in_bounds d round n (t ∷ tasks) is = (is, new_in_bounds d round (n + 1) tasks is)
+of_round : (k : Known) (by : List ℕ) (kind : Kind) (c : Id) (round : ℕ) (tasks : List Task) → GivesRound k by kind c round tasks → (round ≡ 1) ⊎ (round ≡ 2)
+of_round k by _ _ _ _ (order c points tasks) = inl refl
+of_round k by _ _ _ _ (restore c tasks) = inr refl
+of_round k by _ _ _ _ (switch tasks) = inl refl
 
-new_put : (d : Id) (round : ℕ) (tasks : List Task) → (round ≡ 1) ⊎ (round ≡ 2) → PutInBounds (put_steps (new_steps d round 1 tasks))
-new_put d round tasks is = steps_put IsNumber IsRound (new_steps d round 1 tasks) (new_in_bounds d round 1 tasks is)
+-- a number after one that is not the last
+next_number : (greatest : ℕ) → greatest ≤ 9999 → too_many_clearances greatest ≡ None → greatest + 1 ≤ 9999
+next_number greatest small passed = let other = eqb-false greatest 9999 (not_refused (greatest == 9999) TooManyClearances passed) in omega (arith, other)
 
-module _ (R : Register) (bounded : IsBounded R) (by : List ℕ) (at : ℕ) where
-  of_record : (c : Id) (r : Record) → record_of R.records c ≡ Some r → IsNumber r
-  of_record c r found = All-contains IsNumber R.records r bounded.numbers (member-row_of id_cmp record_key id_cmp_total c r R.records found).0
+module _ (R : Register) (bounded : IsBounded R) where
+  greatest_in_bounds : (requester : List ℕ) → greatest_number R.records requester ≤ 9999
+  greatest_in_bounds requester = ⊎_elim (λ none. subst (λ n. n ≤ 9999) (sym none) (omega arith))
+      (λ some. subst (λ n. n ≤ 9999) some.3 (All-contains IsNumber R.records some.0 bounded.numbers some.1)) (greatest_is_greatest R.records requester).1
 
-  of_step : (c : Id) (n : ℕ) (row : StepRow) → step_at (present_steps R.steps c) n ≡ Some row → IsRound row
-  of_step c n row found = All-contains IsRound R.steps row bounded.rounds (present_step R.steps c n row found).there
+  module _ (k : Known) (small : k.greatest ≤ 9999) (by : List ℕ) (at : ℕ) where
+    number_of : (kind : Kind) (s : Record) → RecordPut k R by at kind s → Pass (checks k R by at kind) → IsNumber s
+    number_of _ _ (requested section) passed = next_number k.greatest small passed.1.1.1.0
+    number_of _ _ (switched tasks) passed = next_number k.greatest small passed.1.1.0
+    number_of _ _ (written c r named no_show found held comes) passed = All-contains IsNumber R.records r bounded.numbers (member-row_of id_cmp record_key id_cmp_total c r R.records found).0
 
-  -- the number after the greatest
-  next_number : too_many_clearances (greatest_number R.records by) ≡ None → greatest_number R.records by + 1 ≤ 9999
-  next_number passed =
-      let differs = not_refused (greatest_number R.records by == 9999) TooManyClearances passed in
-      below (greatest_number R.records by) differs (⊎_elim (λ none. subst (λ n. n ≤ 9999) (sym none) (omega arith))
-      (λ some. subst (λ n. n ≤ 9999) some.3 (All-contains IsNumber R.records some.0 bounded.numbers some.1))
-      (greatest_is_greatest R.records by).1)
-    where
-      below : (n : ℕ) → nat_eq n 9999 ≡ false → n ≤ 9999 → n + 1 ≤ 9999
-      below n differs small = let other = eqb-false n 9999 differs in omega (arith, other)
+    round_of : (kind : Kind) (row : StepRow) → StepPut k R by kind row → IsRound row
+    round_of kind _ (given c round tasks gives n t there few) = of_round k by kind c round tasks gives
+    round_of _ _ (moved c n r row found moves) = All-contains IsRound R.steps row bounded.rounds (present_step R.steps c n row found.step).there
 
-  all_in_bounds : (kind : Kind) → Pass (checks (known_of R (asked by at kind)) R by at kind) → PutInBounds (edits_of (known_of R (asked by at kind)).greatest R by at kind)
-  all_in_bounds (kinds.Request section) passed =
-      let (_, (_, (_, (number_passes, _)))) = passed in
-      (next_number number_passes, tt)
-  all_in_bounds (kinds.Order c points tasks) passed = by_record PutInBounds tt R c _ (λ r found. (of_record c r found, new_put c 1 tasks (inl refl)))
-  all_in_bounds (kinds.Instruct c n) passed = by_step PutInBounds tt R c n _ (λ r row found step. (of_record c r found, (of_step c n row step, tt)))
-  all_in_bounds (kinds.Repeat c n text) passed = by_step PutInBounds tt R c n _ (λ r row found step. (of_record c r found, (of_step c n row step, tt)))
-  all_in_bounds (kinds.Report c n true) passed = by_step PutInBounds tt R c n _ (λ r row found step.
-      done_put IsNumber IsRound (is_switch_order r) r.id row.step.action row.step.point _ _ (of_record c r found) (of_step c n row step))
-  all_in_bounds (kinds.Report c n false) passed = by_step PutInBounds tt R c n _ (λ r row found step. (of_record c r found, (of_step c n row step, tt)))
-  all_in_bounds (kinds.Test c section true) passed = by_record PutInBounds tt R c _ (λ r found. (of_record c r found, tt))
-  all_in_bounds (kinds.Test c section false) passed = by_record PutInBounds tt R c _ (λ r found. (of_record c r found, tt))
-  all_in_bounds (kinds.Release c notified clear) passed = by_record PutInBounds tt R c _ (λ r found.
-      takes_put IsNumber IsRound c (places_of R.holds c Tested) _ (of_record c r found, tt))
-  all_in_bounds (kinds.Restore c tasks) passed = by_record PutInBounds tt R c _ (λ r found. (of_record c r found, new_put c 2 tasks (inr refl)))
-  all_in_bounds (kinds.Amend c n) passed = by_step PutInBounds tt R c n _ (λ r row found step. (of_record c r found, (of_step c n row step, tt)))
-  all_in_bounds (kinds.Switch tasks) passed =
-      let (_, (_, (number_passes, _))) = passed in
-      (next_number number_passes, new_put _ 1 tasks (inl refl))
-  all_in_bounds (kinds.Show c) passed = tt
-  all_in_bounds (kinds.Jumper point from to lockable remote) passed = by_added PutInBounds R (new_jumper point from to lockable remote) tt tt
-  -- one record is put
-  all_in_bounds _ passed = by_record PutInBounds tt R _ _ (λ r found. (of_record _ r found, tt))
+    all_in_bounds : (kind : Kind) → Pass (checks k R by at kind) → PutInBounds (edits_of k.greatest R by at kind)
+    all_in_bounds kind passed = puts_such k R by at kind IsNumber IsRound (λ s put. number_of kind s put passed) (round_of kind) (edits_of k.greatest R by at kind)
+        (edits_of_accepted k R by at kind passed)
 
 -- edits that put in bounds
 edited_all_bounded : (edits : List Edit) (R : Register) → PutInBounds edits → IsBounded R → IsBounded (after_edits edits R)
@@ -91,7 +72,7 @@ commands_bounded R q bounded = at (refusal_of R q) refl
   where
     at : (refused : Option Refusal) → refusal_of R q ≡ refused → IsBounded (after_edits (Answer.edits (answer_by_checks (known_of R q) R q refused)) R)
     at None passed = edited_all_bounded (edits_of (known_of R q).greatest R q.caller q.moment q.kind) R
-        (all_in_bounds R bounded q.caller q.moment q.kind (all_pass (checks (known_of R q) R q.caller q.moment q.kind) passed)) bounded
+        (all_in_bounds R bounded (known_of R q) (greatest_in_bounds R bounded (requester_for q.caller (named_clearance q.kind))) q.caller q.moment q.kind (all_pass (checks (known_of R q) R q.caller q.moment q.kind) passed)) bounded
     at (Some refusal) is = edited_all_bounded [] R tt bounded
 
 opening_is_bounded : (g : Grid) (staff : List StaffRow) → IsBounded (opening g staff)
