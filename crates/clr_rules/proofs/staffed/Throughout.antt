@@ -1,14 +1,14 @@
 -- What commands alone keep of closed records too: known work sections, steps at known points, switch orders of operators, and holders in their roles.
 use Rattle.std.proofs.Common.{◌≡◌, ◌∙◌, ℕ, Bool, true, false, IsTrue, List, [], ◌∷◌, Option, Some, None, Contains, refl, sym, ap, subst, ⊎_elim}
-use Rattle.clr_rules.proofs.Common.{All-contains, All-from_each, All-nil, All-weaker, AreAtPoints, Answer, Grid, IsGood, Kind, SectionRow, PointRow, StaffRow, Task, Tested, answer_by_checks, checks}
-use Rattle.clr_rules.proofs.Common.{edits_of, has_name, has_name-row, is_known_work, is_open, is_operators, is_switch_order, kept_there, known_of, member-row_of, new_jumper, new_steps, one_id}
+use Rattle.clr_rules.proofs.Common.{All-contains, All-from_each, All-nil, All-weaker, AreAtPoints, Answer, Grid, IsGood, Kind, SectionRow, PointRow, StaffRow, Task, answer_by_checks, checks, false≢true}
+use Rattle.clr_rules.proofs.Common.{edits_of, has_name, has_name-row, is_known_work, is_open, is_operators, is_switch_order, kept_there, known_of, member-row_of, new_steps, one_id}
 use Rattle.clr_rules.proofs.Common.{opening, point_names, put_steps, record_id, refusal_of, section_names}
 use Rattle.clr_rules.specs.Changes.{new_record}
 use Rattle.clr_rules.specs.Checks.{employee, has_role, is_charge, is_operator}
 use Rattle.clr_rules.specs.Commands.{Known}
 use Rattle.clr_rules.specs.Good.{IsGoodThroughout}
 use Rattle.clr_rules.specs.Prelude.{Edit, PutRecord, Command, Ordered, Restoring, Switching, Record, Refusal, StepRow, Id, same_id, id_cmp, id_cmp_total, Register, record_key, record_of, UnknownSection}
-use Rattle.clr_rules.specs.Prelude.{present_steps, step_at, steps_of, places_of, after_edits}
+use Rattle.clr_rules.specs.Prelude.{steps_of, after_edits}
 use Rattle.clr_rules.specs.Run.{IsReached, after, after_all}
 use Rattle.clr_rules.specs.Staffed.{IsStaffedThroughout, fits_holder}
 use Rattle.clr_rules.specs.laws.Runs.{HasGrown}
@@ -18,7 +18,11 @@ use Rattle.clr_rules.proofs.edits.EditedLists.{edited_all-staff}
 use Rattle.clr_rules.proofs.edits.NewRounds.{others_stay, put_all, round_put, with_round}
 use Rattle.clr_rules.proofs.edits.Passing.{Pass, all_pass, not_refused_true}
 use Rattle.clr_rules.proofs.edits.PutRecords.{put_read}
-use Rattle.clr_rules.proofs.edits.PutRows.{AllPutSuch, AnyStep, by_added, by_record, by_step, done_put, record_after, takes_put}
+use Rattle.clr_rules.proofs.edits.PutRows.{AllPutSuch, AnyStep, by_record, record_after}
+use Rattle.clr_rules.proofs.edits.Shapes.{GivesRound, RecordPut, StepPut, edits_of_accepted, puts_such}
+use Rattle.clr_rules.proofs.edits.Shapes.GivesRound.{order, restore, switch}
+use Rattle.clr_rules.proofs.edits.Shapes.RecordPut.{requested, switched, written}
+use Rattle.clr_rules.proofs.edits.Shapes.StepPut.{given, moved}
 use Rattle.clr_rules.proofs.good.GoodToPhases.{to_phases}
 use Rattle.clr_rules.proofs.good.Opening.{no_record, opening_is_good}
 use Rattle.clr_rules.proofs.keeps.EveryKind.{commands_keep_good}
@@ -66,43 +70,32 @@ module _ (R : Register) (throughout : IsGoodThroughout R) where
   )
 
   module _ (k : Known) (by : List ℕ) (at : ℕ) where
-    steps_of_any : (rows : List StepRow) → AllPutSuch (PutFits R) AnyStep (put_steps rows)
-    steps_of_any [] = tt
-    steps_of_any (row ∷ rows) = (tt, steps_of_any rows)
+    record_fits : (kind : Kind) → Pass (checks k R by at kind) → (s : Record) → RecordPut k R by at kind s → PutFits R s
+    record_fits _ passed _ (requested section) =
+        let (row, found, charge) = caller_role R by is_charge passed.0 passed.1.0 in (
+          not_refused_true (has_name (section_names (Grid.sections R.net)) section) UnknownSection passed.1.1.0,
+          sym (ap (has_role is_operator) found ∙ charge_operates_not row.role charge),
+        )
+    record_fits _ passed _ (switched tasks) = let (row, found, operates) = caller_role R by is_operator passed.0 passed.1.0 in (refl, sym (ap (has_role is_operator) found ∙ operates))
+    record_fits kind passed _ (written c r named no_show found held comes) = fits_before c r found
 
     -- WHERE NO CHECK APPLIES, the records that a command puts
     put_fits : (kind : Kind) → Pass (checks k R by at kind) → AllPutSuch (PutFits R) AnyStep (edits_of k.greatest R by at kind)
-    put_fits (kinds.Request section) passed =
-        let (caller_passes, (role_passes, (section_passes, _))) = passed in
-        let (row, found, charge) = caller_role R by is_charge caller_passes role_passes in (
-          (
-            not_refused_true (has_name (section_names (Grid.sections R.net)) section) UnknownSection section_passes,
-            sym (ap (has_role is_operator) found ∙ charge_operates_not row.role charge),
-          ),
-          tt,
-        )
-    put_fits (kinds.Switch tasks) passed =
-        let (row, found, operates) = caller_role R by is_operator passed.0 passed.1.0 in
-        ((refl, sym (ap (has_role is_operator) found ∙ operates)), steps_of_any (new_steps _ 1 1 tasks))
-    put_fits (kinds.Order c points tasks) passed =
-        by_record (AllPutSuch (PutFits R) AnyStep) tt R c _ (λ r found. (fits_before c r found, steps_of_any (new_steps c 1 1 tasks)))
-    put_fits (kinds.Restore c tasks) passed =
-        by_record (AllPutSuch (PutFits R) AnyStep) tt R c _ (λ r found. (fits_before c r found, steps_of_any (new_steps c 2 1 tasks)))
-    put_fits (kinds.Instruct c n) passed = by_step (AllPutSuch (PutFits R) AnyStep) tt R c n _ (λ r row found step. (fits_before c r found, (tt, tt)))
-    put_fits (kinds.Repeat c n text) passed = by_step (AllPutSuch (PutFits R) AnyStep) tt R c n _ (λ r row found step. (fits_before c r found, (tt, tt)))
-    put_fits (kinds.Report c n true) passed = by_step (AllPutSuch (PutFits R) AnyStep) tt R c n _ (λ r row found step.
-        done_put (PutFits R) AnyStep (is_switch_order r) r.id row.step.action row.step.point _ _ (fits_before c r found) tt)
-    put_fits (kinds.Report c n false) passed = by_step (AllPutSuch (PutFits R) AnyStep) tt R c n _ (λ r row found step. (fits_before c r found, (tt, tt)))
-    put_fits (kinds.Amend c n) passed = by_step (AllPutSuch (PutFits R) AnyStep) tt R c n _ (λ r row found step. (fits_before c r found, (tt, tt)))
-    put_fits (kinds.Test c section true) passed = by_record (AllPutSuch (PutFits R) AnyStep) tt R c _ (λ r found. (fits_before c r found, tt))
-    put_fits (kinds.Test c section false) passed = by_record (AllPutSuch (PutFits R) AnyStep) tt R c _ (λ r found. (fits_before c r found, tt))
-    put_fits (kinds.Release c notified clear) passed = by_record (AllPutSuch (PutFits R) AnyStep) tt R c _ (λ r found.
-        takes_put (PutFits R) AnyStep c (places_of R.holds c Tested) _ (fits_before c r found, tt))
-    put_fits (kinds.Show c) passed = tt
-    put_fits (kinds.Jumper point from to lockable remote) passed = by_added (AllPutSuch (PutFits R) AnyStep) R (new_jumper point from to lockable remote) tt tt
-    put_fits _ passed = by_record (AllPutSuch (PutFits R) AnyStep) tt R _ _ (λ r found. (fits_before _ r found, tt))
+    put_fits kind passed = puts_such k R by at kind (PutFits R) AnyStep (record_fits kind passed) (λ row put. tt) (edits_of k.greatest R by at kind) (edits_of_accepted k R by at kind passed)
 
   -- ---- steps that are put
+
+  -- whether a command gives a round of steps
+  abbrev gives_round : Kind → Bool
+  gives_round (kinds.Order c points tasks) = true
+  gives_round (kinds.Restore c tasks) = true
+  gives_round (kinds.Switch tasks) = true
+  gives_round _ = false
+
+  round_is_given : (k : Known) (by : List ℕ) (kind : Kind) (c : Id) (round : ℕ) (tasks : List Task) → GivesRound k by kind c round tasks → gives_round kind ≡ true
+  round_is_given k by _ _ _ _ (order c points tasks) = refl
+  round_is_given k by _ _ _ _ (restore c tasks) = refl
+  round_is_given k by _ _ _ _ (switch tasks) = refl
 
   abbrev IsAtPoint : StepRow → Type 0
   IsAtPoint row = has_name (point_names (Grid.points R.net)) row.step.point ≡ true
@@ -144,29 +137,19 @@ module _ (R : Register) (throughout : IsGoodThroughout R) where
     by_rows : (edits : List Edit) → AllPutSuch AnyRecord IsAtPoint edits → KeepsPoints edits
     by_rows edits such good = each_step_says AnyRecord IsAtPoint IsAtPoint (λ row is. is) edits R such throughout.steps_known
 
-    of_step : (c : Id) (n : ℕ) (row : StepRow) → step_at (present_steps R.steps c) n ≡ Some row → IsAtPoint row
-    of_step c n row found = All-contains IsAtPoint R.steps row throughout.steps_known (present_step R.steps c n row found).there
+    -- the others put a step again at its point
+    again_at_point : (kind : Kind) → gives_round kind ≡ false → (row : StepRow) → StepPut k R by kind row → IsAtPoint row
+    again_at_point kind none _ (given c round tasks gives n t there few) = absurd (false≢true (sym none ∙ round_is_given k by kind c round tasks gives))
+    again_at_point kind none _ (moved c n r row found moves) = All-contains IsAtPoint R.steps row throughout.steps_known (present_step R.steps c n row found.step).there
 
-    keeps_points : (kind : Kind) → KeepsPoints (edits_of k.greatest R by at kind)
-    keeps_points (kinds.Order c points tasks) = by_record KeepsPoints nothing_kept R c _ (λ r found.
+    keeps_points : (kind : Kind) → Pass (checks k R by at kind) → KeepsPoints (edits_of k.greatest R by at kind)
+    keeps_points (kinds.Order c points tasks) passed = by_record KeepsPoints nothing_kept R c _ (λ r found.
         round_kept_of c (record r { phase = Ordered; last = at }) 1 tasks (record_id R.records c r found) refl)
-    keeps_points (kinds.Restore c tasks) = by_record KeepsPoints nothing_kept R c _ (λ r found.
+    keeps_points (kinds.Restore c tasks) passed = by_record KeepsPoints nothing_kept R c _ (λ r found.
         round_kept_of c (record r { phase = Restoring; last = at }) 2 tasks (record_id R.records c r found) refl)
-    keeps_points (kinds.Switch tasks) = round_kept (new_record k.greatest by at None Switching) 1 tasks refl
-    keeps_points (kinds.Request section) = by_rows _ (tt, tt)
-    keeps_points (kinds.Instruct c n) = by_rows _ (by_step (AllPutSuch AnyRecord IsAtPoint) tt R c n _ (λ r row found step. (tt, (of_step c n row step, tt))))
-    keeps_points (kinds.Repeat c n text) = by_rows _ (by_step (AllPutSuch AnyRecord IsAtPoint) tt R c n _ (λ r row found step. (tt, (of_step c n row step, tt))))
-    keeps_points (kinds.Report c n true) = by_rows _ (by_step (AllPutSuch AnyRecord IsAtPoint) tt R c n _ (λ r row found step.
-        done_put AnyRecord IsAtPoint (is_switch_order r) r.id row.step.action row.step.point _ _ tt (of_step c n row step)))
-    keeps_points (kinds.Report c n false) = by_rows _ (by_step (AllPutSuch AnyRecord IsAtPoint) tt R c n _ (λ r row found step. (tt, (of_step c n row step, tt))))
-    keeps_points (kinds.Amend c n) = by_rows _ (by_step (AllPutSuch AnyRecord IsAtPoint) tt R c n _ (λ r row found step. (tt, (of_step c n row step, tt))))
-    keeps_points (kinds.Test c section true) = by_rows _ (by_record (AllPutSuch AnyRecord IsAtPoint) tt R c _ (λ r found. (tt, tt)))
-    keeps_points (kinds.Test c section false) = by_rows _ (by_record (AllPutSuch AnyRecord IsAtPoint) tt R c _ (λ r found. (tt, tt)))
-    keeps_points (kinds.Release c notified clear) = by_rows _ (by_record (AllPutSuch AnyRecord IsAtPoint) tt R c _ (λ r found.
-        takes_put AnyRecord IsAtPoint c (places_of R.holds c Tested) _ (tt, tt)))
-    keeps_points (kinds.Show c) = nothing_kept
-    keeps_points (kinds.Jumper point from to lockable remote) = by_rows _ (by_added (AllPutSuch AnyRecord IsAtPoint) R (new_jumper point from to lockable remote) tt tt)
-    keeps_points _ = by_rows _ (by_record (AllPutSuch AnyRecord IsAtPoint) tt R _ _ (λ r found. (tt, tt)))
+    keeps_points (kinds.Switch tasks) passed = round_kept (new_record k.greatest by at None Switching) 1 tasks refl
+    keeps_points kind passed = by_rows _ (puts_such k R by at kind AnyRecord IsAtPoint (λ s put. tt) (again_at_point kind refl) (edits_of k.greatest R by at kind)
+        (edits_of_accepted k R by at kind passed))
 
 -- ---- every command
 
@@ -209,7 +192,7 @@ module _ (R : Register) (q : Command) (throughout : IsGoodThroughout R) (passed 
     steps_known = All-weaker (λ (row : StepRow). IsTrue (has_name (point_names (Grid.points R.net)) row.step.point))
         (λ (row : StepRow). IsTrue (has_name (point_names (Grid.points (Register.net S))) row.step.point))
         (λ row known. point_stays R.net (Register.net S) grown row.step.point known) (Register.steps S)
-        (keeps_points R throughout k q.caller q.moment q.kind good_after);
+        (keeps_points R throughout k q.caller q.moment q.kind passes good_after);
     without_work = λ c s read. ⊎_elim (λ before. throughout.without_work c s before)
         (λ (put : PutFits R s). put.1 ∙ ap (λ (d : Id). is_operators R d.requester) (record_id (Register.records S) c s read))
         (record_after (PutFits R) AnyStep edits R c s such read) ∙ sym (by_staff c.requester);
