@@ -1,14 +1,13 @@
 -- The edits of commands about others spare a clearance.
-use Rattle.std.proofs.Common.{◌≡◌, ℕ, ◌+◌, Bool, true, false, cond, ◌||◌, not, List, [], ◌∷◌, ◌++◌, map, Option, Some, None, is_some, refl, sym, ◌∙◌, ap, subst, if◌then◌else◌, true≢false}
-use Rattle.clr_rules.proofs.Common.{and_from, false≢true, false_from_ne_true, not-true, not_from_false, Grid, point_names, section_names, has_name, PointRow, Task, Action, Known, checks, edits_of}
-use Rattle.clr_rules.proofs.Common.{is_jumper, named_clearance, of_round, outlook_of, is_fenced, is_switch_order, after, hand_in, is_hand, of_round_is, one_id, record_id}
-use Rattle.std.proofs.lemmas.List.Folds.{list_all-append}
+use Rattle.std.proofs.Common.{◌≡◌, ℕ, Bool, true, false, cond, ◌||◌, not, List, [], ◌∷◌, Option, Some, None, is_some, refl, sym, ◌∙◌, ap, subst, if◌then◌else◌, true≢false}
+use Rattle.clr_rules.proofs.Common.{Grid, Known, PointRow, Position, after, and_from, both_ways, checks, edits_of, false_from_ne_true, false≢true, hand_in, has_name, is_fenced, is_hand, is_jumper}
+use Rattle.clr_rules.proofs.Common.{named_clearance, not-true, not_from_false, of_round, of_round_is, one_id, outlook_of, point_names, record_id, section_names}
 use Rattle.clr_net.specs.declared.point.Position.TheVariants.{Closed as Shut}
 use Rattle.clr_rules.specs.Answer.{Answer, answer, reply_clearance, first_refusal, known_of, requester_for, answer_by_checks}
-use Rattle.clr_rules.specs.Changes.{added_edits, done_edits, edits_by, new_jumper, new_section, new_steps, point_edits, put_steps, undone_edits, with_record, with_step}
-use Rattle.clr_rules.specs.Checks.{other_hand, refuse, where_some}
-use Rattle.clr_rules.specs.Prelude.{Edit, SetPosition, SetHand, TakeHold, PutRecord, PutStep, AddSection, AddPoint, Command, PointState, state_of, Kind, HeldOpen, Tested, Record, Refusal, StepRow, Id}
-use Rattle.clr_rules.specs.Prelude.{same_id, Register, hand_of, has_in_hand, greatest_number, record_of, is_running, points_of, present_steps, steps_in, step_at, has_hold, hold_of, places_of}
+use Rattle.clr_rules.specs.Changes.{added_edits, new_jumper, new_section}
+use Rattle.clr_rules.specs.Checks.{other_hand, refuse}
+use Rattle.clr_rules.specs.Prelude.{Edit, SetPosition, SetHand, AddSection, AddPoint, Command, PointState, state_of, Kind, HeldOpen, Record, Refusal, StepRow, Id}
+use Rattle.clr_rules.specs.Prelude.{same_id, Register, hand_of, has_in_hand, greatest_number, record_of, is_running, points_of, present_steps, steps_in, step_at, has_hold}
 use Rattle.clr_rules.specs.Fences.{clearance_fence, found_fence, work_fence}
 use Rattle.clr_rules.specs.Footprint.{Frame, all_spare, both_or_neither, spares}
 use Rattle.clr_rules.specs.laws.Frame.{HandsMatchToReport, is_report, subject_of}
@@ -20,14 +19,16 @@ use Rattle.clr_rules.specs.declared.refusal.Refusal.TheVariants.{InHand, StepSta
 use Rattle.clr_rules.proofs.lists.FoundSteps.{present_step, step_is_active, step_is_closing}
 use Rattle.clr_rules.proofs.lists.NewNumbers.{new_is_another}
 use Rattle.clr_rules.proofs.edits.AddedEdits.{jumper_can}
-use Rattle.clr_rules.proofs.edits.Passing.{all_pass, not_refused_true, role_begun}
-use Rattle.clr_rules.proofs.isolation.Sparing.{has_hold-same, sparing_edits_keep_outlook, sparing_edits_leave_alone}
 use Rattle.clr_rules.proofs.edits.EditedLists.{edited_all-network}
-use Rattle.clr_rules.proofs.edits.PlainEdits.{answers_plain}
+use Rattle.clr_rules.proofs.edits.Passing.{Pass, all_pass, check_of_found, not_refused_true, role_begun}
+use Rattle.clr_rules.proofs.edits.PlainEdits.{answers_plain, point_of_jumper}
+use Rattle.clr_rules.proofs.edits.Shapes.{HandSet, IsEditOf, PositionSet, each_passes, edits_of_accepted, subject}
+use Rattle.clr_rules.proofs.edits.Shapes.HandSet.{into, out_of}
+use Rattle.clr_rules.proofs.edits.Shapes.PositionSet.{closes, opens}
+use Rattle.clr_rules.proofs.isolation.Sparing.{has_hold-same, sparing_edits_keep_outlook, sparing_edits_leave_alone}
 use Rattle.clr_rules.proofs.keeps.Jumper.{jumpers_keep_fences}
 use Rattle.clr_rules.proofs.lists.StateFacts.{state_is_known}
 use Rattle.clr_rules.proofs.lists.StepSplits.{repeated_is_active}
-use Rattle.clr_order.specs.declared.action.Action.TheVariants as actions
 use Rattle.clr_rules.specs.declared.command.Kind.TheVariants as kinds
 
 -- ---- hands of another
@@ -42,58 +43,12 @@ no_other_hand : (c d : Id) (hand : Option Id) → same_id c d ≡ false → othe
 no_other_hand c d None differs passed = refl
 no_other_hand c d (Some e) differs passed = hand_of_one c d (Some e) differs (not_refused_true (same_id d e) (InHand e) passed)
 
--- what a check of a step says where the step is found
-check_of_found : (found : Option StepRow) (row : StepRow) (check : StepRow → Option Refusal) → found ≡ Some row → where_some found check ≡ None → check row ≡ None
-check_of_found found row check is passed = rw is at passed
-
--- ---- lists of edits
+-- ---- hands that are set
 
 module _ (c : Id) (R : Register) where
   -- a hand that is cleared or set to another spares c where the point is not in its hand
   spares_hand : (p : List ℕ) (hand : Option Id) → has_in_hand R.states c p ≡ false → is_hand c hand ≡ false → spares c R (SetHand p hand) ≡ true
   spares_hand p hand free others = ap (λ had. both_or_neither had (is_hand c hand)) free ∙ not_from_false _ others
-
-  steps_spare : (d : Id) (round n : ℕ) (tasks : List Task) → not (same_id c d) ≡ true → all_spare c R (put_steps (new_steps d round n tasks)) ≡ true
-  unfolding new_steps
-  steps_spare d round n [] others = refl
-  steps_spare d round n (t ∷ tasks) others = and_from _ _ others (steps_spare d round (n + 1) tasks others)
-
-  takes_spare : (d : Id) (places : List (List ℕ)) → not (same_id c d) ≡ true → all_spare c R (map (λ place. TakeHold (hold_of d Tested place)) places) ≡ true
-  takes_spare d [] others = refl
-  takes_spare d (place ∷ places) others = and_from _ _ others (takes_spare d places others)
-
-  -- where a record is found, it is d's
-  by_record : (d : Id) (edits : Record → List Edit) → not (same_id c d) ≡ true → ((r : Record) → not (same_id c r.id) ≡ true → all_spare c R (edits r) ≡ true)
-      → all_spare c R (with_record R d edits) ≡ true
-  by_record d edits others each = at (record_of R.records d) refl
-    where
-      at : (found : Option Record) → record_of R.records d ≡ found → all_spare c R (edits_by found edits) ≡ true
-      at None is = refl
-      at (Some r) is = each r (ap (λ id. not (same_id c id)) (record_id R.records d r is) ∙ others)
-
-  -- and where a step is found, it is d's too
-  by_step : (d : Id) (n : ℕ) (edits : Record → StepRow → List Edit) → not (same_id c d) ≡ true
-      → ((r : Record) (row : StepRow) → step_at (present_steps R.steps d) n ≡ Some row → not (same_id c r.id) ≡ true → not (same_id c row.id) ≡ true
-      → all_spare c R (edits r row) ≡ true)
-      → all_spare c R (with_step R d n edits) ≡ true
-  by_step d n edits others each = by_record d (λ r. edits_by (step_at (present_steps R.steps d) n) (edits r)) others (λ r own. at r own (step_at (present_steps R.steps d) n) refl)
-    where
-      at : (r : Record) → not (same_id c r.id) ≡ true → (found : Option StepRow) → step_at (present_steps R.steps d) n ≡ found
-          → all_spare c R (edits_by found (edits r)) ≡ true
-      at r own None is = refl
-      at r own (Some row) is =
-          let step = present_step R.steps d n row is in
-          each r row is own (ap (λ id. not (same_id c id)) (sym (one_id d row.id step.own)) ∙ others)
-
-  -- the edits of a step that is done
-  done_spares : (action : Action) (switching : Bool) (p : List ℕ) (r r2 : Record) (row : StepRow) → spares c R (SetHand p None) ≡ true
-      → (is_close action ≡ true → spares c R (SetPosition p Shut) ≡ true) → not (same_id c r.id) ≡ true → not (same_id c r2.id) ≡ true → not (same_id c row.id) ≡ true
-      → all_spare c R (point_edits switching r.id action p ++ PutRecord r2 ∷ PutStep row ∷ []) ≡ true
-  done_spares actions.Open true p r r2 row hand shut own kept step = and_from _ _ hand (and_from _ _ kept (and_from _ _ step refl))
-  done_spares actions.Open false p r r2 row hand shut own kept step = and_from _ _ hand (and_from _ _ own (and_from _ _ kept (and_from _ _ step refl)))
-  done_spares actions.Close switching p r r2 row hand shut own kept step =
-      and_from _ _ (shut refl) (and_from _ _ hand (and_from _ _ own (and_from _ _ kept (and_from _ _ step refl))))
-  done_spares _ switching p r r2 row hand shut own kept step = and_from _ _ hand (and_from _ _ own (and_from _ _ kept (and_from _ _ step refl)))
 
 -- ---- reports, where the hands match the steps
 
@@ -107,19 +62,12 @@ module _ (c : Id) (R : Register) (d : Id) (row : StepRow) (n : ℕ) (matches : H
 
   -- no other clearance holds a point that is being closed
   reported_close : is_close row.step.action ≡ true → spares c R (SetPosition row.step.point Shut) ≡ true
-  reported_close closes =
+  reported_close is =
       let step = present_step R.steps d n row found in
-      let closing = step_is_closing R.steps d row step.there step.own (repeated_is_active row.step.state repeated) closes in
+      let closing = step_is_closing R.steps d row step.there step.own (repeated_is_active row.step.state repeated) is in
       not_from_false _ (false_from_ne_true _ (λ held.
       let (same, _) = matches.closing d row.step.point closing c HeldOpen refl held in
       true≢false (sym (same_id_equiv.refl c) ∙ ap (same_id c) same ∙ not-true (same_id c d) others)))
-
-  report_spares : (at : ℕ) (done : Bool) (r : Record) → not (same_id c r.id) ≡ true → not (same_id c row.id) ≡ true
-      → all_spare c R (if done then done_edits R at r row else undone_edits at r row) ≡ true
-  report_spares at true r own step =
-      done_spares c R row.step.action (is_switch_order r) row.step.point r _ _ (spares_hand c R row.step.point None reported_hand refl) reported_close own own step
-  report_spares at false r own step =
-      and_from _ _ (spares_hand c R row.step.point None reported_hand refl) (and_from _ _ own (and_from _ _ step refl))
 
 -- ---- a point that is added
 
@@ -142,44 +90,48 @@ module _ (c : Id) (R : Register) (p : PointRow) (known : PointsAreKnown R) (new 
       at true = and_from _ _ (not_from_false _ new_in_no_hand) refl
       at false = and_from _ _ (not_from_false _ new_in_no_hand) refl
 
--- ---- each kind of command
+-- ---- each edit
 
 module _ (c : Id) (R : Register) (k : Known) (by : List ℕ) (at : ℕ) where
-  -- where no check applies, all but the clearance that the command is about are spared
-  edits_spare : (kind : Kind) → is_jumper kind ≡ false → (is_report kind ≡ true → HandMatchesStep R) → not (same_id c (reply_clearance k.greatest by (named_clearance kind))) ≡ true
-      → first_refusal (checks k R by at kind) ≡ None → all_spare c R (edits_of k.greatest R by at kind) ≡ true
-  edits_spare (kinds.Request section) plain matches others passed = and_from _ _ others refl
-  edits_spare (kinds.Order d points tasks) plain matches others passed =
-      by_record c R d _ others (λ r own. and_from _ _ own (steps_spare c R d 1 1 tasks others))
-  edits_spare (kinds.Instruct d n) plain matches others passed = by_step c R d n _ others (λ r row found own step.
-      let (_, _, _, (_, (_, (_, (hand_passes, _))))) = role_begun R d is_running (all_pass (checks k R by at (kinds.Instruct d n)) passed) in
+  -- a step that is reported was repeated
+  repeated_before : (d : Id) (n : ℕ) (done : Bool) (row : StepRow) → Pass (checks k R by at (kinds.Report d n done)) → step_at (present_steps R.steps d) n ≡ Some row
+      → is_repeated row.step.state ≡ true
+  repeated_before d n done row passed found =
+      let (_, _, _, (_, (state_passes, _))) = role_begun R d is_running passed in
+      not_refused_true (is_repeated row.step.state) WrongState
+      (check_of_found (step_at (present_steps R.steps d) n) row (λ row. refuse (not (is_repeated row.step.state)) WrongState) found state_passes)
+
+  hand_spares : (kind : Kind) → (is_report kind ≡ true → HandMatchesStep R) → not (same_id c (subject k by kind)) ≡ true → Pass (checks k R by at kind) → (p : List ℕ) (hand : Option Id)
+      → HandSet R kind p hand → spares c R (SetHand p hand) ≡ true
+  hand_spares _ matches others passed _ _ (into d n r row found) =
+      let (_, _, _, (_, (_, (_, (hand_passes, _))))) = role_begun R d is_running passed in
       let free : other_hand d (hand_of R.states row.step.point) ≡ None =
-      check_of_found (step_at (present_steps R.steps d) n) row (λ row. other_hand d (hand_of R.states row.step.point)) found hand_passes in
-      and_from _ _ (spares_hand c R row.step.point (Some d) (no_other_hand c d (hand_of R.states row.step.point) (not-true (same_id c d) others) free) (not-true (same_id c d) others))
-      (and_from _ _ own (and_from _ _ step refl)))
-  edits_spare (kinds.Repeat d n text) plain matches others passed =
-      by_step c R d n _ others (λ r row found own step. and_from _ _ own (and_from _ _ step refl))
-  edits_spare (kinds.Report d n done) plain matches others passed = by_step c R d n _ others (λ r row found own step.
-      let (_, _, _, (_, (state_passes, _))) = role_begun R d is_running (all_pass (checks k R by at (kinds.Report d n done)) passed) in
-      let check : refuse (not (is_repeated row.step.state)) WrongState ≡ None =
-      check_of_found (step_at (present_steps R.steps d) n) row (λ row. refuse (not (is_repeated row.step.state)) WrongState) found
-      state_passes in
-      report_spares c R d row n (matches refl) others found (not_refused_true (is_repeated row.step.state) WrongState check) at done r own step)
-  edits_spare (kinds.Test d section true) plain matches others passed = by_record c R d _ others (λ r own. and_from _ _ others (and_from _ _ own refl))
-  edits_spare (kinds.Test d section false) plain matches others passed = by_record c R d _ others (λ r own. and_from _ _ others (and_from _ _ own refl))
-  edits_spare (kinds.Release d notified clear) plain matches others passed = by_record c R d _ others (λ r own.
-      list_all-append (spares c R) (map (λ place. TakeHold (hold_of d Tested place)) (places_of R.holds d Tested)) _
-      ∙ and_from _ _ (takes_spare c R d (places_of R.holds d Tested) others) (and_from _ _ own refl))
-  edits_spare (kinds.Restore d tasks) plain matches others passed =
-      by_record c R d _ others (λ r own. and_from _ _ own (steps_spare c R d 2 1 tasks others))
-  edits_spare (kinds.Amend d n) plain matches others passed =
-      by_step c R d n _ others (λ r row found own step. and_from _ _ own (and_from _ _ step refl))
-  edits_spare (kinds.Switch tasks) plain matches others passed =
-      and_from _ _ others (steps_spare c R (reply_clearance k.greatest by None) 1 1 tasks others)
-  edits_spare (kinds.Show d) plain matches others passed = refl
-  edits_spare (kinds.Jumper point from to lockable remote) plain matches others passed = cc plain
-  -- holds of the clearance, and its record
-  edits_spare _ plain matches others passed = by_record c R _ _ others (λ r own. simp (others, own))
+      check_of_found (step_at (present_steps R.steps d) n) row (λ row. other_hand d (hand_of R.states row.step.point)) found.step hand_passes in
+      spares_hand c R row.step.point (Some d) (no_other_hand c d (hand_of R.states row.step.point) (not-true (same_id c d) others) free) (not-true (same_id c d) others)
+  hand_spares _ matches others passed _ _ (out_of d n done r row found) =
+      spares_hand c R row.step.point None (reported_hand c R d row n (matches refl) others found.step (repeated_before d n done row passed found.step)) refl
+
+  position_spares : (kind : Kind) → (is_report kind ≡ true → HandMatchesStep R) → not (same_id c (subject k by kind)) ≡ true → Pass (checks k R by at kind) → (p : List ℕ) (position : Position)
+      → PositionSet R kind p position → spares c R (SetPosition p position) ≡ true
+  position_spares _ matches others passed _ _ (opens d n r row found) = refl
+  position_spares _ matches others passed _ _ (closes d n r row found closing) =
+      reported_close c R d row n (matches refl) others found.step (repeated_before d n true row passed found.step) closing
+
+  edit_spares : (kind : Kind) → is_jumper kind ≡ false → (is_report kind ≡ true → HandMatchesStep R) → not (same_id c (subject k by kind)) ≡ true → Pass (checks k R by at kind)
+      → (edit : Edit) → IsEditOf k R by at kind edit → spares c R edit ≡ true
+  edit_spares kind plain matches others passed (SetHand p hand) is = hand_spares kind matches others passed p hand is
+  edit_spares kind plain matches others passed (SetPosition p position) is = position_spares kind matches others passed p position is
+  edit_spares kind plain matches others passed (AddSection row) is = refl
+  edit_spares kind plain matches others passed (AddPoint p) is = absurd (both_ways (is_jumper kind) plain (point_of_jumper kind p is))
+  -- a row of the clearance that the command is about
+  edit_spares kind plain matches others passed _ is = ap (λ (d : Id). not (same_id c d)) is.0 ∙ others
+
+  -- where no check applies, all but the clearance that the command is about are spared
+  edits_spare : (kind : Kind) → is_jumper kind ≡ false → (is_report kind ≡ true → HandMatchesStep R) → not (same_id c (subject k by kind)) ≡ true
+      → first_refusal (checks k R by at kind) ≡ None → all_spare c R (edits_of k.greatest R by at kind) ≡ true
+  edits_spare kind plain matches others passed =
+      let passes = all_pass (checks k R by at kind) passed in
+      each_passes k R by at kind (spares c R) (edit_spares kind plain matches others passes) (edits_of k.greatest R by at kind) (edits_of_accepted k R by at kind passes)
 
   -- a jumper that no check refuses adds a point of a new name, which is in nobody's hand
   jumper_spares : (kind : Kind) → is_jumper kind ≡ true → PointsAreKnown R → first_refusal (checks k R by at kind) ≡ None
