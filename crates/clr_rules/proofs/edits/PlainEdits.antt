@@ -1,5 +1,5 @@
 -- No command but a jumper adds to the network, and a run without jumpers keeps it.
-use Rattle.std.proofs.Common.{◌≡◌, ℕ, Bool, true, false, List, [], ◌∷◌, ◌++◌, map, not, Some, None, Option, refl, ◌∙◌}
+use Rattle.std.proofs.Common.{◌≡◌, ℕ, true, false, List, [], ◌∷◌, ◌++◌, map, not, Some, None, Option, refl, ◌∙◌}
 use Rattle.clr_rules.proofs.Common.{AddPoint, AddSection, Answer, Command, Edit, Id, Kind, Known, PointRow, Refusal, Register, SectionRow, StepRow, TakeHold, Tested, adds, adds_nothing, after}
 use Rattle.clr_rules.proofs.Common.{after_all, and_parts, answer, answer_by_checks, answer_with, both_ways, checks, edits_of, first_refusal, hold_of, is_jumper, known_of, list_all, not-true, put_steps}
 use Rattle.clr_rules.proofs.edits.EditedLists.{edited_all-net}

@@ -9,7 +9,7 @@ use Rattle.clr_net.specs.declared.point.Position.TheVariants.{Opened, Closed as 
 use Rattle.clr_order.specs.declared.action.Action.TheVariants as actions
 use Rattle.clr_order.specs.declared.step.StepState.TheVariants.{Instructed, Repeated}
 use Rattle.clr_rules.specs.Answer.{reply_clearance}
-use Rattle.clr_rules.specs.Changes.{done_edits, new_record, new_section, new_steps, phase_after, point_edits, undone_edits}
+use Rattle.clr_rules.specs.Changes.{done_edits, new_record, new_section, new_steps, phase_after, point_edits}
 use Rattle.clr_rules.specs.Hold.{same_hold}
 use Rattle.clr_rules.specs.Prelude.{all_done, has_any_hold, is_ordered, step_key, step_key_cmp, with_row}
 use Rattle.clr_rules.specs.Records.{ends_with_steps, is_released, is_requested}

@@ -1,5 +1,5 @@
 -- Tags: which command takes one, and how a clearance comes to be Restoring or Released.
-use Rattle.std.proofs.Common.{◌≡◌, ℕ, Bool, true, false, List, [], ◌∷◌, Option, Some, None, Contains, refl, sym, ◌∙◌, ap, subst, ◌⊎◌, inl, inr, ⊎_elim}
+use Rattle.std.proofs.Common.{◌≡◌, ℕ, Bool, true, false, List, [], Option, Some, None, Contains, refl, sym, ◌∙◌, ap, subst, ◌⊎◌, inl, inr, ⊎_elim}
 use Rattle.clr_rules.proofs.Common.{Action, All-contains, Answer, InPhase, IsGoodByPhase, Known, after, answer_by_checks, both_ways, checks, edits_of, equal, false≢true, is_switching, known_of, of_round}
 use Rattle.clr_rules.proofs.Common.{outlook_of, same_Some}
 use Rattle.clr_rules.specs.laws.Edits.{is_hold, refusal_of}
