@@ -7,6 +7,7 @@ use Rattle.clr_rules.specs.Prelude.{PutHold, TakeHold, PutRecord, Hold, HoldKind
 use Rattle.clr_rules.specs.Prelude.{id_cmp, same_id, Register, has_in_hand, record_key, record_of, is_granted, steps_of, hold_cmp, is_point_kind, has_hold, has_some_hold, hold_key, hold_of, same_kind}
 use Rattle.clr_rules.specs.Prelude.{after_edits, CrewsOn, NotGrounded, OutsideFence}
 use Rattle.clr_rules.specs.GoodByPhase.{InGranted, InPhase, IsGoodByPhase, inner_fence, outlook_of}
+use Rattle.clr_rules.specs.HoldKind.{is_crew, is_section_kind}
 use Rattle.clr_rules.specs.Id.{same_id_equiv}
 use Rattle.clr_rules.specs.declared.command.Kind.TheVariants.{Ground as GroundIt, SignOff, SignOn, Test, Unground}
 use Rattle.clr_rules.proofs.good.Keeping.{KeepsGood, Changed, commands_keep, keeps}
@@ -123,38 +124,39 @@ module _ (R : Register) (good : IsGoodByPhase R) (c : Id) (r : Record) (found : 
   taken_points of place holds off_point kind q at_point = own_taken c of place holds kind q
       ∙ ap (λ b. not (b && same_name place q) && has_hold holds c kind q) (off_points of kind off_point at_point)
 
-  test_keeps : (section : List ℕ) → has_name (clearance_fence R c) section ≡ true → IsGoodByPhase (after_edits (PutHold (hold_of c Tested section) ∷ PutRecord next ∷ []) R)
+  -- A HOLD THAT IS PUT: a test or a ground inside the fence, or a crew where the work section is grounded
+  hold_put_keeps : (of : HoldKind) (place : List ℕ) → is_point_kind of ≡ false → (is_section_kind of ≡ true → has_name (clearance_fence R c) place ≡ true)
+      → (is_crew of ≡ true → has_hold R.holds c Ground w.work ≡ true) → IsGoodByPhase (after_edits (PutHold (hold_of c of place) ∷ PutRecord next ∷ []) R)
   unfolding after_edits
-  test_keeps section fenced = keeps R (PutHold (hold_of c Tested section) ∷ PutRecord next ∷ []) c refl good
-      (work_changed (with_row hold_cmp hold_key (hold_of c Tested section) R.holds) (record {
-        others = others_hold_put c Tested section R.holds;
-        at_points = put_points Tested section refl;
-        tested = λ q has. ⊎_elim (λ had. inl had) (λ here. inr (ap (has_name (clearance_fence R c)) here.2 ∙ fenced)) (was_or_put c Tested section R.holds c Tested q has);
-        grounded = λ q has. inl (sym (own_put c Tested section R.holds Ground q) ∙ has);
-        crews = λ q has. own_put c Tested section R.holds Ground w.work ∙ w.granted.crews_grounded q (sym (own_put c Tested section R.holds Crew q) ∙ has);
+  hold_put_keeps of place off fenced grounded = keeps R (PutHold (hold_of c of place) ∷ PutRecord next ∷ []) c refl good
+      (work_changed (with_row hold_cmp hold_key (hold_of c of place) R.holds) (record {
+        others = others_hold_put c of place R.holds;
+        at_points = put_points of place off;
+        tested = λ q has. had_or_fenced Tested q refl (was_or_put c of place R.holds c Tested q has);
+        grounded = λ q has. had_or_fenced Ground q refl (was_or_put c of place R.holds c Ground q has);
+        crews = λ q has. own_put c of place R.holds Ground w.work
+            ∙ or_right (is_there of place Ground w.work) (has_hold R.holds c Ground w.work)
+            (⊎_elim (λ had. w.granted.crews_grounded q had) (λ here. grounded (ap is_crew (sym here.1))) (was_or_put c of place R.holds c Crew q has));
       }))
+    where
+      had_or_fenced : (kind : HoldKind) (q : List ℕ) → is_section_kind kind ≡ true → (has_hold R.holds c kind q ≡ true) ⊎ ((c ≡ c) × (kind ≡ of) × (q ≡ place))
+          → (has_hold R.holds c kind q ≡ true) ⊎ (has_name (clearance_fence R c) q ≡ true)
+      had_or_fenced kind q section (inl had) = inl had
+      had_or_fenced kind q section (inr here) = inr (ap (has_name (clearance_fence R c)) here.2 ∙ fenced (ap is_section_kind (sym here.1) ∙ section))
 
-  not_dead_keeps : (section : List ℕ) → IsGoodByPhase (after_edits (TakeHold (hold_of c Tested section) ∷ PutRecord next ∷ []) R)
+  -- one that is taken, and is no ground
+  hold_taken_keeps : (of : HoldKind) (place : List ℕ) → is_point_kind of ≡ false → same_kind of Ground ≡ false
+      → IsGoodByPhase (after_edits (TakeHold (hold_of c of place) ∷ PutRecord next ∷ []) R)
   unfolding after_edits
-  not_dead_keeps section = keeps R (TakeHold (hold_of c Tested section) ∷ PutRecord next ∷ []) c refl good
-      (work_changed (without_row hold_cmp hold_key (hold_of c Tested section) R.holds) (record {
-        others = others_hold_taken c Tested section R.holds;
-        at_points = taken_points Tested section R.holds refl;
-        tested = λ q has. inl (was_there c Tested section R.holds c Tested q has);
-        grounded = λ q has. inl (was_there c Tested section R.holds c Ground q has);
-        crews = λ q has. own_taken c Tested section R.holds Ground w.work ∙ w.granted.crews_grounded q (was_there c Tested section R.holds c Crew q has);
-      }))
-
-  ground_keeps : (section : List ℕ) → has_name (clearance_fence R c) section ≡ true → IsGoodByPhase (after_edits (PutHold (hold_of c Ground section) ∷ PutRecord next ∷ []) R)
-  unfolding after_edits
-  ground_keeps section fenced = keeps R (PutHold (hold_of c Ground section) ∷ PutRecord next ∷ []) c refl good
-      (work_changed (with_row hold_cmp hold_key (hold_of c Ground section) R.holds) (record {
-        others = others_hold_put c Ground section R.holds;
-        at_points = put_points Ground section refl;
-        tested = λ q has. inl (sym (own_put c Ground section R.holds Tested q) ∙ has);
-        grounded = λ q has. ⊎_elim (λ had. inl had) (λ here. inr (ap (has_name (clearance_fence R c)) here.2 ∙ fenced)) (was_or_put c Ground section R.holds c Ground q has);
-        crews = λ q has. own_put c Ground section R.holds Ground w.work
-            ∙ or_right (is_there Ground section Ground w.work) (has_hold R.holds c Ground w.work) (w.granted.crews_grounded q (sym (own_put c Ground section R.holds Crew q) ∙ has));
+  hold_taken_keeps of place off no_ground = keeps R (TakeHold (hold_of c of place) ∷ PutRecord next ∷ []) c refl good
+      (work_changed (without_row hold_cmp hold_key (hold_of c of place) R.holds) (record {
+        others = others_hold_taken c of place R.holds;
+        at_points = taken_points of place R.holds off;
+        tested = λ q has. inl (was_there c of place R.holds c Tested q has);
+        grounded = λ q has. inl (was_there c of place R.holds c Ground q has);
+        crews = λ q has. own_taken c of place R.holds Ground w.work
+            ∙ ap (λ b. not (b && same_name place w.work) && has_hold R.holds c Ground w.work) no_ground
+            ∙ w.granted.crews_grounded q (was_there c of place R.holds c Crew q has);
       }))
 
   -- no crew is on, where the ground of the work section is taken
@@ -183,28 +185,6 @@ module _ (R : Register) (good : IsGoodByPhase R) (c : Id) (r : Record) (found : 
       elsewhere : has_some_hold R.holds c Crew ≡ true → same_name section w.work ≡ false
       elsewhere on = nat_list_eq_equiv.symm section w.work ∙ false_from_ne_true (same_name w.work section) (λ same. false≢true (sym clear ∙ and_from (same_name w.work section) (has_some_hold R.holds c Crew) same on))
 
-  sign_on_keeps : (crew : List ℕ) → has_hold R.holds c Ground w.work ≡ true → IsGoodByPhase (after_edits (PutHold (hold_of c Crew crew) ∷ PutRecord next ∷ []) R)
-  unfolding after_edits
-  sign_on_keeps crew grounded = keeps R (PutHold (hold_of c Crew crew) ∷ PutRecord next ∷ []) c refl good
-      (work_changed (with_row hold_cmp hold_key (hold_of c Crew crew) R.holds) (record {
-        others = others_hold_put c Crew crew R.holds;
-        at_points = put_points Crew crew refl;
-        tested = λ q has. inl (sym (own_put c Crew crew R.holds Tested q) ∙ has);
-        grounded = λ q has. inl (sym (own_put c Crew crew R.holds Ground q) ∙ has);
-        crews = λ q has. own_put c Crew crew R.holds Ground w.work ∙ grounded;
-      }))
-
-  sign_off_keeps : (crew : List ℕ) → IsGoodByPhase (after_edits (TakeHold (hold_of c Crew crew) ∷ PutRecord next ∷ []) R)
-  unfolding after_edits
-  sign_off_keeps crew = keeps R (TakeHold (hold_of c Crew crew) ∷ PutRecord next ∷ []) c refl good
-      (work_changed (without_row hold_cmp hold_key (hold_of c Crew crew) R.holds) (record {
-        others = others_hold_taken c Crew crew R.holds;
-        at_points = taken_points Crew crew R.holds refl;
-        tested = λ q has. inl (was_there c Crew crew R.holds c Tested q has);
-        grounded = λ q has. inl (was_there c Crew crew R.holds c Ground q has);
-        crews = λ q has. own_taken c Crew crew R.holds Ground w.work ∙ w.granted.crews_grounded q (was_there c Crew crew R.holds c Crew q has);
-      }))
-
 -- ---- the commands
 
 pub tests_keep : (c : Id) (section : List ℕ) (dead : Bool) → KeepsGood (Test c section dead)
@@ -218,15 +198,15 @@ tests_keep c section dead = commands_keep (Test c section dead) (λ R by at good
     by_test : (R : Register) (good : IsGoodByPhase R) (c : Id) (r : Record) (found : record_of R.records c ≡ Some r) (w : GrantedWork R c r) (at : ℕ) (section : List ℕ)
         → has_name (clearance_fence R c) section ≡ true → (dead : Bool)
         → IsGoodByPhase (after_edits (cond dead (PutHold (hold_of c Tested section)) (TakeHold (hold_of c Tested section)) ∷ PutRecord (record r { last = at }) ∷ []) R)
-    by_test R good c r found w at section fenced true = test_keeps R good c r found w at section fenced
-    by_test R good c r found w at section fenced false = not_dead_keeps R good c r found w at section
+    by_test R good c r found w at section fenced true = hold_put_keeps R good c r found w at Tested section refl (λ _. fenced) (λ is. absurd (false≢true is))
+    by_test R good c r found w at section fenced false = hold_taken_keeps R good c r found w at Tested section refl refl
 
 pub grounds_keep : (c : Id) (section : List ℕ) → KeepsGood (GroundIt c section)
 grounds_keep c section = commands_keep (GroundIt c section) (λ R by at good passed.
     let (r, found, fits, (inside_passes, _)) = holder_begun R c is_granted passed in
     let w = granted_work R c r good found fits in
     found_edits R c r (λ r. PutHold (hold_of c Ground section) ∷ PutRecord (record r { last = at }) ∷ []) found
-    (ground_keeps R good c r found w at section (not_refused_true (has_name (clearance_fence R c) section) OutsideFence inside_passes)))
+    (hold_put_keeps R good c r found w at Ground section refl (λ _. not_refused_true (has_name (clearance_fence R c) section) OutsideFence inside_passes) (λ is. absurd (false≢true is))))
 
 -- what is checked at the work section
 work_check : (R : Register) (c : Id) (r : Record) (w : GrantedWork R c r) (check : List ℕ → Option Refusal) → record_of R.records c ≡ Some r → at_work R c check ≡ None → check w.work ≡ None
@@ -245,7 +225,7 @@ sign_ons_keep c crew = commands_keep (SignOn c crew) (λ R by at good passed.
     let (r, found, fits, (_, (ground_passes, _))) = holder_begun R c is_granted passed in
     let w = granted_work R c r good found fits in
     found_edits R c r (λ r. PutHold (hold_of c Crew crew) ∷ PutRecord (record r { last = at }) ∷ []) found
-    (sign_on_keeps R good c r found w at crew (not_refused_true (has_hold R.holds c Ground w.work) NotGrounded
+    (hold_put_keeps R good c r found w at Crew crew refl (λ is. absurd (false≢true is)) (λ _. not_refused_true (has_hold R.holds c Ground w.work) NotGrounded
     (work_check R c r w (λ section. refuse (not (has_hold R.holds c Ground section)) NotGrounded) found ground_passes))))
 
 pub sign_offs_keep : (c : Id) (crew : List ℕ) → KeepsGood (SignOff c crew)
@@ -253,4 +233,4 @@ sign_offs_keep c crew = commands_keep (SignOff c crew) (λ R by at good passed.
     let (r, found, fits, _) = holder_begun R c is_granted passed in
     let w = granted_work R c r good found fits in
     found_edits R c r (λ r. TakeHold (hold_of c Crew crew) ∷ PutRecord (record r { last = at }) ∷ []) found
-    (sign_off_keeps R good c r found w at crew))
+    (hold_taken_keeps R good c r found w at Crew crew refl refl))
