@@ -100,7 +100,3 @@ module _ (c : Id) (kind : HoldKind) (place : List ℕ) where
   unfolding after_edits
   left_by_all [] R leave has = has
   left_by_all (edit ∷ edits) R leave has = left_by_all edits (after_edit edit R) leave.1 (left_by edit R leave.0 has)
-
-  pub steps_leave : (rows : List StepRow) → AllLeave c kind place (put_steps rows)
-  steps_leave [] = tt
-  steps_leave (row ∷ rows) = (tt, steps_leave rows)
