@@ -22,7 +22,7 @@ use Rattle.clr_rules.proofs.lists.RoundSteps.{one_id}
 use Rattle.clr_again.proofs.Accepted.{accepted_passes, after_is, reply_is}
 use Rattle.clr_again.proofs.Alike.{repeats, tests}
 use Rattle.clr_again.proofs.Another.{requests_again, switches_again}
-use Rattle.clr_again.proofs.Refused.{RefusedAgain, amends, cancels, grants, grounds, instructs, jumpers, orders, releases, reports, restores, sign_offs, sign_ons, transfers, ungrounds}
+use Rattle.clr_again.proofs.Refused.{refused_again, reports}
 use Rattle.clr_again.specs.Again.{AcceptedSaidAgain, IsAnsweredAlike, IsRefusedAgain, MakesAnother, SaidAgain, SaidAgainChangesNoClearance, TwiceIsOnce, is_accepted, makes_record, reply_to}
 
 -- what is shown is not accepted
@@ -39,10 +39,6 @@ of_kind kind R by at good accepted passed = of kind accepted passed
     by_checks : (kind : Kind) → refusal_of R (record { caller = by; moment = at; kind = kind }) ≡ None → Pass (checks (known_of R (record { caller = by; moment = at; kind = kind })) R by at kind)
     by_checks kind passed = all_pass (checks (known_of R (record { caller = by; moment = at; kind = kind })) R by at kind) passed
 
-    refused : (kind : Kind) (refusal : Refusal) → RefusedAgain kind refusal → refusal_of R (record { caller = by; moment = at; kind = kind }) ≡ None
-        → IsRefusedAgain R (record { caller = by; moment = at; kind = kind }) refusal
-    refused kind refusal again passed = again R by at good (by_checks kind passed) (after_is R (record { caller = by; moment = at; kind = kind }) passed)
-
     of : (kind : Kind) → is_accepted (reply_to R (record { caller = by; moment = at; kind = kind })) ≡ true → refusal_of R (record { caller = by; moment = at; kind = kind }) ≡ None
         → SaidAgain R (record { caller = by; moment = at; kind = kind }) kind
     of (kinds.Request section) accepted passed = requests_again section R by at good passed (by_checks (kinds.Request section) passed)
@@ -50,23 +46,9 @@ of_kind kind R by at good accepted passed = of kind accepted passed
     of (kinds.Repeat c n text) accepted passed = repeats c n text R by at good passed (by_checks (kinds.Repeat c n text) passed)
     of (kinds.Test c section dead) accepted passed = tests c section dead R by at good passed (by_checks (kinds.Test c section dead) passed)
     of (kinds.Report c n done) accepted passed = reports c n done R by at good passed (by_checks (kinds.Report c n done) passed)
-    of (kinds.Order c points tasks) accepted passed = refused (kinds.Order c points tasks) refusals.WrongPhase (orders c points tasks) passed
-    of (kinds.Grant c) accepted passed = refused (kinds.Grant c) refusals.WrongPhase (grants c) passed
-    of (kinds.Release c notified clear) accepted passed = refused (kinds.Release c notified clear) refusals.WrongPhase (releases c notified clear) passed
-    of (kinds.Cancel c) accepted passed = refused (kinds.Cancel c) refusals.WrongPhase (cancels c) passed
-    of (kinds.Restore c tasks) accepted passed = refused (kinds.Restore c tasks) refusals.WrongPhase (restores c tasks) passed
-    of (kinds.Instruct c n) accepted passed = refused (kinds.Instruct c n) refusals.StepState (instructs c n) passed
-    of (kinds.Amend c n) accepted passed = refused (kinds.Amend c n) refusals.StepState (amends c n) passed
-    of (kinds.Ground c section) accepted passed = refused (kinds.Ground c section) refusals.Grounded (grounds c section) passed
-    of (kinds.Unground c section) accepted passed = refused (kinds.Unground c section) refusals.NotGrounded (ungrounds c section) passed
-    of (kinds.SignOn c crew) accepted passed = refused (kinds.SignOn c crew) refusals.CrewState (sign_ons c crew) passed
-    of (kinds.SignOff c crew) accepted passed = refused (kinds.SignOff c crew) refusals.CrewState (sign_offs c crew) passed
-    of (kinds.Transfer c to emergency) accepted passed =
-        transfers c to emergency R by at good (by_checks (kinds.Transfer c to emergency) passed) (after_is R (record { caller = by; moment = at; kind = kinds.Transfer c to emergency }) passed)
-    of (kinds.Jumper point from to lockable remote) accepted passed =
-        refused (kinds.Jumper point from to lockable remote) refusals.PointExists (jumpers point from to lockable remote) passed
     of (kinds.Show c) accepted passed =
         absurd (false≢true (sym (ap is_accepted (reply_is R (record { caller = by; moment = at; kind = kinds.Show c }) passed) ∙ shown_is_none R by at c (record_of R.records c)) ∙ accepted))
+    of kind accepted passed = refused_again kind refl R by at good (by_checks kind passed) (after_is R (record { caller = by; moment = at; kind = kind }) passed)
 
 pub accepted_said_again : AcceptedSaidAgain
 accepted_said_again R q good accepted = of_kind q.kind R q.caller q.moment good accepted (accepted_passes R q accepted)
@@ -91,18 +73,8 @@ came_to R q (kinds.Report c n done) is (inr h) = refused refusals.WrongPhase h.a
 came_to R q (kinds.Transfer c to emergency) is (inl h) = refused refusals.NotHolder h
 came_to R q (kinds.Transfer c to emergency) is (inr h) = refused refusals.BadTransfer h
 came_to R q (kinds.Show c) is h = absurd h
-came_to R q (kinds.Order c points tasks) is h = refused refusals.WrongPhase h
-came_to R q (kinds.Grant c) is h = refused refusals.WrongPhase h
-came_to R q (kinds.Release c notified clear) is h = refused refusals.WrongPhase h
-came_to R q (kinds.Cancel c) is h = refused refusals.WrongPhase h
-came_to R q (kinds.Restore c tasks) is h = refused refusals.WrongPhase h
-came_to R q (kinds.Instruct c n) is h = refused refusals.StepState h
-came_to R q (kinds.Amend c n) is h = refused refusals.StepState h
-came_to R q (kinds.Ground c section) is h = refused refusals.Grounded h
-came_to R q (kinds.Unground c section) is h = refused refusals.NotGrounded h
-came_to R q (kinds.SignOn c crew) is h = refused refusals.CrewState h
-came_to R q (kinds.SignOff c crew) is h = refused refusals.CrewState h
-came_to R q (kinds.Jumper point from to lockable remote) is h = refused refusals.PointExists h
+-- the others are refused
+came_to R q _ is h = refused _ h
 
 pub comes_to : (R : Register) (q : Command) → IsGood R → is_accepted (reply_to R q) ≡ true → Came R q
 comes_to R q good accepted = came_to R q q.kind refl (accepted_said_again R q good accepted)

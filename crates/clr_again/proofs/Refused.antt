@@ -1,6 +1,6 @@
 -- The commands that are refused, said again: what the first one changed refuses the second.
 use Rattle.std.proofs.Common.{◌≡◌, ℕ, Bool, true, false, cond, not, ◌&&◌, ◌||◌, nat_lt, List, [], ◌∷◌, ◌++◌, map, length, Some, None, Contains, refl, sym, ◌∙◌, ap, subst, ◌⊎◌, inl, inr}
-use Rattle.std.proofs.lemmas.Bool.{and_from, and_parts, not_from_false, or_right}
+use Rattle.std.proofs.lemmas.Bool.{and_from, and_parts, false≢true, not_from_false, or_right}
 use Rattle.std.proofs.lemmas.Cmp.{nat_list_cmp_total}
 use Rattle.clr_net.proofs.Walks.{same_itself}
 use Rattle.clr_net.specs.Additions.{with_named}
@@ -47,7 +47,7 @@ use Rattle.clr_rules.proofs.lists.NamedRows.{has_name-row}
 use Rattle.clr_rules.proofs.way_back.Accepting.{record_edits, step_edits}
 use Rattle.clr_again.proofs.Accepted.{OrThen, after_is, edits_at, holder_begins, holds_it, not_before, phase_passes, phase_refuses, refused_at, reply_is, role_begins}
 use Rattle.clr_again.proofs.RowsPut.{put_after_takes, put_found, put_with_steps, puts_some, recorded, takes_and_puts, turn_put}
-use Rattle.clr_again.specs.Again.{EndedTheOrder, IsRefusedAgain}
+use Rattle.clr_again.specs.Again.{EndedTheOrder, IsRefusedAgain, SaidAgain}
 
 -- what comes of a kind that is said again
 abbrev pub ComesTo : Kind → (Register → Command → Type 0) → Type 0
@@ -56,12 +56,12 @@ ComesTo kind Comes = (R : Register) (by : List ℕ) (at : ℕ) → IsGood R → 
     → Comes R (record { caller = by; moment = at; kind = kind })
 
 -- it is refused so
-abbrev pub RefusedAgain : Kind → Refusal → Type 0
+abbrev RefusedAgain : Kind → Refusal → Type 0
 RefusedAgain kind refusal = ComesTo kind (λ R q. IsRefusedAgain R q refusal)
 
 -- ---- commands that put a record of another phase
 
-pub orders : (c : Id) (points : List (List ℕ)) (tasks : List _) → RefusedAgain (kinds.Order c points tasks) refusals.WrongPhase
+orders : (c : Id) (points : List (List ℕ)) (tasks : List _) → RefusedAgain (kinds.Order c points tasks) refusals.WrongPhase
 orders c points tasks R by at good passed is =
     let (r, found, _, _) = role_begun R c is_requested passed in
     let s : Record = record r { phase = Ordered; last = at } in
@@ -74,7 +74,7 @@ orders c points tasks R by at good passed is =
     (role_begins R T by c s refusals.WrongPhase staff found_then passed.0 _ passed.1.0
     (inl (phase_refuses R T by c s refusals.WrongPhase staff found_then passed.0 is_requested refl)))
 
-pub restores : (c : Id) (tasks : List _) → RefusedAgain (kinds.Restore c tasks) refusals.WrongPhase
+restores : (c : Id) (tasks : List _) → RefusedAgain (kinds.Restore c tasks) refusals.WrongPhase
 restores c tasks R by at good passed is =
     let (r, found, _, _) = role_begun R c is_released passed in
     let s : Record = record r { phase = Restoring; last = at } in
@@ -87,7 +87,7 @@ restores c tasks R by at good passed is =
     (role_begins R T by c s refusals.WrongPhase staff found_then passed.0 _ passed.1.0
     (inl (phase_refuses R T by c s refusals.WrongPhase staff found_then passed.0 is_released refl)))
 
-pub grants : (c : Id) → RefusedAgain (kinds.Grant c) refusals.WrongPhase
+grants : (c : Id) → RefusedAgain (kinds.Grant c) refusals.WrongPhase
 unfolding after_edits
 grants c R by at good passed is =
     let (r, found, _, _) = role_begun R c is_ordered passed in
@@ -99,7 +99,7 @@ grants c R by at good passed is =
     (role_begins R T by c s refusals.WrongPhase refl found_then passed.0 _ passed.1.0
     (inl (phase_refuses R T by c s refusals.WrongPhase refl found_then passed.0 is_ordered refl)))
 
-pub releases : (c : Id) (notified clear : Bool) → RefusedAgain (kinds.Release c notified clear) refusals.WrongPhase
+releases : (c : Id) (notified clear : Bool) → RefusedAgain (kinds.Release c notified clear) refusals.WrongPhase
 releases c notified clear R by at good passed is =
     let (r, found, _, _) = holder_begun R c is_granted passed in
     let s : Record = record r { phase = Released; last = at } in
@@ -118,7 +118,7 @@ not_cancellable : (b : Bool) → is_cancellable (cond b Released Closed) ≡ fal
 not_cancellable true = refl
 not_cancellable false = refl
 
-pub cancels : (c : Id) → RefusedAgain (kinds.Cancel c) refusals.WrongPhase
+cancels : (c : Id) → RefusedAgain (kinds.Cancel c) refusals.WrongPhase
 unfolding after_edits
 cancels c R by at good passed is =
     let (r, found, _, _) = holder_begun R c is_cancellable passed in
@@ -136,7 +136,7 @@ or_true : (b : Bool) → (b || true) ≡ true
 or_true true = refl
 or_true false = refl
 
-pub transfers : (c : Id) (to : List ℕ) (emergency : Bool)
+transfers : (c : Id) (to : List ℕ) (emergency : Bool)
     → ComesTo (kinds.Transfer c to emergency) (λ R q. IsRefusedAgain R q refusals.NotHolder ⊎ IsRefusedAgain R q refusals.BadTransfer)
 unfolding after_edits
 transfers c to emergency R by at good passed is =
@@ -207,7 +207,7 @@ same_fence : (R : Register) (c : Id) (r s : Record) (records : List Record) (hol
     → s.id ≡ r.id → s.phase ≡ r.phase → s.work ≡ r.work → clearance_fence (record R { records = records; holds = holds }) c ≡ clearance_fence R c
 same_fence R c r s records holds found found_then id phase work = ap (found_fence R.net R.steps) found_then ∙ rw (id, phase, work) refl ∙ sym (ap (found_fence R.net R.steps) found)
 
-pub grounds : (c : Id) (section : List ℕ) → RefusedAgain (kinds.Ground c section) refusals.Grounded
+grounds : (c : Id) (section : List ℕ) → RefusedAgain (kinds.Ground c section) refusals.Grounded
 unfolding after_edits
 grounds c section R by at good passed is =
     let (r, found, fits, (fence_passes, (test_passes, _))) = holder_begun R c is_granted passed in
@@ -229,7 +229,7 @@ grounds c section R by at good passed is =
       ),
     )))
 
-pub ungrounds : (c : Id) (section : List ℕ) → RefusedAgain (kinds.Unground c section) refusals.NotGrounded
+ungrounds : (c : Id) (section : List ℕ) → RefusedAgain (kinds.Unground c section) refusals.NotGrounded
 unfolding after_edits
 ungrounds c section R by at good passed is =
     let (r, found, fits, (fence_passes, _)) = holder_begun R c is_granted passed in
@@ -259,7 +259,7 @@ work_passes R T c r s kind test refusal found found_then same_work same passes =
     ∙ ap (λ (has : List ℕ → Bool). where_some r.work (λ place. refuse (test (has place)) refusal)) (λ i place. same place i)
     ∙ check_of_found (record_of R.records c) r (λ r. where_some r.work (λ place. refuse (test (has_hold R.holds c kind place)) refusal)) found passes
 
-pub sign_ons : (c : Id) (crew : List ℕ) → RefusedAgain (kinds.SignOn c crew) refusals.CrewState
+sign_ons : (c : Id) (crew : List ℕ) → RefusedAgain (kinds.SignOn c crew) refusals.CrewState
 unfolding after_edits
 sign_ons c crew R by at good passed is =
     let (r, found, fits, (test_passes, (ground_passes, _))) = holder_begun R c is_granted passed in
@@ -281,7 +281,7 @@ sign_ons c crew R by at good passed is =
       ),
     )))
 
-pub sign_offs : (c : Id) (crew : List ℕ) → RefusedAgain (kinds.SignOff c crew) refusals.CrewState
+sign_offs : (c : Id) (crew : List ℕ) → RefusedAgain (kinds.SignOff c crew) refusals.CrewState
 unfolding after_edits
 sign_offs c crew R by at good passed is =
     let (r, found, fits, _) = holder_begun R c is_granted passed in
@@ -314,7 +314,7 @@ module _ (R T : Register) (c : Id) (n : ℕ) (f : FoundStep R c n) (new : StepRo
   state_refuses : (fits : StepState → Bool) → fits new.step.state ≡ false → wrong_state T c n fits ≡ Some refusals.StepState
   state_refuses fits never = rw (step_then, never) refl
 
-pub instructs : (c : Id) (n : ℕ) → RefusedAgain (kinds.Instruct c n) refusals.StepState
+instructs : (c : Id) (n : ℕ) → RefusedAgain (kinds.Instruct c n) refusals.StepState
 unfolding after_edits
 instructs c n R by at good passed is =
     let (r, found, fits, (there_passes, (in_turn_passes, _))) = role_begun R c is_running passed in
@@ -353,7 +353,7 @@ instructs c n R by at good passed is =
         found_then : record_of T.records c ≡ Some s
         found_then = recorded edits R c r s found refl (refl, (tt, tt)) refl
 
-pub amends : (c : Id) (n : ℕ) → RefusedAgain (kinds.Amend c n) refusals.StepState
+amends : (c : Id) (n : ℕ) → RefusedAgain (kinds.Amend c n) refusals.StepState
 unfolding after_edits
 amends c n R by at good passed is =
     let (r, found, fits, (there_passes, _)) = role_begun R c is_restoring passed in
@@ -528,7 +528,7 @@ section_stays R net p can =
         names_with_section R.net net row (and_from _ _ (not_from_false _ unknown) room) p.from_end
         ∙ or_right (same_name p.from_end p.to_end) (has_name (section_names (Grid.sections R.net)) p.from_end) can.known
 
-pub jumpers : (point from to : List ℕ) (lockable remote : Bool) → RefusedAgain (kinds.Jumper point from to lockable remote) refusals.PointExists
+jumpers : (point from to : List ℕ) (lockable remote : Bool) → RefusedAgain (kinds.Jumper point from to lockable remote) refusals.PointExists
 jumpers point from to lockable remote R by at good passed is =
     let p = new_jumper point from to lockable remote in
     let edits = added_edits R p in
@@ -537,3 +537,31 @@ jumpers point from to lockable remote R by at good passed is =
     let can = jumper_can (known_of R (record { caller = by; moment = at; kind = kinds.Jumper point from to lockable remote })) R by at point from to lockable remote passed in
     refused_at R (record { caller = by; moment = at; kind = kinds.Jumper point from to lockable remote }) T refusals.PointExists is
     (inr (rw staff passed.0, inr (rw staff passed.1.0, inr (rw (section_stays R good.said.network p can) refl, inl (rw (added_there R p) refl)))))
+
+-- ---- each of them
+
+-- whether what a command changed refuses it, said again; of a report this is said above, since it may end its order
+abbrev pub is_refused_again : Kind → Bool
+is_refused_again (kinds.Report c n done) = false
+is_refused_again (kinds.Request section) = false
+is_refused_again (kinds.Switch tasks) = false
+is_refused_again (kinds.Repeat c n text) = false
+is_refused_again (kinds.Test c section dead) = false
+is_refused_again (kinds.Show c) = false
+is_refused_again _ = true
+
+pub refused_again : (kind : Kind) → is_refused_again kind ≡ true → ComesTo kind (λ R q. SaidAgain R q kind)
+refused_again (kinds.Order c points tasks) is = orders c points tasks
+refused_again (kinds.Grant c) is = grants c
+refused_again (kinds.Release c notified clear) is = releases c notified clear
+refused_again (kinds.Cancel c) is = cancels c
+refused_again (kinds.Restore c tasks) is = restores c tasks
+refused_again (kinds.Instruct c n) is = instructs c n
+refused_again (kinds.Amend c n) is = amends c n
+refused_again (kinds.Ground c section) is = grounds c section
+refused_again (kinds.Unground c section) is = ungrounds c section
+refused_again (kinds.SignOn c crew) is = sign_ons c crew
+refused_again (kinds.SignOff c crew) is = sign_offs c crew
+refused_again (kinds.Transfer c to emergency) is = transfers c to emergency
+refused_again (kinds.Jumper point from to lockable remote) is = jumpers point from to lockable remote
+refused_again _ is = absurd (false≢true is)
