@@ -1,7 +1,7 @@
 -- Commands whose values are of their types keep those of the register so.
-use Rattle.std.proofs.Common.{◌≡◌, ℕ, ◌+◌, ◌≤◌, Bool, true, false, cond, ◌&&◌, nat_eq, nat_le, nat_lt, List, [], ◌∷◌, ◌++◌, length, map, Option, Some, None, refl, sym, ◌∙◌, ap, subst, arith, ⊎_elim}
+use Rattle.std.proofs.Common.{◌≡◌, ℕ, ◌+◌, ◌≤◌, Bool, true, false, ◌&&◌, nat_eq, nat_le, nat_lt, List, [], ◌∷◌, length, map, Option, Some, None, refl, sym, ◌∙◌, ap, subst, arith, ⊎_elim}
 use Rattle.std.specs.Cmp.{IsTotalOrder}
-use Rattle.std.specs.List.{list_all}
+use Rattle.std.specs.List.{AllByRecursion, list_all}
 use Rattle.std.specs.Prelude.{◌==◌}
 use Rattle.std.specs.declared.cmp.Ordering.{Ordering}
 use Rattle.std.proofs.lemmas.Bool.{and_parts, eqb-false, le-leb, leb-true, ltb-false}
@@ -12,27 +12,24 @@ use Rattle.clr_net.specs.declared.point.PointRow.{PointRow}
 use Rattle.clr_net.specs.declared.section.SectionRow.{SectionRow}
 use Rattle.clr_order.specs.Step.{Task}
 use Rattle.clr_order.specs.declared.action.Action.{Action}
-use Rattle.clr_order.specs.declared.action.Action.TheVariants as actions
 use Rattle.clr_order.specs.declared.step.StepState.{StepState}
-use Rattle.clr_order.specs.declared.step.StepState.TheVariants.{Waiting, Instructed, Repeated, Done}
 use Rattle.clr_shelf.proofs.Groups.{All-with_row, All-without_row}
 use Rattle.clr_shelf.proofs.Lists.{list_all-contains}
 use Rattle.clr_shelf.proofs.Members.{member-row_of}
 use Rattle.clr_shelf.specs.Rows.{with_row, without_row}
-use Rattle.clr_rules.specs.Answer.{Answer, known_of, answer_by_checks}
-use Rattle.clr_rules.specs.Commands.{checks, edits_of}
-use Rattle.clr_rules.specs.Changes.{done_edits, new_jumper, new_section, step_moved, new_steps, phase_after, point_edits, put_steps, undone_edits}
+use Rattle.clr_rules.specs.Answer.{Answer, known_of, answer_by_checks, requester_for}
+use Rattle.clr_rules.specs.Command.{named_clearance}
+use Rattle.clr_rules.specs.Commands.{Known, checks, edits_of}
 use Rattle.clr_rules.specs.Checks.{too_many_clearances, unsound_order}
 use Rattle.clr_rules.specs.laws.Edits.{refusal_of}
 use Rattle.clr_rules.specs.Edits.{after_edit, after_edits}
 use Rattle.clr_rules.specs.Hold.{hold_cmp, hold_cmp_total}
-use Rattle.clr_rules.specs.Holds.{hold_key, hold_of, places_of}
+use Rattle.clr_rules.specs.Holds.{hold_key}
 use Rattle.clr_rules.specs.Id.{Id, id_cmp, id_cmp_total, is_clearance_number, is_id}
 use Rattle.clr_rules.specs.Moment.{is_moment}
-use Rattle.clr_rules.specs.Records.{greatest_number, is_switch_order, record_key, record_of}
+use Rattle.clr_rules.specs.Records.{greatest_number, record_key, record_of}
 use Rattle.clr_rules.specs.Register.{Register, first_state}
-use Rattle.clr_net.specs.Grid.{Grid, section_names, unplaced}
-use Rattle.clr_net.specs.Names.{has_name}
+use Rattle.clr_net.specs.Grid.{Grid, unplaced}
 use Rattle.clr_rules.specs.StepKey.{step_key, step_key_cmp, step_key_cmp_total}
 use Rattle.clr_rules.specs.Steps.{present_steps, step_at}
 use Rattle.clr_rules.specs.States.{change_state, changed_state, state_key, state_of}
@@ -40,9 +37,7 @@ use Rattle.clr_rules.specs.declared.change.Edit.{Edit}
 use Rattle.clr_rules.specs.declared.change.Edit.TheVariants.{SetPosition, SetHand, PutHold, TakeHold, PutRecord, PutStep, AddSection, AddPoint}
 use Rattle.clr_rules.specs.declared.command.Kind.{Kind}
 use Rattle.clr_rules.specs.declared.command.Kind.TheVariants as kinds
-use Rattle.clr_rules.specs.declared.hold_kind.HoldKind.TheVariants.{Tested}
-use Rattle.clr_rules.specs.declared.phase.Phase.{Phase}
-use Rattle.clr_rules.specs.declared.phase.Phase.TheVariants.{Ordered, Released, Restoring}
+use Rattle.clr_rules.specs.declared.hold.Hold.{Hold}
 use Rattle.clr_rules.specs.declared.point_state.PointState.{PointState}
 use Rattle.clr_rules.specs.declared.record.Record.{Record}
 use Rattle.clr_rules.specs.declared.refusal.Refusal.{Refusal}
@@ -50,8 +45,16 @@ use Rattle.clr_rules.specs.declared.refusal.Refusal.TheVariants.{TooManyClearanc
 use Rattle.clr_rules.specs.declared.step_row.StepRow.{StepRow}
 use Rattle.clr_rules.proofs.edits.Growing.{named_is_put}
 use Rattle.clr_rules.proofs.edits.Passing.{Pass, all_pass, not_refused}
-use Rattle.clr_rules.proofs.edits.PutRows.{by_record, by_step}
-use Rattle.clr_rules.proofs.good.Keeping.{asked}
+use Rattle.clr_rules.proofs.edits.Shapes.{GivesRound, HandSet, HoldPut, IsEditOf, IsHeldBy, Moves, PointAdded, RecordPut, SectionAdded, StepPut, each_is, edits_of_accepted, named_place}
+use Rattle.clr_rules.proofs.edits.Shapes.GivesRound.{order, restore, switch}
+use Rattle.clr_rules.proofs.edits.Shapes.HandSet.{into, out_of}
+use Rattle.clr_rules.proofs.edits.Shapes.HoldPut.{at_work, by_step_done}
+use Rattle.clr_rules.proofs.edits.Shapes.IsHeldBy.{handed_on, same}
+use Rattle.clr_rules.proofs.edits.Shapes.Moves.{not_done, repeated}
+use Rattle.clr_rules.proofs.edits.Shapes.PointAdded.{jumps}
+use Rattle.clr_rules.proofs.edits.Shapes.RecordPut.{requested, switched, written}
+use Rattle.clr_rules.proofs.edits.Shapes.SectionAdded.{far_end}
+use Rattle.clr_rules.proofs.edits.Shapes.StepPut.{given, moved}
 use Rattle.clr_rules.proofs.keeps.Restore.{restoring_passed}
 use Rattle.clr_rules.proofs.keeps.Switch.{switching_passed}
 use Rattle.clr_rules.proofs.lists.FoundSteps.{present_step}
@@ -74,20 +77,17 @@ IsTypedEdit (AddSection row) = is_typed_section row ≡ true
 IsTypedEdit (AddPoint p) = is_typed_point p ≡ true
 
 abbrev AllTyped : List Edit → Type 0
-AllTyped [] = Unit {0}
-AllTyped (SetPosition p position ∷ edits) = AllTyped edits
-AllTyped (TakeHold h ∷ edits) = AllTyped edits
-AllTyped (edit ∷ edits) = IsTypedEdit edit × AllTyped edits
+AllTyped edits = AllByRecursion IsTypedEdit edits
 
 put_typed : {Key Row : Type 0} (compare : Key → Key → Ordering) (key_of : Row → Key) → IsTotalOrder compare → (typed : Row → Bool) (row : Row) (rows : List Row)
     → typed row ≡ true → list_all typed rows ≡ true → list_all typed (with_row compare key_of row rows) ≡ true
-put_typed compare key_of order typed row rows here all = list_all-from_AllPass typed (with_row compare key_of row rows)
-    (All-with_row compare key_of order (λ row. typed row ≡ true) row rows here (AllPass-from_list_all typed rows all))
+put_typed compare key_of total typed row rows here all = list_all-from_AllPass typed (with_row compare key_of row rows)
+    (All-with_row compare key_of total (λ row. typed row ≡ true) row rows here (AllPass-from_list_all typed rows all))
 
 taken_typed : {Key Row : Type 0} (compare : Key → Key → Ordering) (key_of : Row → Key) → IsTotalOrder compare → (typed : Row → Bool) (key : Key) (rows : List Row)
     → list_all typed rows ≡ true → list_all typed (without_row compare key_of key rows) ≡ true
-taken_typed compare key_of order typed key rows all = list_all-from_AllPass typed (without_row compare key_of key rows)
-    (All-without_row compare key_of order (λ row. typed row ≡ true) key rows (AllPass-from_list_all typed rows all))
+taken_typed compare key_of total typed key rows all = list_all-from_AllPass typed (without_row compare key_of key rows)
+    (All-without_row compare key_of total (λ row. typed row ≡ true) key rows (AllPass-from_list_all typed rows all))
 
 changed_typed : (change : PointState → PointState) → ((state : PointState) → is_typed_state state ≡ true → is_typed_state (change state) ≡ true)
     → (states : List PointState) (p : List ℕ) → list_all is_typed_state states ≡ true → list_all is_typed_state (change_state states p change) ≡ true
@@ -183,9 +183,6 @@ edited_typed (AddPoint p) R is typed =
 edited_all_typed : (edits : List Edit) (R : Register) → AllTyped edits → IsTyped R → IsTyped (after_edits edits R)
 unfolding after_edits
 edited_all_typed [] R all typed = typed
-edited_all_typed (SetPosition p position ∷ edits) R all typed =
-    edited_all_typed edits (after_edit (SetPosition p position) R) all (edited_typed (SetPosition p position) R tt typed)
-edited_all_typed (TakeHold h ∷ edits) R all typed = edited_all_typed edits (after_edit (TakeHold h) R) all (edited_typed (TakeHold h) R tt typed)
 edited_all_typed (edit ∷ edits) R all typed = edited_all_typed edits (after_edit edit R) all.1 (edited_typed edit R all.0 typed)
 
 -- ---- the steps of an order
@@ -200,14 +197,12 @@ order_fits R fence points tasks passed = ltb-false 256 (length tasks) (at (nat_l
     at true e false f true g = let none = rw (e, f, g) at passed in absurd (cc)
     at true e false f false g = let none = rw (e, f, g) at passed in absurd (cc)
 
-new_typed : (d : Id) (round n : ℕ) (tasks : List Task) → is_id d ≡ true → nat_le round 255 ≡ true → n + length tasks ≤ 65536 → list_all is_typed_task tasks ≡ true
-    → AllTyped (put_steps (new_steps d round n tasks))
-unfolding new_steps
-new_typed d round n [] id fits few all = tt
-new_typed d round n (t ∷ tasks) id fits few all =
-    let parts = and_parts (is_typed_task t) (list_all is_typed_task tasks) all in
-    let low : nat_le n 65535 ≡ true = le-leb n 65535 (omega arith) in
-    (rw (id, fits, low, parts.0) refl, new_typed d round (n + 1) tasks id fits (omega arith) parts.1)
+-- a round that a command gives
+record RoundFits (c : Id) (round : ℕ) (tasks : List Task) : Type 0 where
+  id : is_id c ≡ true
+  fits : nat_le round 255 ≡ true
+  few : length tasks ≤ 256
+  typed : list_all is_typed_task tasks ≡ true
 
 -- ---- the parts of records and steps
 
@@ -240,126 +235,104 @@ step_parts row is =
 
 -- ---- commands
 
-module _ (R : Register) (typed : IsTyped R) (by : List ℕ) (at : ℕ) (caller : is_name by ≡ true) (time : is_moment at ≡ true) where
-  record_typed : (c : Id) (r : Record) → record_of R.records c ≡ Some r → is_typed_record r ≡ true
-  record_typed c r found = list_all-contains is_typed_record R.records r typed.records (member-row_of id_cmp record_key id_cmp_total c r R.records found).0
+-- a place that the holder names
+place_typed : (kind : Kind) → is_typed_kind kind ≡ true → is_name_or_none (named_place kind) ≡ true
+place_typed (kinds.Show c) is = refl
+place_typed _ is = grind (arith, and_parts)
+
+module _ (R : Register) (typed : IsTyped R) where
+  record_typed : (c : Id) (r : Record) → record_of R.records c ≡ Some r → TypedRecord r
+  record_typed c r found = record_parts r (list_all-contains is_typed_record R.records r typed.records (member-row_of id_cmp record_key id_cmp_total c r R.records found).0)
 
   step_typed : (c : Id) (n : ℕ) (row : StepRow) → step_at (present_steps R.steps c) n ≡ Some row → TypedStep row
   step_typed c n row found = step_parts row (list_all-contains is_typed_step R.steps row typed.steps (present_step R.steps c n row found).there)
 
   named_typed : (c : Id) (r : Record) → record_of R.records c ≡ Some r → is_id c ≡ true
-  named_typed c r found = ap is_id (sym (record_id R.records c r found)) ∙ (record_parts r (record_typed c r found)).id
+  named_typed c r found = ap is_id (sym (record_id R.records c r found)) ∙ (record_typed c r found).id
 
-  -- a record at another moment, in another phase, with another holder
-  later : (holder : List ℕ) (phase : Phase) (c : Id) (r : Record) → record_of R.records c ≡ Some r → is_name holder ≡ true
-      → is_typed_record (record r { holder = holder; phase = phase; last = at }) ≡ true
-  later holder phase c r found named = let parts = record_parts r (record_typed c r found) in rw (parts.id, named, parts.work, time) refl
-
-  put_back : (c : Id) (r : Record) (phase : Phase) → record_of R.records c ≡ Some r → is_typed_record (record r { phase = phase; last = at }) ≡ true
-  put_back c r phase found = later r.holder phase c r found (record_parts r (record_typed c r found)).holder
-
-  -- a step in another state, with another action and reader
-  step_later : (action : Action) (state : StepState) (reader : Option (List ℕ)) (row : StepRow) → is_name_or_none reader ≡ true → TypedStep row
-      → is_typed_step (record row { step = record { action = action; point = row.step.point; state = state; reader = reader } }) ≡ true
-  step_later action state reader row read parts = rw (parts.id, parts.round, parts.ordinal, parts.point, read) refl
-
-  -- the edits of a step that is done
-  done_typed : (switching : Bool) (d : Id) (a : Action) (p : List ℕ) (s : Record) (row : StepRow) → is_id d ≡ true → is_name p ≡ true
-      → is_typed_record s ≡ true → is_typed_step row ≡ true
-      → AllTyped (point_edits switching d a p ++ PutRecord s ∷ PutStep row ∷ [])
-  done_typed true d actions.Open p s row id named h k = (refl, (h, (k, tt)))
-  done_typed false d actions.Open p s row id named h k = (refl, (rw (named, id) refl, (h, (k, tt))))
-  done_typed switching d actions.Block p s row id named h k = (refl, (rw (named, id) refl, (h, (k, tt))))
-  done_typed switching d actions.Control p s row id named h k = (refl, (rw (named, id) refl, (h, (k, tt))))
-  done_typed switching d actions.Tag p s row id named h k = (refl, (rw (named, id) refl, (h, (k, tt))))
-  done_typed switching d _ p s row id named h k = (refl, (h, (k, tt)))
-
-  takes_typed : (d : Id) (places : List (List ℕ)) (rest : List Edit) → AllTyped rest → AllTyped (map (λ place. TakeHold (hold_of d Tested place)) places ++ rest)
-  takes_typed d [] rest all = all
-  takes_typed d (place ∷ places) rest all = takes_typed d places rest all
-
-  -- a hold of the clearance, at a place that the command names
-  hold_named : (c : Id) (place : List ℕ) → (is_id c && is_name place) ≡ true → (is_name place && is_id c) ≡ true
-  hold_named c place is = let (id, named) = and_parts (is_id c) (is_name place) is in rw (named, id) refl
-
-  -- a new clearance of the caller's
-  next_id : too_many_clearances (greatest_number R.records by) ≡ None → is_id (record { requester = by; number = greatest_number R.records by + 1 }) ≡ true
-  next_id passed =
-      let differs = not_refused (greatest_number R.records by == 9999) TooManyClearances passed in
-      numbered (greatest_number R.records by) differs (⊎_elim (λ none. subst (λ n. n ≤ 9999) (sym none) (omega arith))
-      (λ some. subst (λ n. n ≤ 9999) some.3 (number_of some.0 (list_all-contains is_typed_record R.records some.0 typed.records some.1)))
-      (greatest_is_greatest R.records by).1)
+  greatest_typed : (requester : List ℕ) → greatest_number R.records requester ≤ 9999
+  greatest_typed requester = ⊎_elim (λ none. subst (λ n. n ≤ 9999) (sym none) (omega arith))
+      (λ some. subst (λ n. n ≤ 9999) some.3 (number_of some.0 (list_all-contains is_typed_record R.records some.0 typed.records some.1))) (greatest_is_greatest R.records requester).1
     where
       number_of : (r : Record) → is_typed_record r ≡ true → r.id.number ≤ 9999
       number_of r is =
           let number = (and_parts (is_name r.id.requester) (is_clearance_number r.id.number) (record_parts r is).id).1 in
           leb-true r.id.number 9999 (and_parts (nat_le 1 r.id.number) (nat_le r.id.number 9999) number).1
 
-      numbered : (n : ℕ) → nat_eq n 9999 ≡ false → n ≤ 9999 → is_id (record { requester = by; number = n + 1 }) ≡ true
-      numbered n differs small =
-          let other = eqb-false n 9999 differs in
-          let some : nat_le 1 (n + 1) ≡ true = le-leb 1 (n + 1) (omega arith) in
-          let few : nat_le (n + 1) 9999 ≡ true = le-leb (n + 1) 9999 (omega (arith, other)) in
-          rw (caller, some, few) refl
+module _ (R : Register) (typed : IsTyped R) (k : Known) (small : k.greatest ≤ 9999) (by : List ℕ) (at : ℕ) (caller : is_name by ≡ true) (time : is_moment at ≡ true) where
+  -- a new clearance of the caller's
+  next_id : too_many_clearances k.greatest ≡ None → is_id (record { requester = by; number = k.greatest + 1 }) ≡ true
+  next_id passed =
+      let other = eqb-false k.greatest 9999 (not_refused (k.greatest == 9999) TooManyClearances passed) in
+      let some : nat_le 1 (k.greatest + 1) ≡ true = le-leb 1 (k.greatest + 1) (omega arith) in
+      let few : nat_le (k.greatest + 1) 9999 ≡ true = le-leb (k.greatest + 1) 9999 (omega (arith, other)) in
+      rw (caller, some, few) refl
 
-  all_typed : (kind : Kind) → is_typed_kind kind ≡ true → Pass (checks (known_of R (asked by at kind)) R by at kind)
-      → AllTyped (edits_of (known_of R (asked by at kind)).greatest R by at kind)
-  all_typed (kinds.Request section) is passed =
-      let (_, (_, (_, (number_passes, _)))) = passed in
-      (rw (next_id number_passes, caller, is, time) refl, tt)
-  all_typed (kinds.Order c points tasks) is passed =
+  holder_typed : (c : Id) (r : Record) → TypedRecord r → (kind : Kind) (holder : List ℕ) → IsHeldBy c r kind holder → is_typed_kind kind ≡ true → is_name holder ≡ true
+  holder_typed c r parts _ _ same is = parts.holder
+  holder_typed c r parts _ _ (handed_on to emergency) is = (and_parts (is_id c) (is_name to) is).1
+
+  record_put : (kind : Kind) → is_typed_kind kind ≡ true → Pass (checks k R by at kind) → (s : Record) → RecordPut k R by at kind s → is_typed_record s ≡ true
+  record_put _ is passed _ (requested section) = rw (next_id passed.1.1.1.0, caller, is, time) refl
+  record_put _ is passed _ (switched tasks) = rw (next_id passed.1.1.0, caller, time) refl
+  record_put kind is passed _ (written c r {holder = holder} named no_show found held comes) =
+      let parts = record_typed R typed c r found in rw (parts.id, holder_typed c r parts kind holder held is, parts.work, time) refl
+
+  round_fits : (kind : Kind) → is_typed_kind kind ≡ true → Pass (checks k R by at kind) → (c : Id) (round : ℕ) (tasks : List Task) → GivesRound k by kind c round tasks → RoundFits c round tasks
+  round_fits _ is passed _ _ _ (order c points tasks) =
       let (_, (_, (_, (_, (_, (order_passes, _)))))) = passed in
-      by_record AllTyped tt R c _ (λ r found.
-      let few = order_fits R _ points tasks order_passes in
-      let steps = (and_parts (list_all is_name points) (list_all is_typed_task tasks) (and_parts (is_id c) (list_all is_name points && list_all is_typed_task tasks) is).1).1 in
-      (put_back c r Ordered found, new_typed c 1 1 tasks (named_typed c r found) refl (omega arith) steps))
-  all_typed (kinds.Instruct c n) is passed = by_step AllTyped tt R c n _ (λ r row found step.
-      let row_is = step_typed c n row step in
-      (named_typed c r found, (put_back c r r.phase found, (step_later row.step.action Instructed row.step.reader row row_is.reader row_is, tt))))
-  all_typed (kinds.Repeat c n text) is passed = by_step AllTyped tt R c n _ (λ r row found step.
-      (put_back c r r.phase found, (step_later row.step.action Repeated (Some by) row caller (step_typed c n row step), tt)))
-  all_typed (kinds.Report c n done) is passed = by_step AllTyped tt R c n _ (λ r row found step. by_done done r row found (step_typed c n row step))
-    where
-      by_done : (done : Bool) (r : Record) (row : StepRow) → record_of R.records c ≡ Some r → TypedStep row → AllTyped (cond done (done_edits R at r row) (undone_edits at r row))
-      by_done true r row found row_is =
-          let now = step_moved Done row.step.reader row in
-          done_typed (is_switch_order r) r.id row.step.action row.step.point (record r { phase = phase_after R.steps r now; last = at }) now
-          (record_parts r (record_typed c r found)).id row_is.point (put_back c r (phase_after R.steps r now) found)
-          (step_later row.step.action Done row.step.reader row row_is.reader row_is)
-      by_done false r row found row_is = (refl, (put_back c r r.phase found, (step_later row.step.action Waiting None row refl row_is, tt)))
-  all_typed (kinds.Test c section true) is passed = by_record AllTyped tt R c _ (λ r found. (hold_named c section is, (put_back c r r.phase found, tt)))
-  all_typed (kinds.Test c section false) is passed = by_record AllTyped tt R c _ (λ r found. (put_back c r r.phase found, tt))
-  all_typed (kinds.Ground c section) is passed = by_record AllTyped tt R c _ (λ r found. (hold_named c section is, (put_back c r r.phase found, tt)))
-  all_typed (kinds.SignOn c crew) is passed = by_record AllTyped tt R c _ (λ r found. (hold_named c crew is, (put_back c r r.phase found, tt)))
-  all_typed (kinds.Transfer c to emergency) is passed = by_record AllTyped tt R c _ (λ r found.
-      (later to r.phase c r found (and_parts (is_id c) (is_name to) is).1, tt))
-  all_typed (kinds.Release c notified clear) is passed = by_record AllTyped tt R c _ (λ r found.
-      takes_typed c (places_of R.holds c Tested) _ (put_back c r Released found, tt))
-  all_typed (kinds.Restore c tasks) is passed =
+      let (id, lists) = and_parts (is_id c) (list_all is_name points && list_all is_typed_task tasks) is in
+      record { id = id; fits = refl; few = order_fits R k.fence points tasks order_passes; typed = (and_parts (list_all is_name points) (list_all is_typed_task tasks) lists).1 }
+  round_fits _ is passed _ _ _ (restore c tasks) =
       let (_, (_, (_, (_, (_, (order_passes, _)))))) = passed in
-      by_record AllTyped tt R c _ (λ r found.
-      let few = (restoring_passed R c tasks order_passes).steps_fit in
-      (put_back c r Restoring found, new_typed c 2 1 tasks (named_typed c r found) refl (omega arith) (and_parts (is_id c) (list_all is_typed_task tasks) is).1))
-  all_typed (kinds.Amend c n) is passed = by_step AllTyped tt R c n _ (λ r row found step.
-      let row_is = step_typed c n row step in
-      (put_back c r r.phase found, (step_later actions.Leave row.step.state row.step.reader row row_is.reader row_is, tt)))
-  all_typed (kinds.Switch tasks) is passed =
+      let (id, steps) = and_parts (is_id c) (list_all is_typed_task tasks) is in
+      record { id = id; fits = refl; few = (restoring_passed R c tasks order_passes).steps_fit; typed = steps }
+  round_fits _ is passed _ _ _ (switch tasks) =
       let (_, (_, (number_passes, (order_passes, _)))) = passed in
-      let id = next_id number_passes in
-      let few = (switching_passed R tasks order_passes).steps_fit in
-      (rw (id, caller, time) refl, new_typed _ 1 1 tasks id refl (omega arith) is)
-  all_typed (kinds.Show c) is passed = tt
-  all_typed (kinds.Jumper point from to lockable remote) is passed = added_typed (has_name (section_names (Grid.sections R.net)) to)
-    where
-      ends : (is_name from ≡ true) × (is_name to ≡ true)
-      ends = and_parts (is_name from) (is_name to) (and_parts (is_name point) (is_name from && is_name to) is).1
+      record { id = next_id number_passes; fits = refl; few = (switching_passed R tasks order_passes).steps_fit; typed = is }
 
-      added_typed : (b : Bool) → AllTyped (cond b (AddPoint (new_jumper point from to lockable remote) ∷ [])
-          (AddSection (new_section to) ∷ AddPoint (new_jumper point from to lockable remote) ∷ []))
-      added_typed true = (is, tt)
-      added_typed false = (ends.1, (is, tt))
-  -- the record, after holds that are taken
-  all_typed _ is passed = by_record AllTyped tt R _ _ (λ r found. (put_back _ r r.phase found, tt))
+  reader_typed : (c : Id) (n : ℕ) (row : StepRow) → TypedStep row → (kind : Kind) (action : Action) (state : StepState) (reader : Option (List ℕ)) → Moves by c n row kind action state reader
+      → is_name_or_none reader ≡ true
+  reader_typed c n row parts _ _ _ _ (repeated text) = caller
+  reader_typed c n row parts _ _ _ _ not_done = refl
+  reader_typed c n row parts _ _ _ _ _ = parts.reader
+
+  step_put : (kind : Kind) → is_typed_kind kind ≡ true → Pass (checks k R by at kind) → (row : StepRow) → StepPut k R by kind row → is_typed_step row ≡ true
+  step_put kind is passed _ (given c round tasks gives n t there few) =
+      let round_is = round_fits kind is passed c round tasks gives in
+      let few_of_all = round_is.few in
+      let low : nat_le n 65535 ≡ true = le-leb n 65535 (omega arith) in
+      rw (round_is.id, round_is.fits, low, list_all-contains is_typed_task tasks t round_is.typed there) refl
+  step_put kind is passed _ (moved c n r row {action = action} {state = state} {reader = reader} found moves) =
+      let parts = step_typed R typed c n row found.step in
+      rw (parts.id, parts.round, parts.ordinal, parts.point, reader_typed c n row parts kind action state reader moves) refl
+
+  hold_put : (kind : Kind) → is_typed_kind kind ≡ true → (h : Hold) → HoldPut R kind h → is_typed_hold h ≡ true
+  hold_put kind is _ (at_work c r of place found off named) = rw (ap is_name_or_none (sym named) ∙ place_typed kind is, named_typed R typed c r found) refl
+  hold_put _ is _ (by_step_done c n r row of found puts_it) = rw ((step_typed R typed c n row found.step).point, (record_typed R typed c r found.recorded).id) refl
+
+  hand_set : (kind : Kind) (p : List ℕ) (hand : Option Id) → HandSet R kind p hand → is_id_or_none hand ≡ true
+  hand_set _ _ _ (into c n r row found) = named_typed R typed c r found.recorded
+  hand_set _ _ _ (out_of c n done r row found) = refl
+
+  section_added : (kind : Kind) → is_typed_kind kind ≡ true → (row : SectionRow) → SectionAdded kind row → is_typed_section row ≡ true
+  section_added _ is _ (far_end point from to lockable remote) = (and_parts (is_name from) (is_name to) (and_parts (is_name point) (is_name from && is_name to) is).1).1
+
+  point_added : (kind : Kind) → is_typed_kind kind ≡ true → (p : PointRow) → PointAdded kind p → is_typed_point p ≡ true
+  point_added _ is _ (jumps point from to lockable remote) = is
+
+  edit_typed : (kind : Kind) → is_typed_kind kind ≡ true → Pass (checks k R by at kind) → (edit : Edit) → IsEditOf k R by at kind edit → IsTypedEdit edit
+  edit_typed kind is passed (SetPosition p position) of = tt
+  edit_typed kind is passed (SetHand p hand) of = hand_set kind p hand of
+  edit_typed kind is passed (PutHold h) of = hold_put kind is h of.1
+  edit_typed kind is passed (TakeHold h) of = tt
+  edit_typed kind is passed (PutRecord s) of = record_put kind is passed s of.1
+  edit_typed kind is passed (PutStep row) of = step_put kind is passed row of.1
+  edit_typed kind is passed (AddSection row) of = section_added kind is row of
+  edit_typed kind is passed (AddPoint p) of = point_added kind is p of
+
+  all_typed : (kind : Kind) → is_typed_kind kind ≡ true → Pass (checks k R by at kind) → AllTyped (edits_of k.greatest R by at kind)
+  all_typed kind is passed = each_is k R by at kind IsTypedEdit (edit_typed kind is passed) (edits_of k.greatest R by at kind) (edits_of_accepted k R by at kind passed)
 
 pub commands_keep_typed : CommandsKeepTyped
 commands_keep_typed R q typed is = at (refusal_of R q) refl
@@ -369,7 +342,7 @@ commands_keep_typed R q typed is = at (refusal_of R q) refl
         let caller = and_parts (is_name q.caller) (is_moment q.moment && is_typed_kind q.kind) is in
         let rest = and_parts (is_moment q.moment) (is_typed_kind q.kind) caller.1 in
         edited_all_typed (edits_of (known_of R q).greatest R q.caller q.moment q.kind) R
-        (all_typed R typed q.caller q.moment caller.0 rest.0 q.kind rest.1 (all_pass (checks (known_of R q) R q.caller q.moment q.kind) passed)) typed
+        (all_typed R typed (known_of R q) (greatest_typed R typed (requester_for q.caller (named_clearance q.kind))) q.caller q.moment caller.0 rest.0 q.kind rest.1 (all_pass (checks (known_of R q) R q.caller q.moment q.kind) passed)) typed
     at (Some refusal) is_refused = edited_all_typed [] R tt typed
 
 -- ---- the opening register
