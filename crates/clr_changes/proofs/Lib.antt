@@ -1,0 +1,4 @@
+pub mod LookedUp
+pub mod Grown
+pub mod NeededRows
+pub mod InParts

@@ -1,0 +1,8 @@
+use Rattle.std.proofs.Common.{◌≡◌, ◌++◌, drop, filter, map}
+use Rattle.clr_rules.specs.Records.{is_open}
+use Rattle.clr_changes.proofs.phases.open_of.Given as goal
+
+-- the records so far, and those that are left, are all
+abbrev pub invariant-loop-record : goal.invariant-loop-record
+invariant-loop-record l =
+    map (λ r. r.now) l.found.items ++ filter (λ r. is_open r.phase) (map (λ r. r.now) (drop l.record-index l.fn.records)) ≡ filter (λ r. is_open r.phase) (map (λ r. r.now) l.fn.records)

@@ -1,0 +1,62 @@
+//! What changes from one register to the next in network and staff.
+ghost use Rattle.std.specs.Prelude.{◌≡◌, IfOk};
+ghost use Rattle.clr_update.specs.Changes.{changes};
+ghost use Rattle.clr_changes.specs.Renewed.{renewed};
+ghost use Rattle.clr_changes.specs.Shown.{as_changes};
+
+use crate::rows::{lacking, unplaced_rows};
+use crate::states::placed;
+use clr_book::Book;
+use clr_net::{Network, PointRow, SectionRow};
+use clr_rules::{Hold, PointState, Record, StepRow};
+use clr_shelf::Shelf;
+use clr_staff::{Staff, StaffRow};
+use std::alloc::{AllocError, Global};
+
+/// Rows that go, and rows that come. A row that changes goes as it was, and comes as it is.
+#[derive(Drop)]
+pub struct Changes {
+    pub sections_go: Vec<SectionRow>,
+    pub sections_come: Vec<SectionRow>,
+    pub points_go: Vec<PointRow>,
+    /// Each in its position.
+    pub points_come: Vec<PointRow>,
+    pub staff_goes: Vec<StaffRow>,
+    pub staff_comes: Vec<StaffRow>,
+}
+
+/// What changes from a book's register to the one with this network, staff and states.
+pub(crate) fn changes_to<P, C, T, H>(
+    alloc: Global,
+    book: &Book<P, C, T, H>,
+    network: &Network,
+    staff: &Staff,
+    states: &[PointState],
+) -> Result<Changes, AllocError>
+where
+    P: Shelf<PointState>,
+    C: Shelf<Record>,
+    T: Shelf<StepRow>,
+    H: Shelf<Hold>,
+    ensures { IfOk result (λ found. as_changes found ≡ changes book.now.register
+        (renewed book.now.register network.now staff.now states.now)) }
+{
+    let was = book.network();
+    let sections_go = lacking(alloc, network.sections(), was.sections())?;
+    let sections_come = lacking(alloc, was.sections(), network.sections())?;
+    let old = unplaced_rows(alloc, was.points())?;
+    let new = unplaced_rows(alloc, network.points())?;
+    let points_go = lacking(alloc, &new, &old)?;
+    let come = lacking(alloc, &old, &new)?;
+    let points_come = placed(alloc, states, &come)?;
+    let staff_goes = lacking(alloc, staff.rows(), book.staff().rows())?;
+    let staff_comes = lacking(alloc, book.staff().rows(), staff.rows())?;
+    Ok(Changes {
+        sections_go,
+        sections_come,
+        points_go,
+        points_come,
+        staff_goes,
+        staff_comes,
+    })
+}

@@ -1,0 +1,22 @@
+//! What comes of an update of network and staff: what is in its way, or the network, the staff and
+//! the states after it, and what changes.
+#![tactic(auto)]
+
+mod changes;
+mod growing;
+mod naming;
+mod needs;
+mod obstacles;
+mod outcome;
+mod phases;
+mod rows;
+mod staffing;
+mod states;
+mod staying;
+mod touched;
+mod update;
+
+pub use changes::Changes;
+pub use clr_update::Obstacle;
+pub use outcome::{After, Outcome, outcome_of};
+pub use update::Update;
