@@ -58,8 +58,8 @@ module _ {Row : Type 0} (name_of : Row → List ℕ) (same : Row → Row → Boo
     where
       at : (b : Bool) → same a row ≡ b → list_any (same a) rows ≡ false → (same a row || list_any (same a) rows) ≡ false
       at false differs rest = rw differs rest
-      at true yes rest =
-          let one : n ≡ name_of row = sym is ∙ one_name (name_of a) (name_of row) (named a row yes) in
+      at true alike rest =
+          let one : n ≡ name_of row = sym is ∙ one_name (name_of a) (name_of row) (named a row alike) in
           let less : name_cmp n (name_of row) ≡ Less = All-head (λ other. name_cmp n other ≡ Less) (name_of row) (map name_of rows) above in
           absurd (below_itself n (ap (λ (m : List ℕ). is_lt (name_cmp n m)) one ∙ ap is_lt less))
 
@@ -78,4 +78,4 @@ module _ {Row : Type 0} (name_of : Row → List ℕ) (same : Row → Row → Boo
         where
           other : (b : Bool) → same a row ≡ b → same a row ≡ false
           other false differs = differs
-          other true yes = absurd (both_ways (same_name (name_of a) (name_of row)) is (named a row yes))
+          other true alike = absurd (both_ways (same_name (name_of a) (name_of row)) is (named a row alike))

@@ -1,5 +1,5 @@
 -- The rows that records need: the first of a kind, by what is found of each record.
-use Rattle.std.proofs.Common.{◌≡◌, ◌∙◌, ℕ, ◌==◌, Bool, true, false, List, [], ◌∷◌, ◌++◌, length, filter, Option, None, Some, refl, ap}
+use Rattle.std.proofs.Common.{◌≡◌, ◌∙◌, ℕ, Bool, true, false, List, [], ◌∷◌, ◌++◌, filter, Option, None, Some, refl, ap}
 use Rattle.std.proofs.lemmas.Option.{same_Some}
 use Rattle.clr_net.specs.Fence.{touches}
 use Rattle.clr_net.specs.Grid.{point_names}
@@ -37,12 +37,6 @@ names-append (x ∷ xs) ys = ap (λ l. x.name ∷ l) (names-append xs ys)
 pub touching-append : (near : List ℕ → Bool) (xs ys : List PointRow)
     → point_names (filter (touches near) (xs ++ ys)) ≡ point_names (filter (touches near) xs) ++ point_names (filter (touches near) ys)
 touching-append near xs ys = ap point_names (filter-append (touches near) xs ys) ∙ names-append (filter (touches near) xs) (filter (touches near) ys)
-
--- ---- none of no rows
-
-pub no_rows : {X : Type 0} (xs : List X) → (length xs == 0) ≡ true → xs ≡ []
-no_rows [] none = refl
-no_rows (x ∷ xs) none = absurd cc
 
 -- ---- the records, one after the other
 

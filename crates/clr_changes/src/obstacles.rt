@@ -80,8 +80,8 @@ impl<'a, P: Shelf<PointState>, C: Shelf<Record>, T: Shelf<StepRow>, H: Shelf<Hol
     {
         for need in needs {
             let found = self.first_row(*need, records)?;
-            if found.is_some() {
-                return Ok(found);
+            if let Some(obstacle) = found {
+                return Ok(Some(obstacle));
             }
         }
         Ok(None)

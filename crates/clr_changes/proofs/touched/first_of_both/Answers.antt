@@ -17,5 +17,5 @@ returns-in-None c =
     let near = fence_has c.args.fence.now in
     let go = point_names (filter (touches near) c.args.go.now) in
     let come = point_names (filter (touches near) c.args.come.now) in
-    c.first_touching-2.ensures
+    c.first_touching-in-None.ensures
     ∙ sym (ap first_of (touching-append near c.args.go.now c.args.come.now) ∙ first-append_none go come (sym c.first_touching.ensures ∙ c.in-None.is))
