@@ -18,3 +18,34 @@ returns-in-Some g c =
     let was : c.deref.result.now ≡ jumpers R = c.deref.ensures.value ∙ c.in_ok-was.ensures in
     name_in_way R u c.in-Some.obstacle
     (ap (λ (rows : List PointRow). first_obstacle (name_obstacles u rows)) (sym was) ∙ sym c.name_obstacle-named.ensures ∙ c.in-Some.is)
+
+pub returns-in_default-renewal : goal.returns-in_default-renewal
+returns-in_default-renewal g c =
+    let R = c.args.book.now.register in
+    let u = as_update c.args.update in
+    let was : c.deref.result.now ≡ jumpers R = c.deref.ensures.value ∙ c.in_ok-was.ensures in
+    let none : first_obstacle (name_obstacles u (jumpers R)) ≡ None =
+    ap (λ (rows : List PointRow). first_obstacle (name_obstacles u rows)) (sym was) ∙ sym c.name_obstacle-named.ensures ∙ c.in_default.is in
+    too_large R u none (subst (λ (o : Option After). IsRenewal R u o) c.in_default-renewal.is c.in_ok-renewal.ensures)
+
+pub returns-in-Some-found : goal.returns-in-Some-found
+returns-in-Some-found g c =
+    let R = c.args.book.now.register in
+    let u = as_update c.args.update in
+    let after = c.in-Some-renewal.after in
+    let was : c.deref.result.now ≡ jumpers R = c.deref.ensures.value ∙ c.in_ok-was.ensures in
+    let none : first_obstacle (name_obstacles u (jumpers R)) ≡ None =
+    ap (λ (rows : List PointRow). first_obstacle (name_obstacles u rows)) (sym was) ∙ sym c.name_obstacle-named.ensures ∙ c.in_default.is in
+    let renewed : IsRenewal R u (Some after) = subst (λ (o : Option After). IsRenewal R u o) c.in-Some-renewal.is c.in_ok-renewal.ensures in
+    rows_in_way R u after none renewed.0 renewed.1 ∙ sym c.in_ok-found.ensures ∙ c.in-Some-found.is
+
+pub returns : goal.returns
+returns g c =
+    let R = c.args.book.now.register in
+    let u = as_update c.args.update in
+    let after = c.in-Some-renewal.after in
+    let was : c.deref.result.now ≡ jumpers R = c.deref.ensures.value ∙ c.in_ok-was.ensures in
+    let none : first_obstacle (name_obstacles u (jumpers R)) ≡ None =
+    ap (λ (rows : List PointRow). first_obstacle (name_obstacles u rows)) (sym was) ∙ sym c.name_obstacle-named.ensures ∙ c.in_default.is in
+    let renewed : IsRenewal R u (Some after) = subst (λ (o : Option After). IsRenewal R u o) c.in-Some-renewal.is c.in_ok-renewal.ensures in
+    (rows_in_way R u after none renewed.0 renewed.1 ∙ sym c.in_ok-found.ensures ∙ c.in-None.is, renewed.1)
