@@ -1,0 +1,5 @@
+pub mod Common
+pub mod Kept
+pub mod Agreeing
+pub mod Answers
+pub mod Acting
