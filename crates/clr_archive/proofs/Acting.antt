@@ -1,11 +1,11 @@
 -- Commands are answered as if nothing were archived.
-use Rattle.std.proofs.Common.{◌≡◌, ◌∙◌, ◌⊎◌, ⊎_elim, ℕ, Bool, true, false, not, ◌||◌, List, [], ◌∷◌, refl, sym, ap}
+use Rattle.std.proofs.Common.{◌≡◌, ◌∙◌, ⊎_elim, ℕ, Bool, true, false, not, ◌||◌, List, [], ◌∷◌, refl, sym, ap}
 use Rattle.clr_rules.proofs.isolation.GivenUp.{closed_steps_may_go}
 use Rattle.clr_rules.proofs.keeps.EveryKind.{commands_keep_good}
 use Rattle.clr_rules.proofs.staffed.EveryKind.{commands_keep_staffed}
 use Rattle.clr_archive.proofs.Answers.{Alike, alike}
-use Rattle.clr_archive.proofs.Common.{AreOneBut, Id, IsGood, IsStaffed, Record, Register, StepRow, after, answer, archived, both_ways, false≢true, false_from_ne_true, filter-filter_wider, gives_up, is_closed, not-true}
-use Rattle.clr_archive.proofs.Common.{or_cases, or_left, or_right, record_of, without_steps_of}
+use Rattle.clr_archive.proofs.Common.{AreOneBut, Id, IsGood, IsStaffed, Register, StepRow, after, archived, both_ways, false≢true, false_from_ne_true, filter-filter_wider, gives_up, not-true}
+use Rattle.clr_archive.proofs.Common.{or_cases, or_left, or_right, without_steps_of}
 use Rattle.clr_archive.proofs.Kept.{archives_keep_good, are_closed}
 use Rattle.clr_archive.specs.Acts.{Act, after_act, command, archive}
 unfoldable use Rattle.clr_archive.specs.Acts.{ShowNoneGone, after_acts, answers, answers_among, commands_among}

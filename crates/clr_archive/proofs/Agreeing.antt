@@ -1,5 +1,5 @@
 -- An archive keeps agreement near a clearance, and archives add up.
-use Rattle.std.proofs.Common.{◌≡◌, ◌∙◌, ◌<◌, ◌≤◌, ℕ, Bool, true, false, not, ◌&&◌, nat_lt, List, [], Option, Some, None, Contains, refl, sym, ap, arith}
+use Rattle.std.proofs.Common.{◌≡◌, ◌∙◌, ◌<◌, ◌≤◌, ℕ, Bool, true, false, not, ◌&&◌, nat_lt, List, Option, Some, None, Contains, refl, sym, ap, arith}
 use Rattle.std.proofs.lemmas.Bool.{lt-ltb, ltb-true}
 use Rattle.clr_rules.proofs.isolation.Agreement.{agrees_back, agrees_on}
 use Rattle.clr_rules.proofs.isolation.ClosedSteps.{steps_stay}

@@ -1,5 +1,5 @@
 -- Only a show looks at the steps of a record that is Closed.
-use Rattle.std.proofs.Common.{◌≡◌, ◌∙◌, ◌⊎◌, inl, inr, ℕ, Bool, true, false, List, [], ◌∷◌, Option, Some, None, refl, sym, ap, subst}
+use Rattle.std.proofs.Common.{◌≡◌, ◌∙◌, inl, inr, ℕ, Bool, true, false, List, [], Option, Some, None, refl, sym, ap, subst}
 use Rattle.clr_rules.proofs.edits.Passing.{all_pass, first_after, holder_begun, named_is_open, role_begun, is_show as shows}
 use Rattle.clr_rules.proofs.isolation.ClosedSteps.{closed_steps_bind_nothing}
 use Rattle.clr_rules.specs.Answer.{answer_by_checks, first_refusal, known_of}
@@ -9,7 +9,7 @@ use Rattle.clr_rules.specs.Prelude.{is_granted, is_ordered, is_restoring, is_run
 unfoldable use Rattle.clr_rules.specs.Prelude.{after_edits}
 use Rattle.clr_rules.specs.Records.{is_cancellable, is_released, is_requested}
 use Rattle.clr_staff.specs.declared.employee.Role.{Role}
-use Rattle.clr_archive.proofs.Common.{Answer, AreClosed, AreOneBut, Closed, Command, Id, IsGood, Kind, NamesNoneOf, Phase, Record, Register, after, answer, both_ways, false≢true, is_closed, is_open, named_clearance}
+use Rattle.clr_archive.proofs.Common.{Answer, AreClosed, AreOneBut, Closed, Command, Id, IsGood, Kind, NamesNoneOf, Phase, Record, Register, after, answer, both_ways, false≢true, is_closed, named_clearance}
 use Rattle.clr_archive.proofs.Common.{record_of, same_Some, without_steps_of}
 use Rattle.clr_archive.proofs.Kept.{closed_not_open}
 use Rattle.clr_archive.specs.Acts.{ShowsNoneOf, is_show}

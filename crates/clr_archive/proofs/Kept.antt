@@ -7,7 +7,7 @@ use Rattle.clr_rules.proofs.near.OwnQuestions.{same_round}
 use Rattle.clr_rules.specs.Fences.{clearance_fence, found_fence, record_fence, work_fence}
 use Rattle.clr_rules.specs.Isolation.{LeftAlone}
 use Rattle.clr_rules.specs.Prelude.{points_of}
-use Rattle.clr_archive.proofs.Common.{AreClosed, Closed, Contains-filter, Id, IsGood, IsStaffed, Phase, Record, Register, StepRow, All-weaker, and_from, and_parts, archived, both_ways, false≢true, false_from_ne_true}
+use Rattle.clr_archive.proofs.Common.{AreClosed, Closed, Contains-filter, Id, IsGood, Phase, Record, Register, StepRow, All-weaker, and_from, and_parts, archived, both_ways, false≢true, false_from_ne_true}
 use Rattle.clr_archive.proofs.Common.{filter_passes, gives_up, id_cmp, id_cmp_total, is_closed, is_fenced, is_open, is_past, is_past_record, is_printed, is_some_step, member-row_of, no_step_of, not-true}
 use Rattle.clr_archive.proofs.Common.{one_id, printed_records, record_id, record_key, record_of, same_Some, same_id, steps_of}
 use Rattle.clr_archive.specs.Laws.{ArchivesKeepGood, ArchivesTakeClosedSteps, NoStepIsLost}

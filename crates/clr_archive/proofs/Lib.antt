@@ -3,3 +3,5 @@ pub mod Kept
 pub mod Agreeing
 pub mod Answers
 pub mod Acting
+pub mod LastStep
+pub mod PutLast

@@ -5,6 +5,7 @@ use Rattle.clr_rules.specs.Prelude.{Id, Register, is_some_step, record_of, steps
 use Rattle.clr_rules.specs.Records.{is_closed}
 use Rattle.clr_rules.specs.laws.ClosedSteps.{without_steps_of}
 use Rattle.clr_rules.specs.declared.record.Record.{Record}
+use Rattle.clr_rules.specs.declared.step_row.StepRow.{StepRow}
 
 -- A RECORD IS PAST: it is Closed, and its last moment is before this one
 abbrev pub is_past : ℕ → Record → Bool
@@ -29,3 +30,7 @@ is_printed before R r = is_past before r && is_some_step (steps_of R.steps r.id)
 
 abbrev pub printed_records : ℕ → Register → List Record
 printed_records before R = filter (is_printed before R) R.records
+
+-- THE STEPS THAT GO
+abbrev pub steps_that_go : ℕ → Register → List StepRow
+steps_that_go before R = filter (λ row. gives_up before R row.id) R.steps
