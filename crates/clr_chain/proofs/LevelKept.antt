@@ -1,0 +1,170 @@
+-- Level is kept, and a lost tail is made good.
+use Rattle.std.proofs.Common.{◌≡◌, ◌∙◌, ℕ, Bool, true, false, ◌&&◌, not, cond, List, [], ◌∷◌, ◌++◌, map, Option, None, Some, refl, ap, ap₂, sym, subst, append_assoc, append-nil}
+use Rattle.std.proofs.lemmas.List.{append_cancel_left, map-append}
+use Rattle.serde_json.specs.Data.{Data}
+use Rattle.clr_rules.specs.Answer.{Answer, answer}
+use Rattle.clr_rules.specs.Register.{Register}
+use Rattle.clr_rules.specs.Run.{after, after_all, replies}
+use Rattle.clr_rules.specs.declared.command.Command.{Command}
+use Rattle.clr_text.specs.Replies.{reply_data}
+use Rattle.clr_journal.proofs.JournalsRead.{commands_grow, lines_grow}
+use Rattle.clr_journal.specs.Journals.{carried_out, in_turn, onto_some, own_pair, turn_after, withdraws}
+use Rattle.clr_journal.specs.Laws.{turn_behind}
+use Rattle.clr_journal.specs.Line.{Entry, carried, withdrawn, is_accepted}
+use Rattle.clr_journal.specs.declared.line.Receipt.{Receipt}
+use Rattle.clr_journal.specs.declared.reading.Turn.{Turn}
+use Rattle.clr_chain.specs.First.{first_turn_at}
+use Rattle.clr_chain.specs.Laws.{LinesKeepLevel, LostTailsAreMadeGood, NewJournalsAreLevel, StepsKeepLevel, line_at}
+use Rattle.clr_chain.specs.Level.{IsLevel, IsRunOf, ends_with_command, is_command, place_after}
+use Rattle.clr_chain.specs.Sums.{sum_after, sum_behind}
+
+-- ---- what was carried out of lines and of those after them
+
+same_withdraws : (xs ys : List Entry) → withdraws ys ≡ false → withdraws (xs ++ ys) ≡ withdraws xs
+same_withdraws [] ys h = h
+same_withdraws (carried receipt q reply ∷ xs) ys h = refl
+same_withdraws (withdrawn n ∷ xs) ys h = refl
+
+own_same : (one : Entry) (xs ys : List Entry) → withdraws ys ≡ false → own_pair one (xs ++ ys) ≡ own_pair one xs
+own_same (withdrawn n) xs ys h = refl
+own_same (carried receipt q reply) xs ys h =
+    ap (λ (b : Bool). cond (is_accepted reply && not b) (Some (q, reply)) None) (same_withdraws xs ys h)
+
+onto_pairs : (o : Option (Command × Data)) (xs ys : List (Command × Data)) → onto_some o (xs ++ ys) ≡ onto_some o xs ++ ys
+onto_pairs None xs ys = refl
+onto_pairs (Some pair) xs ys = refl
+
+pub carried_out-append : (xs ys : List Entry) → withdraws ys ≡ false → carried_out (xs ++ ys) ≡ carried_out xs ++ carried_out ys
+unfolding carried_out
+carried_out-append [] ys h = refl
+carried_out-append (one ∷ xs) ys h =
+    ap (λ (o : Option (Command × Data)). onto_some o (carried_out (xs ++ ys))) (own_same one xs ys h)
+    ∙ ap (onto_some (own_pair one xs)) (carried_out-append xs ys h)
+    ∙ onto_pairs (own_pair one xs) (carried_out xs) (carried_out ys)
+
+-- ---- runs one after the other
+
+after_all-append : (R : Register) (xs ys : List Command) → after_all R (xs ++ ys) ≡ after_all (after_all R xs) ys
+unfolding after_all
+after_all-append R [] ys = refl
+after_all-append R (q ∷ xs) ys = after_all-append (after R q) xs ys
+
+replies-append : (R : Register) (xs ys : List Command) → replies R (xs ++ ys) ≡ replies R xs ++ replies (after_all R xs) ys
+unfolding after_all replies
+replies-append R [] ys = refl
+replies-append R (q ∷ xs) ys = ap (λ rest. Answer.reply (answer R q) ∷ rest) (replies-append (after R q) xs ys)
+
+abbrev asked : List (Command × Data) → List Command
+asked pairs = map (λ pair. pair.0) pairs
+
+abbrev told : List (Command × Data) → List Data
+told pairs = map (λ pair. pair.1) pairs
+
+abbrev answers : Register → List Command → List Data
+answers R commands = map reply_data (replies R commands)
+
+answers-append : (R : Register) (xs ys : List Command) → answers R (xs ++ ys) ≡ answers R xs ++ answers (after_all R xs) ys
+answers-append R xs ys = ap (map reply_data) (replies-append R xs ys) ∙ map-append reply_data (replies R xs) (replies (after_all R xs) ys)
+
+joined : (first R S : Register) (a b : List (Command × Data)) → IsRunOf first a R → IsRunOf R b S → IsRunOf first (a ++ b) S
+joined first R S a b one two =
+    let commands : asked (a ++ b) ≡ asked a ++ asked b = map-append (λ pair. pair.0) a b in
+    let come : after_all first (asked a) ≡ R = sym one.register in
+    record {
+      register = two.register ∙ ap (λ T. after_all T (asked b)) one.register ∙ sym (after_all-append first (asked a) (asked b)) ∙ ap (after_all first) (sym commands);
+      replied = map-append (λ pair. pair.1) a b ∙ ap₂ (λ xs ys. xs ++ ys) one.replied (two.replied ∙ ap (λ T. answers T (asked b)) one.register)
+          ∙ sym (answers-append first (asked a) (asked b)) ∙ ap (answers first) (sym commands);
+    }
+
+parted : (first R S : Register) (a b : List (Command × Data)) → IsRunOf first a R → IsRunOf first (a ++ b) S → IsRunOf R b S
+parted first R S a b one both =
+    let commands : asked (a ++ b) ≡ asked a ++ asked b = map-append (λ pair. pair.0) a b in
+    let come : after_all first (asked a) ≡ R = sym one.register in
+    let all : answers first (asked (a ++ b)) ≡ told a ++ answers R (asked b) =
+    ap (answers first) commands ∙ answers-append first (asked a) (asked b) ∙ ap₂ (λ xs T. xs ++ answers T (asked b)) (sym one.replied) come in
+    let split : told (a ++ b) ≡ told a ++ told b = map-append (λ pair. pair.1) a b in
+    record {
+      register = both.register ∙ ap (after_all first) commands ∙ after_all-append first (asked a) (asked b) ∙ ap (λ T. after_all T (asked b)) come;
+      replied = append_cancel_left (told a) (told b) (answers R (asked b)) (sym split ∙ both.replied ∙ all);
+    }
+
+one_more : (R : Register) (q : Command) → IsRunOf R ((q, reply_data (Answer.reply (answer R q))) ∷ []) (after R q)
+unfolding after_all replies
+one_more R q = record { register = refl; replied = refl }
+
+-- ---- the laws
+
+pub new_journals : NewJournalsAreLevel
+unfolding carried_out after_all replies in_turn
+new_journals R start = record {
+  had = [];
+  more = [];
+  all = refl;
+  turns = refl;
+  is_at = refl;
+  at_command = refl;
+  kept = refl;
+  run = record { register = refl; replied = refl };
+}
+
+pub lines_keep : LinesKeepLevel
+lines_keep first R start place entries entry level next kept = record {
+  had = level.had;
+  more = level.more ++ entry ∷ [];
+  all = ap (λ es. es ++ entry ∷ []) level.all ∙ append_assoc level.had level.more (entry ∷ []);
+  turns = (lines_grow (first_turn_at start) entries entry level.turns next).0;
+  is_at = level.is_at;
+  at_command = level.at_command;
+  kept = kept;
+  run = level.run;
+}
+
+front_kept : (xs ys : List Entry) → withdraws (xs ++ ys) ≡ false → withdraws xs ≡ false
+front_kept [] ys h = refl
+front_kept (carried receipt q reply ∷ xs) ys h = refl
+front_kept (withdrawn n ∷ xs) ys h = h
+
+ends_so : (xs : List Entry) (entry : Entry) → is_command entry ≡ true → ends_with_command (xs ++ entry ∷ []) ≡ true
+ends_so [] entry h = h
+ends_so (x ∷ []) entry h = h
+ends_so (x ∷ y ∷ xs) entry h = ends_so (y ∷ xs) entry h
+
+regrouped : (had idle rest : List Entry) (entry : Entry) → had ++ (idle ++ entry ∷ rest) ≡ ((had ++ idle) ++ entry ∷ []) ++ rest
+regrouped had idle rest entry =
+    sym (append_assoc (had ++ idle) (entry ∷ []) rest ∙ append_assoc had idle (entry ∷ rest))
+
+nothing_more : (had idle : List Entry) → withdraws idle ≡ false → carried_out idle ≡ [] → carried_out (had ++ idle) ≡ carried_out had
+nothing_more had idle kept none =
+    carried_out-append had idle kept ∙ ap (λ more. carried_out had ++ more) none ∙ append-nil (carried_out had)
+
+accepted_one : (b : Bool) (pair : Command × Data) → b ≡ true → cond b (pair ∷ []) [] ≡ pair ∷ []
+accepted_one true pair h = refl
+accepted_one false pair h = absurd_list h
+  where
+    absurd_list : false ≡ true → [] ≡ pair ∷ []
+    absurd_list e = cc
+
+pub steps_keep : StepsKeepLevel
+steps_keep first R start place entries level idle rest receipt q is none accepted kept =
+    let reply : Data = reply_data (Answer.reply (answer R q)) in
+    let entry : Entry = line_at R receipt q in
+    let idle_kept : withdraws idle ≡ false = front_kept idle (entry ∷ rest) (subst (λ more. withdraws more ≡ false) is level.kept) in
+    let pairs : carried_out ((level.had ++ idle) ++ entry ∷ []) ≡ carried_out level.had ++ (q, reply) ∷ [] =
+    commands_grow (level.had ++ idle) receipt q reply
+    ∙ ap₂ (λ xs ys. xs ++ ys) (nothing_more level.had idle idle_kept none) (accepted_one (is_accepted reply) (q, reply) accepted) in
+    record {
+      had = (level.had ++ idle) ++ entry ∷ [];
+      more = rest;
+      all = level.all ∙ ap (λ more. level.had ++ more) is ∙ regrouped level.had idle rest entry;
+      turns = level.turns;
+      is_at = refl;
+      at_command = ends_so (level.had ++ idle) entry refl;
+      kept = kept;
+      run = subst (λ all. IsRunOf first all (after R q)) (sym pairs) (joined first R (after R q) (carried_out level.had) ((q, reply) ∷ []) level.run (one_more R q));
+    }
+
+pub lost_tails : LostTailsAreMadeGood
+lost_tails first R S start place entries level run =
+    let all : carried_out entries ≡ carried_out level.had ++ carried_out level.more =
+    ap carried_out level.all ∙ carried_out-append level.had level.more level.kept in
+    parted first R S (carried_out level.had) (carried_out level.more) level.run (subst (λ pairs. IsRunOf first pairs S) all run)

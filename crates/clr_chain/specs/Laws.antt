@@ -1,0 +1,101 @@
+-- LAWS OF CHAINS
+use Rattle.std.specs.Prelude.{◌≡◌, ◌≢◌, ◌⊎◌, ℕ, true, false, List, [], ◌∷◌, ◌++◌, map, Some}
+use Rattle.std.specs.List.{list_any}
+use Rattle.std.specs.Str.{is_utf8}
+use Rattle.clr_append.specs.Lines.{is_line_feed}
+use Rattle.clr_rules.specs.Register.{Register}
+use Rattle.clr_rules.specs.Answer.{Answer, answer}
+use Rattle.clr_rules.specs.Run.{after}
+use Rattle.clr_rules.specs.declared.command.Command.{Command}
+use Rattle.clr_rules.specs.declared.reply.Reply.{Reply}
+use Rattle.clr_text.specs.Replies.{reply_data}
+use Rattle.clr_journal.specs.Journals.{carried_out, is_next, withdraws}
+use Rattle.clr_journal.specs.Laws.{can_be_written, turn_behind}
+use Rattle.clr_journal.specs.Line.{Entry, carried, is_accepted, line_text}
+use Rattle.clr_journal.specs.declared.line.Receipt.{Receipt}
+use Rattle.clr_chain.specs.First.{first_text, first_turn_at}
+use Rattle.clr_chain.specs.Level.{IsLevel, IsRunOf, place_after}
+use Rattle.clr_chain.specs.Link.{link_text, read_link}
+use Rattle.clr_chain.specs.Sums.{Files, first_sum, sum_behind, sum_of}
+use Rattle.clr_chain.specs.declared.place.Place.{Place}
+
+-- ---- texts
+
+-- THE TEXT OF A LINE HAS NO LINE FEED
+abbrev pub LinksAreOneLine : Type 0
+LinksAreOneLine = (entry : Entry) (sum : List ℕ) → list_any is_line_feed (link_text entry sum) ≡ false
+
+abbrev pub FirstsAreOneLine : Type 0
+FirstsAreOneLine = (place : Place) → list_any is_line_feed (first_text place) ≡ false
+
+-- A LINE THAT CAN BE WRITTEN is read from its text
+abbrev pub LinksReadBack : Type 0
+LinksReadBack = (entry : Entry) (sum : List ℕ) → can_be_written entry ≡ true → is_utf8 sum ≡ true
+    → read_link sum (link_text entry sum) ≡ Some entry
+
+-- A TEXT IS READ IN ITS OWN FORM ALONE: it is the one that is written for the line
+abbrev pub LinksAreOwn : Type 0
+LinksAreOwn = (entry : Entry) (sum text : List ℕ) → read_link sum text ≡ Some entry
+    → text ≡ link_text entry sum
+
+-- ---- sums
+
+-- A COLLISION of SHA-256: two texts that differ and have one sum
+pub record Collision : Type 0 where
+  pub one : List ℕ
+  pub other : List ℕ
+  pub differ : one ≢ other
+  pub sum : sum_of one ≡ sum_of other
+
+-- ALL THAT A SUM SAYS: the files, the id and each line up to it
+pub record AreSame (files files' : Files) (id id' : List ℕ) (entries entries' : List Entry)
+    : Type 0 where
+  pub sections : files.sections ≡ files'.sections
+  pub points : files.points ≡ files'.points
+  pub staff : files.staff ≡ files'.staff
+  pub ids : id ≡ id'
+  pub lines : map line_text entries ≡ map line_text entries'
+
+-- TWO JOURNALS WITH ONE SUM ARE THE SAME up to it, byte for byte; or a collision is shown
+abbrev pub SameSumSameJournal : Type 0
+SameSumSameJournal = (files files' : Files) (id id' : List ℕ) (entries entries' : List Entry)
+    → sum_behind (first_sum files id) entries ≡ sum_behind (first_sum files' id') entries'
+    → AreSame files files' id id' entries entries' ⊎ Collision
+
+-- ---- level
+
+-- the line of a command that this register answers
+abbrev pub line_at : Register → Receipt → Command → Entry
+line_at R receipt q = carried receipt q (reply_data (Answer.reply (answer R q)))
+
+-- A NEW JOURNAL IS LEVEL with the register that it begins with, at its first line
+abbrev pub NewJournalsAreLevel : Type 0
+NewJournalsAreLevel = (R : Register) (start : Place) → IsLevel R start [] start R
+
+-- A LINE MORE KEEPS LEVEL, whatever it says, but for one that withdraws the register's own command
+abbrev pub LinesKeepLevel : Type 0
+LinesKeepLevel = (first R : Register) (start place : Place) (entries : List Entry) (entry : Entry)
+    (level : IsLevel first start entries place R)
+    → is_next (turn_behind (first_turn_at start) entries) entry ≡ true
+    → withdraws (IsLevel.more level ++ entry ∷ []) ≡ false
+    → IsLevel first start (entries ++ entry ∷ []) place R
+
+-- A COMMAND CARRIED OUT KEEPS LEVEL, with its place: it is the next that was accepted and not
+-- withdrawn, whether its line is new or was there
+abbrev pub StepsKeepLevel : Type 0
+StepsKeepLevel = (first R : Register) (start place : Place) (entries : List Entry)
+    (level : IsLevel first start entries place R)
+    → (idle rest : List Entry) (receipt : Receipt) (q : Command)
+    → IsLevel.more level ≡ idle ++ line_at R receipt q ∷ rest
+    → carried_out idle ≡ [] → is_accepted (reply_data (Answer.reply (answer R q))) ≡ true
+    → withdraws rest ≡ false
+    → IsLevel first start entries
+    (place_after start (IsLevel.had level ++ idle ++ line_at R receipt q ∷ [])) (after R q)
+
+-- A LOST TAIL IS MADE GOOD: where all lines of a journal are those of a run, the lines after the
+-- register's place are those of a run from it, to the same register and with the same replies
+abbrev pub LostTailsAreMadeGood : Type 0
+LostTailsAreMadeGood = (first R S : Register) (start place : Place) (entries : List Entry)
+    (level : IsLevel first start entries place R)
+    → IsRunOf first (carried_out entries) S
+    → IsRunOf R (carried_out (IsLevel.more level)) S

@@ -1,0 +1,52 @@
+-- LEVEL: a register, its place and a journal belong together.
+use Rattle.std.specs.Prelude.{◌≡◌, ℕ, Bool, true, false, List, [], ◌∷◌, ◌++◌, map}
+use Rattle.serde_json.specs.Data.{Data}
+use Rattle.clr_rules.specs.Register.{Register}
+use Rattle.clr_rules.specs.Run.{after_all, replies}
+use Rattle.clr_rules.specs.declared.command.Command.{Command}
+use Rattle.clr_text.specs.Replies.{reply_data}
+use Rattle.clr_journal.specs.Journals.{carried_out, in_turn, withdraws}
+use Rattle.clr_journal.specs.Laws.{turn_behind}
+use Rattle.clr_journal.specs.Line.{Entry, carried, withdrawn}
+use Rattle.clr_chain.specs.First.{first_turn_at}
+use Rattle.clr_chain.specs.Sums.{sum_behind}
+use Rattle.clr_chain.specs.declared.place.Place.{Place}
+
+-- commands and their replies, as JSON values, are a run from one register to another
+pub record IsRunOf (R : Register) (pairs : List (Command × Data)) (S : Register) : Type 0 where
+  pub register : S ≡ after_all R (map (λ pair. pair.0) pairs)
+  pub replied : map (λ pair. pair.1) pairs
+      ≡ map reply_data (replies R (map (λ pair. pair.0) pairs))
+
+abbrev pub is_command : Entry → Bool
+is_command (carried receipt q reply) = true
+is_command (withdrawn n) = false
+
+-- the last of these lines is that of a command, if there is one
+abbrev pub ends_with_command : List Entry → Bool
+ends_with_command [] = true
+ends_with_command (entry ∷ []) = is_command entry
+ends_with_command (entry ∷ next ∷ rest) = ends_with_command (next ∷ rest)
+
+-- where a chain with this first line has come to, after these lines
+abbrev pub place_after : Place → List Entry → Place
+place_after start entries = record {
+  id = start.id;
+  number = (turn_behind (first_turn_at start) entries).last;
+  sum = sum_behind start.sum entries;
+}
+
+-- A REGISTER, ITS PLACE AND A JOURNAL ARE LEVEL: the lines of the journal are in turn. It begins
+-- with those that the register has, and the place is the one after these. The register is that of a
+-- run of the commands that they say were carried out, with these replies, from the one that the
+-- journal began with. Lines may come after them, of which the first does not withdraw
+pub record IsLevel (first : Register) (start : Place) (entries : List Entry) (place : Place)
+    (R : Register) : Type 0 where
+  pub had : List Entry
+  pub more : List Entry
+  pub all : entries ≡ had ++ more
+  pub turns : in_turn (first_turn_at start) entries ≡ true
+  pub is_at : place ≡ place_after start had
+  pub at_command : ends_with_command had ≡ true
+  pub kept : withdraws more ≡ false
+  pub run : IsRunOf first (carried_out had) R

@@ -1,0 +1,121 @@
+//! The first line of a journal.
+ghost use Rattle.std.specs.Prelude.{◌≡◌, IfOk, option_map, string_bytes, take};
+ghost use Rattle.serde_json.specs.Find.{as_str};
+ghost use Rattle.serde_json.specs.View.{view};
+ghost use Rattle.clr_text.specs.Reading.{value_of};
+ghost use Rattle.clr_journal.specs.Line.{at_key};
+ghost use Rattle.clr_chain.specs.First.{first_data, first_text, place_in, read_first};
+ghost use Rattle.clr_chain.specs.Finding.{first_of};
+
+use crate::place::Place;
+use crate::values::is_same;
+use clr_append::first_line;
+use clr_rules::Text;
+use serde_json::{Value, json};
+use std::alloc::{AllocError, Global};
+
+/// How many bytes the first line has at most, with its line feed.
+pub(crate) const FRONT: usize = 4096;
+
+/// The text of a first line, without its line feed.
+#[tactic(auto, unfolding(crate::specs::First::first_text))]
+pub fn print_first(alloc: Global, place: &Place) -> Result<String, AllocError>
+    ensures { IfOk result (λ text. string_bytes text ≡ first_text place.now) }
+{
+    let value = first_value(alloc, place)?;
+    value.to_string(alloc)
+}
+
+/// The JSON value of a first line.
+fn first_value(alloc: Global, place: &Place) -> Result<Value, AllocError>
+    ensures { IfOk result (λ value. view value ≡ first_data place.now) }
+{
+    let id = Value::try_from_str(alloc, place.id.as_str())?;
+    let sum = Value::try_from_str(alloc, place.sum.as_str())?;
+    json!(in alloc; {"journal": id, "number": place.number, "sum": sum})
+}
+
+/// The place that a journal begins with, by its bytes, of which the first are enough.
+pub(crate) fn first_of(alloc: Global, bytes: &[u8]) -> Result<Option<Place>, AllocError>
+    ensures { IfOk result (λ place. place ≡ first_of bytes.now) }
+{
+    match first_line(front_of(bytes)) {
+        Some((text, _after)) => read_first(alloc, text),
+        None => Ok(None),
+    }
+}
+
+/// The bytes that the first line may have.
+fn front_of(bytes: &[u8]) -> &[u8]
+    ensures { result.now ≡ take 4096 bytes.now }
+{
+    if bytes.len() > FRONT {
+        &bytes[..FRONT]
+    } else {
+        bytes
+    }
+}
+
+/// What a text says, if it is a first line in its own form.
+#[tactic(auto, unfolding(crate::specs::First::read_first))]
+pub fn read_first(alloc: Global, text: &[u8]) -> Result<Option<Place>, AllocError>
+    ensures { IfOk result (λ place. place ≡ read_first text.now) }
+{
+    let Some(value) = value_of(alloc, text)? else {
+        return Ok(None);
+    };
+    let Some(place) = place_in(alloc, &value)? else {
+        return Ok(None);
+    };
+    let own = print_first(alloc, &place)?;
+    if is_same(text, own.as_bytes()) {
+        Ok(Some(place))
+    } else {
+        Ok(None)
+    }
+}
+
+/// The JSON value of a text, if it has one.
+#[tactic(auto, unfolding(clr_text::specs::Reading::value_of))]
+fn value_of(alloc: Global, text: &[u8]) -> Result<Option<Value>, AllocError>
+    ensures { IfOk result (λ value. option_map view value ≡ value_of text.now) }
+{
+    match Value::from_slice(alloc, text) {
+        Ok(value) => Ok(Some(value)),
+        Err(error) => {
+            if error.is_memory() {
+                return Err(AllocError);
+            }
+            Ok(None)
+        }
+    }
+}
+
+/// The place of a JSON value.
+fn place_in(alloc: Global, value: &Value) -> Result<Option<Place>, AllocError>
+    ensures { IfOk result (λ place. place ≡ place_in (view value.now)) }
+{
+    let Some(id) = text_at(value, "journal") else {
+        return Ok(None);
+    };
+    let Some(number) = value.get("number").and_then(Value::as_u64) else {
+        return Ok(None);
+    };
+    let Some(sum) = text_at(value, "sum") else {
+        return Ok(None);
+    };
+    let id = String::from_str(alloc, id)?;
+    let sum = String::from_str(alloc, sum)?;
+    Ok(Some(Place {
+        id: Text::new(id),
+        number,
+        sum: Text::new(sum),
+    }))
+}
+
+/// The text at a key.
+fn text_at<'a>(value: &'a Value, key: &str) -> Option<&'a str>
+    ensures { option_map (λ text. text.now) result ≡ at_key as_str key.now (view value.now) }
+{
+    value.get(key).and_then(Value::as_str)
+}

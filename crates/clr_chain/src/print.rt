@@ -1,0 +1,56 @@
+//! A line is written.
+ghost use Rattle.std.specs.Prelude.{◌≡◌, IfOk, string_bytes};
+ghost use Rattle.clr_text.specs.Replies.{reply_data};
+ghost use Rattle.clr_journal.specs.Line.{carried, withdrawn};
+ghost use Rattle.clr_chain.specs.Link.{link_text};
+ghost use Rattle.clr_chain.specs.Sums.{sum_after};
+
+use crate::sums::sum_of;
+use crate::values::{carried_link, withdrawn_link};
+use clr_journal::Receipt;
+use clr_rules::{Command, Reply, Text};
+use clr_text::reply_value;
+use std::alloc::{AllocError, Global};
+
+/// A line that is to be appended: its text, without a line feed, and the sum at it.
+#[derive(Drop)]
+pub struct Link {
+    pub text: String,
+    pub sum: Text,
+}
+
+/// The line of a command and its reply, after a sum.
+#[tactic(auto, unfolding(crate::specs::Sums::sum_after, crate::specs::Link::link_text))]
+pub fn print_carried(
+    alloc: Global,
+    before: &Text,
+    receipt: &Receipt,
+    command: &Command,
+    reply: &Reply,
+) -> Result<Link, AllocError>
+    ensures text { IfOk result (λ link. string_bytes link.text
+        ≡ link_text (carried receipt.now command.now (reply_data reply.now)) link.sum) }
+    ensures sum { IfOk result (λ link. link.sum
+        ≡ sum_after before.now (carried receipt.now command.now (reply_data reply.now))) }
+{
+    let line = clr_journal::print_carried(alloc, receipt, command, reply)?;
+    let sum = sum_of(alloc, before.as_str().as_bytes(), line.as_bytes())?;
+    let reply = reply_value(alloc, reply)?;
+    let value = carried_link(alloc, receipt, command, reply, sum.as_str())?;
+    let text = value.to_string(alloc)?;
+    Ok(Link { text, sum })
+}
+
+/// The line that withdraws the command of a number, after a sum.
+#[tactic(auto, unfolding(crate::specs::Sums::sum_after, crate::specs::Link::link_text))]
+pub fn print_withdrawn(alloc: Global, before: &Text, number: u64) -> Result<Link, AllocError>
+    ensures text { IfOk result (λ link. string_bytes link.text
+        ≡ link_text (withdrawn number) link.sum) }
+    ensures sum { IfOk result (λ link. link.sum ≡ sum_after before.now (withdrawn number)) }
+{
+    let line = clr_journal::print_withdrawn(alloc, number)?;
+    let sum = sum_of(alloc, before.as_str().as_bytes(), line.as_bytes())?;
+    let value = withdrawn_link(alloc, number, sum.as_str())?;
+    let text = value.to_string(alloc)?;
+    Ok(Link { text, sum })
+}

@@ -1,0 +1,143 @@
+//! The JSON values of lines, and their own form.
+ghost use Rattle.std.specs.Prelude.{◌≡◌, IfOk, bytes_eq, false};
+ghost use Rattle.serde_json.specs.View.{view};
+ghost use Rattle.serde_json.specs.Written.{has_float};
+ghost use Rattle.serde_json.specs.Data.{string};
+ghost use Rattle.clr_text.specs.Json.{optional_data};
+ghost use Rattle.clr_journal.specs.Line.{carried, entry_data, entry_of, line_text, withdrawn};
+ghost use Rattle.clr_chain.specs.Link.{has_fraction, is_own, link_data, link_text};
+
+use crate::floats::has_float;
+use clr_journal::{Carried, Line, Receipt};
+use clr_rules::{Command, Text};
+use clr_text::command_value;
+use serde_json::{Value, json};
+use std::alloc::{AllocError, Global};
+
+/// The value of a line with its sum, whose reply is this value.
+pub(crate) fn carried_link(
+    alloc: Global,
+    receipt: &Receipt,
+    command: &Command,
+    reply: Value,
+    sum: &str,
+) -> Result<Value, AllocError>
+    ensures { IfOk result (λ value. view value
+        ≡ link_data (carried receipt.now command.now (view reply)) sum.now) }
+{
+    let sum = Value::try_from_str(alloc, sum)?;
+    let login = login_value(alloc, &receipt.login)?;
+    let command = command_value(alloc, command)?;
+    json!(in alloc; {
+        "command": command,
+        "login": login,
+        "number": receipt.number,
+        "received": receipt.received,
+        "reply": reply,
+        "sum": sum
+    })
+}
+
+/// The value of a line that withdraws the command of a number, with its sum.
+pub(crate) fn withdrawn_link(alloc: Global, number: u64, sum: &str) -> Result<Value, AllocError>
+    ensures { IfOk result (λ value. view value ≡ link_data (withdrawn number) sum.now) }
+{
+    let sum = Value::try_from_str(alloc, sum)?;
+    json!(in alloc; {"number": number, "sum": sum, "withdrawn": true})
+}
+
+/// A login as a JSON value: a text, or null.
+fn login_value(alloc: Global, login: &Option<Text>) -> Result<Value, AllocError>
+    ensures { IfOk result (λ value. view value ≡ optional_data string login.now) }
+{
+    match login {
+        Some(login) => Value::try_from_str(alloc, login.as_str()),
+        None => Ok(Value::Null),
+    }
+}
+
+/// The value of a line that was read, without a sum.
+fn line_value(alloc: Global, line: &Line) -> Result<Value, AllocError>
+    ensures { IfOk result (λ value. view value ≡ entry_data (entry_of line.now)) }
+{
+    match line {
+        Line::Carried(carried) => carried_value(alloc, carried),
+        Line::Withdrawn(number) => json!(in alloc; {"number": *number, "withdrawn": true}),
+    }
+}
+
+/// The value of a command and its reply, without a sum.
+fn carried_value(alloc: Global, line: &Carried) -> Result<Value, AllocError>
+    ensures { IfOk result (λ value. view value
+        ≡ entry_data (carried line.now.receipt line.now.command (view line.now.reply))) }
+{
+    let reply = line.reply.clone()?;
+    let login = login_value(alloc, &line.receipt.login)?;
+    let command = command_value(alloc, &line.command)?;
+    json!(in alloc; {
+        "command": command,
+        "login": login,
+        "number": line.receipt.number,
+        "received": line.receipt.received,
+        "reply": reply
+    })
+}
+
+/// The value of a line that was read, with a sum.
+fn link_value(alloc: Global, line: &Line, sum: &str) -> Result<Value, AllocError>
+    ensures { IfOk result (λ value. view value ≡ link_data (entry_of line.now) sum.now) }
+{
+    match line {
+        Line::Carried(carried) => {
+            let reply = carried.reply.clone()?;
+            carried_link(alloc, &carried.receipt, &carried.command, reply, sum)
+        }
+        Line::Withdrawn(number) => withdrawn_link(alloc, *number, sum),
+    }
+}
+
+/// Whether the reply of a line has a number that is no whole number.
+pub(crate) fn has_fraction(line: &Line) -> bool
+    ensures { result ≡ has_fraction (entry_of line.now) }
+{
+    match line {
+        Line::Carried(carried) => has_float(&carried.reply),
+        Line::Withdrawn(_) => false,
+    }
+}
+
+/// The text of a line that was read, without a sum.
+pub(crate) fn line_text(alloc: Global, line: &Line) -> Result<Vec<u8>, AllocError>
+    requires { has_fraction (entry_of line.now) ≡ false }
+    ensures { IfOk result (λ text. text.items ≡ line_text (entry_of line.now)) }
+{
+    let value = line_value(alloc, line)?;
+    value.to_vec(alloc)
+}
+
+/// The text of a line that was read, with a sum.
+fn link_text(alloc: Global, line: &Line, sum: &str) -> Result<Vec<u8>, AllocError>
+    requires { has_fraction (entry_of line.now) ≡ false }
+    ensures { IfOk result (λ text. text.items ≡ link_text (entry_of line.now) sum.now) }
+{
+    let value = link_value(alloc, line, sum)?;
+    value.to_vec(alloc)
+}
+
+/// Whether a text is a line's own form, with this sum.
+pub(crate) fn is_own(alloc: Global, line: &Line, sum: &str, text: &[u8]) -> Result<bool, AllocError>
+    ensures { IfOk result (λ is. is ≡ is_own (entry_of line.now) sum.now text.now) }
+{
+    if has_fraction(line) {
+        return Ok(false);
+    }
+    let own = link_text(alloc, line, sum)?;
+    Ok(is_same(text, &own))
+}
+
+/// Whether two texts are the same.
+pub(crate) fn is_same(text: &[u8], other: &[u8]) -> bool
+    ensures { result ≡ bytes_eq text.now other.now }
+{
+    text == other
+}
