@@ -1,5 +1,5 @@
 -- What is left of a journal's lines ends them, so it is known what comes before it.
-use Rattle.std.proofs.Common.{◌≡◌, ◌∙◌, ◌<◌, ◌+◌, ℕ, Bool, true, false, cond, List, [], ◌∷◌, ◌++◌, length, Option, None, Some, refl, ap, ap₂, sym, subst, arith, append_assoc, length-append}
+use Rattle.std.proofs.Common.{◌≡◌, ◌∙◌, ◌<◌, ℕ, Bool, true, false, cond, List, [], ◌∷◌, ◌++◌, length, Option, None, Some, refl, ap, ap₂, sym, subst, arith, append_assoc, length-append}
 use Rattle.std.proofs.lemmas.List.Splits.{length-slice_split}
 use Rattle.std.specs.List.{list_any}
 use Rattle.std.specs.Option.{option_map_or}
@@ -7,8 +7,7 @@ use Rattle.std.specs.Prelude.{bytes_eq, nat_lt, ◌==◌, ⊤}
 use Rattle.clr_append.proofs.Pieces.{whole_text}
 use Rattle.clr_append.specs.Lines.{ended_lines, ended_text, is_line_feed, last_of, pieces, text_of, unfinished, with_feed}
 use Rattle.clr_journal.specs.Journals.{next_place, turn_after, withdraws}
-use Rattle.clr_journal.specs.Line.{Entry, carried, entry_of, read_line, withdrawn}
-use Rattle.clr_journal.specs.declared.reading.Turn.{Turn}
+use Rattle.clr_journal.specs.Line.{Entry, carried, read_line, withdrawn}
 use Rattle.clr_chain.specs.Chain.{ReadOn, all_but_first, links_of, onto, read_on}
 use Rattle.clr_chain.specs.Finding.{Found, Sought, ahead, bad_line, differs, end_of, found_after, found_at_first, found_by, found_from, found_in, found_short, first_of, met, or_earlier, other_register, passed, says_accepted, sought, sought_at, sought_below, too_short, unmet}
 use Rattle.clr_chain.specs.First.{end_at}

@@ -1,5 +1,5 @@
 -- Level is kept, and a lost tail is made good.
-use Rattle.std.proofs.Common.{◌≡◌, ◌∙◌, ℕ, Bool, true, false, ◌&&◌, not, cond, List, [], ◌∷◌, ◌++◌, map, Option, None, Some, refl, ap, ap₂, sym, subst, append_assoc, append-nil}
+use Rattle.std.proofs.Common.{◌≡◌, ◌∙◌, Bool, true, false, ◌&&◌, not, cond, List, [], ◌∷◌, ◌++◌, map, Option, None, Some, refl, ap, ap₂, sym, subst, append_assoc, append-nil}
 use Rattle.std.proofs.lemmas.List.{append_cancel_left, map-append}
 use Rattle.serde_json.specs.Data.{Data}
 use Rattle.clr_rules.specs.Answer.{Answer, answer}
@@ -8,15 +8,11 @@ use Rattle.clr_rules.specs.Run.{after, after_all, replies}
 use Rattle.clr_rules.specs.declared.command.Command.{Command}
 use Rattle.clr_text.specs.Replies.{reply_data}
 use Rattle.clr_journal.proofs.JournalsRead.{commands_grow, lines_grow}
-use Rattle.clr_journal.specs.Journals.{carried_out, in_turn, onto_some, own_pair, turn_after, withdraws}
-use Rattle.clr_journal.specs.Laws.{turn_behind}
+use Rattle.clr_journal.specs.Journals.{carried_out, in_turn, onto_some, own_pair, withdraws}
 use Rattle.clr_journal.specs.Line.{Entry, carried, withdrawn, is_accepted}
-use Rattle.clr_journal.specs.declared.line.Receipt.{Receipt}
-use Rattle.clr_journal.specs.declared.reading.Turn.{Turn}
 use Rattle.clr_chain.specs.First.{first_turn_at}
 use Rattle.clr_chain.specs.Laws.{LinesKeepLevel, LostTailsAreMadeGood, NewJournalsAreLevel, StepsKeepLevel, line_at}
-use Rattle.clr_chain.specs.Level.{IsLevel, IsRunOf, ends_with_command, is_command, place_after}
-use Rattle.clr_chain.specs.Sums.{sum_after, sum_behind}
+use Rattle.clr_chain.specs.Level.{IsRunOf, ends_with_command, is_command}
 
 -- ---- what was carried out of lines and of those after them
 

@@ -1,9 +1,8 @@
 -- A line that can be written is read from its text, and from no other.
-use Rattle.std.proofs.Common.{◌≡◌, ◌∙◌, ◌≤◌, ◌^◌, ◌+◌, ℕ, Bool, true, false, ◌&&◌, not, cond, List, Option, None, Some, Result, nat_lt, codes, refl, ap, ap₂, sym, arith, ltb-true, option_map, option_and_then, Ok}
+use Rattle.std.proofs.Common.{◌≡◌, ◌∙◌, ◌≤◌, ◌^◌, ◌+◌, ℕ, Bool, true, false, ◌&&◌, not, cond, List, Option, None, Some, Result, nat_lt, codes, refl, ap, ap₂, arith, ltb-true, option_map, option_and_then, Ok}
 use Rattle.std.proofs.lemmas.Bool.{and_from, and_parts}
 use Rattle.std.proofs.lemmas.Slice.Eq.{bytes_eq-Decides}
 use Rattle.std.proofs.lemmas.Str.{is_utf8-from_IsUtf8}
-use Rattle.std.specs.List.{list_any}
 use Rattle.std.specs.Prelude.{bytes_eq}
 use Rattle.std.specs.Result.{result_ok}
 use Rattle.std.specs.Str.{is_utf8}
@@ -16,9 +15,9 @@ use Rattle.clr_text.proofs.PlainTexts.{one_line, plain_values_read_back}
 use Rattle.clr_text.specs.CommandLaws.{is_before, is_plain, is_whole, items_are_plain, members_are_plain}
 use Rattle.clr_text.specs.CommandText.{can_be_sent, command_data}
 use Rattle.clr_text.specs.Json.{optional_data, whole_data}
-use Rattle.clr_text.specs.Reading.{command_in, value_of}
+use Rattle.clr_text.specs.Reading.{command_in}
 use Rattle.clr_text.specs.declared.fault.TextFault.{TextFault}
-use Rattle.clr_journal.specs.Laws.{can_be_written, login_is_text}
+use Rattle.clr_journal.specs.Laws.{login_is_text}
 use Rattle.clr_journal.specs.Line.{Entry, carried, withdrawn, line_in, login_in, read_line}
 use Rattle.clr_journal.specs.declared.line.Receipt.{Receipt}
 use Rattle.clr_chain.specs.First.{first_data, first_text}

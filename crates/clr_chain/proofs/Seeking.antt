@@ -1,5 +1,5 @@
 -- The line of a number is looked for, line by line.
-use Rattle.std.proofs.Common.{◌≡◌, ◌∙◌, ℕ, List, [], ◌∷◌, Option, refl, ap, ap₂, sym}
+use Rattle.std.proofs.Common.{◌≡◌, ◌∙◌, ℕ, List, [], ◌∷◌, refl, ap, sym}
 use Rattle.clr_append.specs.Lines.{ended_lines}
 use Rattle.clr_journal.specs.Line.{read_line}
 use Rattle.clr_chain.specs.Finding.{Sought, met, or_earlier, passed, sought, sought_at, unmet}

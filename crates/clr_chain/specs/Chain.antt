@@ -1,5 +1,5 @@
 -- A CHAIN: a first line, and lines each of which holds its sum.
-use Rattle.std.specs.Prelude.{ℕ, List, [], ◌∷◌, Option, None, Some}
+use Rattle.std.specs.Prelude.{ℕ, List, [], ◌∷◌}
 use Rattle.std.specs.Option.{option_map_or}
 use Rattle.clr_append.specs.Lines.{ended_lines, text_of}
 use Rattle.clr_journal.specs.Line.{Entry}

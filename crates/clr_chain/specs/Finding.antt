@@ -44,7 +44,8 @@ or_earlier unmet earlier = earlier
 
 unfoldable pub sought : Place → List (List ℕ) → Sought
 sought place [] = unmet
-sought place (text ∷ rest) = or_earlier (sought place rest) (sought_at place text rest (read_line text))
+sought place (text ∷ rest) =
+    or_earlier (sought place rest) (sought_at place text rest (read_line text))
 
 -- ---- what is found
 
@@ -66,7 +67,8 @@ accepts (withdrawn n) = false
 abbrev pub says_accepted : List ℕ → Bool
 says_accepted text = option_map_or accepts (read_line text) false
 
--- NO ACCEPTED LINE IS CUT OFF. A line that withdraws the register's own command is another journal's
+-- NO ACCEPTED LINE IS CUT OFF. A line that withdraws the register's own command is of another
+-- journal
 abbrev pub found_after : ℕ → ReadOn → Found
 found_after number read =
     if withdraws read.entries then differs number

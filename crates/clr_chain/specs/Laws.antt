@@ -7,7 +7,6 @@ use Rattle.clr_rules.specs.Register.{Register}
 use Rattle.clr_rules.specs.Answer.{Answer, answer}
 use Rattle.clr_rules.specs.Run.{after}
 use Rattle.clr_rules.specs.declared.command.Command.{Command}
-use Rattle.clr_rules.specs.declared.reply.Reply.{Reply}
 use Rattle.clr_text.specs.Replies.{reply_data}
 use Rattle.clr_journal.specs.Journals.{carried_out, is_next, withdraws}
 use Rattle.clr_journal.specs.Laws.{can_be_written, turn_behind}
@@ -23,7 +22,8 @@ use Rattle.clr_chain.specs.declared.place.Place.{Place}
 
 -- THE TEXT OF A LINE HAS NO LINE FEED
 abbrev pub LinksAreOneLine : Type 0
-LinksAreOneLine = (entry : Entry) (sum : List ℕ) → list_any is_line_feed (link_text entry sum) ≡ false
+LinksAreOneLine = (entry : Entry) (sum : List ℕ)
+    → list_any is_line_feed (link_text entry sum) ≡ false
 
 abbrev pub FirstsAreOneLine : Type 0
 FirstsAreOneLine = (place : Place) → list_any is_line_feed (first_text place) ≡ false

@@ -1,9 +1,8 @@
-use Rattle.std.proofs.Common.{◌≡◌, ◌∙◌, ℕ, List, [], ◌∷◌, Option, None, Some, ap, sym, take, option_and_then}
+use Rattle.std.proofs.Common.{◌≡◌, ◌∙◌, ℕ, List, [], ap, sym, take, option_and_then}
 use Rattle.std.proofs.lemmas.Result.{IfOk-weaker}
 use Rattle.clr_append.specs.Lines.{ended_lines}
 use Rattle.clr_chain.specs.Finding.{first_of, first_text_of}
 use Rattle.clr_chain.specs.First.{read_first}
-use Rattle.clr_chain.specs.declared.place.Place.{Place}
 use Rattle.clr_chain.proofs.first.first_of.Goals as goal
 
 by_lines : (bytes front : List ℕ) (lines : List (List ℕ)) → front ≡ take 4096 bytes → ended_lines front ≡ lines → option_and_then read_first (first_text_of lines) ≡ first_of bytes

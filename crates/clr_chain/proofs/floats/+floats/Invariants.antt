@@ -1,4 +1,4 @@
-use Rattle.std.proofs.Common.{◌≡◌, ◌++◌, List, false, map, take}
+use Rattle.std.proofs.Common.{◌≡◌, ◌++◌, List, false, take}
 use Rattle.serde_json.proofs.Views.{Entry}
 use Rattle.serde_json.specs.View.{items_view, members_view}
 use Rattle.serde_json.specs.Written.{items_have_float, members_have_float}
