@@ -166,10 +166,7 @@ fn with_both<Y: System>(
 }
 
 /// A connection by its two handles.
-fn connection_of<K: Clock>(
-    half: Half<K>,
-    writer: TcpStream,
-) -> Connection<Handle<K>, Handle<K>>
+fn connection_of<K: Clock>(half: Half<K>, writer: TcpStream) -> Connection<Handle<K>, Handle<K>>
     ensures reader { (counted_inner result.reader).limit ≡ half.limits.reader }
     ensures writer { (counted_inner result.writer).limit ≡ half.limits.writer }
 {
