@@ -14,3 +14,4 @@ pub mod Keeping
 pub mod Givings
 pub mod NearRuns
 pub mod KeptNowhere
+pub mod Archived

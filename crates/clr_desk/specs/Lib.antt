@@ -14,4 +14,5 @@ pub mod Reopening
 pub mod Carrying
 pub mod Kept
 pub mod Given
+pub mod Archiving
 pub mod NearRun

@@ -1,6 +1,7 @@
 //! The desk: a book on sorted shelves and its store, which carry out commands one after the other.
 #![tactic(auto)]
 
+mod archiving;
 mod asking;
 mod at_fault;
 mod book;

@@ -1,3 +1,4 @@
 pub mod ManyRequests
 pub mod ReachedExamples
 pub mod UpdateExamples
+pub mod ArchiveExamples

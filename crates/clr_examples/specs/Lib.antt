@@ -17,3 +17,4 @@ pub mod Sight
 pub mod Twice
 pub mod WayBack
 pub mod Updates
+pub mod Archives

@@ -12,3 +12,4 @@ pub mod Versions
 pub mod Moving
 mod There
 mod Rising
+pub mod TakenSteps

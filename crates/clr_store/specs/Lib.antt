@@ -2,3 +2,4 @@ pub mod Change
 pub mod Contract
 pub mod Moving
 pub mod There
+pub mod StepsTaken

@@ -8,6 +8,7 @@ mod laws;
 mod migrate;
 mod sql;
 mod statements;
+mod steps;
 mod store;
 mod values;
 

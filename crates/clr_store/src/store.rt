@@ -22,13 +22,15 @@ ghost use Rattle.clr_load.specs.declared.fault.StoreFault.TheVariants.{OtherTabl
 ghost use Rattle.clr_store.specs.Contract.{AreEdited, IsOfOpening, MakesEdits, RefusesOpening};
 ghost use Rattle.clr_store.specs.Contract.{RefusesVersion};
 ghost use Rattle.clr_store.specs.Moving.{IsOfMove, LeavesMoved, RefusesMove, RefusesToMove};
+ghost use Rattle.clr_store.specs.StepsTaken.{AreWithoutSteps, TakesSteps};
 
 use crate::create::make_register;
 use crate::edits::make_all;
 use crate::migrate::move_tables;
+use crate::steps::take_steps;
 use clr_load::{Fill, Loaded, Rows, StoreFault, expect_version, load_into, load_rows};
 use clr_net::Network;
-use clr_rules::{Change, Hold, Record, StepRow};
+use clr_rules::{Change, Hold, Record, StepKey, StepRow};
 use clr_staff::Staff;
 use sqlite::{Alter, Connection};
 use std::marker::Model;
@@ -387,4 +389,31 @@ fn commit_change<S: Alter>(conn: &mut Connection<S>, change: &Change) -> Result<
     make_all(&mut tx, change.edits.as_slice())?;
     tx.commit()?;
     Ok(())
+}
+
+impl<S: Alter + Drop> Store<S> {
+    /// Takes the steps of these keys out of the tables, in one transaction.
+    ///
+    /// `Sql` where the database refuses or fails, `NoMemory` where memory runs out. On a fault none
+    /// of them is taken.
+    pub fn take_steps(&mut self, keys: &[StepKey]) -> Result<(), StoreFault>
+        ensures taken { HasCleanDisk (state S.Store self.new)
+            → OnOk result (TakesSteps (state S.Store self.old).now keys.now
+            (state S.Store self.new).now) }
+        ensures saved { HasCleanDisk (state S.Store self.new)
+            → OnOk result (IsSaved (state S.Store self.new)) }
+        ensures still_saved { HasCleanDisk (state S.Store self.new)
+            → IsTrue (state S.Store self.new).is_open
+            → OnErr result (IsSaved (state S.Store self.new)) }
+        ensures fault { IfErr result IsOfDatabase }
+        ensures none { HasCleanDisk (state S.Store self.new)
+            → IsTrue (state S.Store self.new).is_open → OnErr result
+            ((state S.Store self.new).now ≡ (state S.Store self.old).now) }
+        ensures was_open { HasCleanDisk (state S.Store self.new)
+            → IsTrue (state S.Store self.new).is_open → IsTrue (state S.Store self.old).is_open }
+        ensures crash { Survives (state S.Store self.old) (state S.Store self.new)
+            (AreWithoutSteps (state S.Store self.old).now keys.now) }
+    {
+        take_steps(&mut self.connection, keys)
+    }
 }
