@@ -1,7 +1,8 @@
 //! What a command says, in words.
 ghost use Rattle.std.specs.Prelude.{◌≡◌, ◌++◌, OnOk, map, reverse, string_bytes};
 ghost use Rattle.clr_journal.specs.Line.{entry_of};
-ghost use Rattle.clr_log.specs.Words.{either, numbered, words};
+ghost use Rattle.clr_log.specs.Words.{either, flags_said, names_said, numbered, steps_said, verb};
+ghost use Rattle.clr_log.specs.Words.{words};
 
 use crate::steps::step_known;
 use crate::texts::{push_numbered, push_points, push_quoted, push_steps};
@@ -19,88 +20,129 @@ pub(crate) fn push_words(
     ensures { OnOk result (string_bytes out.new ≡ string_bytes out.old
         ++ words (reverse (map entry_of before.now)) kind.now) }
 {
+    out.push_str(verb(kind))?;
+    push_steps_said(alloc, out, before, kind)?;
+    push_names(alloc, out, kind)?;
+    push_flags(out, kind)
+}
+
+/// What a command is called.
+fn verb(kind: &Kind) -> &'static str
+    ensures { result.now ≡ verb kind.now }
+{
     match kind {
-        Kind::Request { section } => push_all(out, "request ", section.as_str(), ""),
+        Kind::Request { .. } => "request ",
+        Kind::Order { .. } => "order",
+        Kind::Instruct { .. } => "instruct ",
+        Kind::Repeat { .. } => "repeat ",
+        Kind::Report { .. } => "report ",
+        Kind::Grant { .. } => "grant",
+        Kind::Test { .. } => "test ",
+        Kind::Ground { .. } => "ground ",
+        Kind::Unground { .. } => "unground ",
+        Kind::SignOn { .. } => "sign on ",
+        Kind::SignOff { .. } => "sign off ",
+        Kind::Transfer { emergency, .. } => either(
+            *emergency,
+            "emergency transfer to ",
+            "transfer to ",
+        ),
+        Kind::Release { .. } => "release",
+        Kind::Cancel { .. } => "cancel",
+        Kind::Restore { .. } => "restore",
+        Kind::Amend { .. } => "amend ",
+        Kind::Switch { .. } => "switch",
+        Kind::Show { .. } => "show",
+        Kind::Jumper { .. } => "jumper ",
+    }
+}
+
+/// Writes the steps of an order, or the one that is named.
+fn push_steps_said(
+    alloc: Global,
+    out: &mut String,
+    before: &[Line],
+    kind: &Kind,
+) -> Result<(), AllocError>
+    ensures { OnOk result (string_bytes out.new ≡ string_bytes out.old
+        ++ steps_said (reverse (map entry_of before.now)) kind.now) }
+{
+    match kind {
         Kind::Order { points, steps, .. } => {
-            out.push_str("order")?;
             push_points(out, points)?;
             push_steps(alloc, out, steps)
         }
-        Kind::Instruct { clearance, step } => {
-            out.push_str("instruct ")?;
-            push_known(alloc, out, before, *clearance, *step)
-        }
-        Kind::Repeat {
+        Kind::Restore { steps, .. } | Kind::Switch { steps } => push_steps(alloc, out, steps),
+        Kind::Instruct { clearance, step }
+        | Kind::Repeat {
             clearance,
             step,
-            text,
-        } => {
-            out.push_str("repeat ")?;
-            push_known(alloc, out, before, *clearance, *step)?;
+            ..
+        }
+        | Kind::Report {
+            clearance,
+            step,
+            ..
+        }
+        | Kind::Amend { clearance, step } => push_known(alloc, out, before, *clearance, *step),
+        _ => Ok(()),
+    }
+}
+
+/// Writes names, and the text that was spoken.
+fn push_names(alloc: Global, out: &mut String, kind: &Kind) -> Result<(), AllocError>
+    ensures { OnOk result
+        (string_bytes out.new ≡ string_bytes out.old ++ names_said kind.now) }
+{
+    match kind {
+        Kind::Request { section }
+        | Kind::Test { section, .. }
+        | Kind::Ground { section, .. }
+        | Kind::Unground { section, .. } => out.push_str(section.as_str()),
+        Kind::Repeat { text, .. } => {
             out.push(' ')?;
             push_quoted(alloc, out, text.as_str())
         }
-        Kind::Report {
-            clearance,
-            step,
-            done,
+        Kind::SignOn { crew, .. } | Kind::SignOff { crew, .. } => out.push_str(crew.as_str()),
+        Kind::Transfer { to, .. } => out.push_str(to.as_str()),
+        Kind::Jumper {
+            point,
+            from,
+            to,
+            ..
         } => {
-            out.push_str("report ")?;
-            push_known(alloc, out, before, *clearance, *step)?;
-            out.push_str(either(*done, " done", " not done"))
+            push_all(out, point.as_str(), " from ", from.as_str())?;
+            push_all(out, " to ", to.as_str(), "")
         }
-        Kind::Amend { clearance, step } => {
-            out.push_str("amend ")?;
-            push_known(alloc, out, before, *clearance, *step)
-        }
-        Kind::Restore { steps, .. } => {
-            out.push_str("restore")?;
-            push_steps(alloc, out, steps)
-        }
-        Kind::Switch { steps } => {
-            out.push_str("switch")?;
-            push_steps(alloc, out, steps)
-        }
-        Kind::Grant { .. } => out.push_str("grant"),
-        Kind::Test { section, dead, .. } => {
-            let found = either(*dead, " dead", " not dead");
-            push_all(out, "test ", section.as_str(), found)
-        }
-        Kind::Ground { section, .. } => push_all(out, "ground ", section.as_str(), ""),
-        Kind::Unground { section, .. } => push_all(out, "unground ", section.as_str(), ""),
-        Kind::SignOn { crew, .. } => push_all(out, "sign on ", crew.as_str(), ""),
-        Kind::SignOff { crew, .. } => push_all(out, "sign off ", crew.as_str(), ""),
-        Kind::Transfer { to, emergency, .. } => {
-            let what = either(*emergency, "emergency transfer to ", "transfer to ");
-            push_all(out, what, to.as_str(), "")
-        }
+        _ => Ok(()),
+    }
+}
+
+/// Writes what is, or is not.
+fn push_flags(out: &mut String, kind: &Kind) -> Result<(), AllocError>
+    ensures { OnOk result
+        (string_bytes out.new ≡ string_bytes out.old ++ flags_said kind.now) }
+{
+    match kind {
+        Kind::Report { done, .. } => out.push_str(either(*done, " done", " not done")),
+        Kind::Test { dead, .. } => out.push_str(either(*dead, " dead", " not dead")),
         Kind::Release {
             notified,
             clear,
             ..
         } => {
-            let printed = either(*notified, ", notified", ", not notified");
-            let gone = either(*clear, ", clear", ", not clear");
-            push_all(out, "release", printed, gone)
+            out.push_str(either(*notified, ", notified", ", not notified"))?;
+            out.push_str(either(*clear, ", clear", ", not clear"))
         }
-        Kind::Cancel { .. } => out.push_str("cancel"),
-        Kind::Show { .. } => out.push_str("show"),
         Kind::Jumper {
-            point,
-            from,
-            to,
             lockable,
             remote,
+            ..
         } => {
-            push_all(out, "jumper ", point.as_str(), " from ")?;
-            push_all(out, from.as_str(), " to ", to.as_str())?;
-            push_all(
-                out,
-                either(*lockable, ", lockable", ""),
-                either(*remote, ", remote", ""),
-                "",
-            )
+            out.push_str(either(*lockable, ", lockable", ""))?;
+            out.push_str(either(*remote, ", remote", ""))
         }
+        _ => Ok(()),
     }
 }
 

@@ -1,7 +1,8 @@
 -- A command that can be sent is read from its value, and from its text.
-use Rattle.std.proofs.Common.{◌≡◌, ◌∙◌, ◌≤◌, ◌++◌, ◌==◌, ℕ, true, ◌&&◌, ◌||◌, List, [], ◌∷◌, Result, Ok, Ordering, Less, Equal, Greater, refl, ap, sym, arith, is_lt, nat_cmp, eqb-true, ok_or}
+use Rattle.std.proofs.Common.{rules, ◌≡◌, ◌∙◌, ◌≤◌, ◌++◌, ◌==◌, ℕ, true, ◌&&◌, ◌||◌, List, [], ◌∷◌, Some, Result, Ok, Ordering, Less, Equal, Greater, refl, ap, sym, subst, arith, is_lt, nat_cmp, eqb-true, map, ok_or}
 use Rattle.std.proofs.lemmas.Bool.{and_from, and_parts}
 use Rattle.std.proofs.lemmas.Cmp.{nat_list_cmp_total}
+use Rattle.std.proofs.lemmas.List.Folds.{list_all-append}
 use Rattle.std.proofs.lemmas.Str.{is_utf8-from_IsUtf8}
 use Rattle.std.specs.Cmp.Lexicographic.{slice_cmp}
 use Rattle.std.specs.List.{list_all}
@@ -10,47 +11,57 @@ use Rattle.std.specs.Str.{is_utf8}
 use Rattle.json.proofs.Printed.Utf8.{IsUtf8-are_ascii, are_ascii}
 use Rattle.serde_json.specs.Data.{Data, Members, depth, member, members_depth, no_members, put}
 use Rattle.clr_result.specs.Results.{◌>>=◌}
-use Rattle.clr_rules.specs.Command.{named_clearance}
 use Rattle.clr_rules.specs.declared.command.Command.{Command}
 use Rattle.clr_rules.specs.declared.command.Kind.{Kind}
 use Rattle.clr_rules.specs.declared.command.Kind.TheVariants as kind
 use Rattle.clr_text.proofs.PlainTexts.{plain_values_read_back}
-use Rattle.clr_text.proofs.SaidReads.{clearance_is, moment_is, name_is, names_are, number_is, said_is_flat, said_is_plain, tasks_are}
+use Rattle.clr_text.proofs.SaidReads.{said_is, said_is_flat, said_is_plain}
 use Rattle.clr_text.specs.CommandLaws.{CommandsReadBack, CommandValuesArePlain, CommandValuesReadBack, is_before, is_plain, members_are_plain}
-use Rattle.clr_text.specs.CommandText.{Said, all_said, can_be_sent, clearance_said, command_data, command_text, is_taken, moment_said, name, own_said, said_data, text, with_said, word_of}
-use Rattle.clr_text.specs.Keys.{every_key, key_text}
-use Rattle.clr_text.specs.Kinds.{keys_of, kind_in, states_moment, word_text}
+use Rattle.clr_text.specs.CommandText.{Said, all_said, all_taken, can_be_sent, command_data, command_text, fits_sort, has_its_moment, is_taken, moment_said, own_said, said_at_each, said_data, said_of, with_said}
+use Rattle.clr_text.specs.Keys.{every_key, key_text, sort_of}
+use Rattle.clr_text.specs.Kinds.{Values, keys_of, kind_in, kind_of, own_keys, read_kind, read_then, said_by, states_moment, word_of, word_text}
 use Rattle.clr_text.specs.Reading.{command_in, moment_of, no_others, none_missing, read_command, value_of, values_in, word_in}
-use Rattle.clr_text.specs.Values.{name_at}
+use Rattle.clr_text.specs.Values.{said_at, value_at}
 use Rattle.clr_text.specs.declared.fault.TextFault.{TextFault}
 use Rattle.clr_text.specs.declared.fault.TextFault.TheVariants.{NotJson}
 use Rattle.clr_text.specs.declared.key.Key.{Key}
-use Rattle.clr_text.specs.declared.key.Key.TheVariants.{By, Crew, Do, From, Point, Section, To}
+use Rattle.clr_text.specs.declared.key.Key.TheVariants.{At, By, Do}
+use Rattle.clr_text.specs.declared.kinds.Word.{Word}
+use Rattle.clr_text.specs.declared.kinds.Word.TheVariants as word
 
--- ---- all that is said is what its keys take
-
-abbrev pub AllTaken : List (Key × Said) → Type 0
-AllTaken [] = Unit {0}
-AllTaken (said ∷ rest) = (is_taken said.1 ≡ true) × AllTaken rest
-
-all_taken : (list : List (Key × Said)) → list_all (λ said. is_taken said.1) list ≡ true → AllTaken list
-all_taken [] h = tt
-all_taken (said ∷ rest) h =
-    let parts = and_parts (is_taken said.1) (list_all (λ other. is_taken other.1) rest) h in
-    (parts.0, all_taken rest parts.1)
-
-front_taken : (front rest : List (Key × Said)) → AllTaken (front ++ rest) → AllTaken front
-front_taken [] rest h = tt
-front_taken (said ∷ front) rest h = (h.0, front_taken front rest h.1)
-
-rest_taken : (front rest : List (Key × Said)) → AllTaken (front ++ rest) → AllTaken rest
-rest_taken [] rest h = h
-rest_taken (said ∷ front) rest h = rest_taken front rest h.1
-
--- ---- each kind
+-- ---- what is said at each key is read
 
 then : {A B : Type 0} {x : A} {y : B} (r : Result A TextFault) (f : A → Result B TextFault) → r ≡ Ok x → f x ≡ Ok y → (r >>= f) ≡ Ok y
 then r f is next = ap (λ s. s >>= f) is ∙ next
+
+-- the value has at each of these keys what is said at it
+abbrev AreIn : Data → List Said → Type 0
+AreIn d [] = Unit {0}
+AreIn d (said ∷ rest) = (value_at said.0 d ≡ Some (said_data said)) × AreIn d rest
+
+each_reads : {A : Type 0} (d : Data) (keys : List Key) (values : Values keys) (next : Values keys → Result A TextFault)
+    → AreIn d (said_at_each keys values) → all_taken (said_at_each keys values) ≡ true → read_then keys next d ≡ next values
+each_reads d [] values next there h = refl
+each_reads d (key ∷ keys) values next there h =
+    let parts = and_parts (fits_sort (sort_of key) values.0) (all_taken (said_at_each keys values.1)) h in
+    ap (λ r. r >>= λ x. read_then keys (λ rest. next (x, rest)) d) (said_is d key values.0 there.0 parts.0)
+    ∙ each_reads d keys values.1 (λ rest. next (values.0, rest)) there.1 parts.1
+
+-- ---- each kind
+
+-- a kind is what its word and its values make
+kind_again : (k : Kind) → kind_of (word_of k) (said_by k).1 ≡ k
+kind_again (kind.Request section) = refl
+kind_again _ = refl
+
+own_are : (k : Kind) → own_said k ≡ said_of k
+own_are (kind.Request section) = refl
+own_are _ = refl
+
+pub kind_read : (w : Word) (d : Data) → kind_in w d ≡ read_kind w d
+unfolding kind_in
+kind_read word.Request d = refl
+kind_read _ d = refl
 
 module _ (by : List ℕ) (at : ℕ) where
   abbrev command : Kind → Command
@@ -59,71 +70,26 @@ module _ (by : List ℕ) (at : ℕ) where
   abbrev value : Kind → Data
   value k = command_data (command k)
 
-  abbrev KindTaken : Kind → Type 0
-  KindTaken k = AllTaken (clearance_said (named_clearance k) ++ own_said k)
+  own_are_in : (k : Kind) → AreIn (value k) (own_said k)
+  own_are_in (kind.Request section) = search rules
+  own_are_in _ = search rules
 
-  -- what is said after the moment
-  abbrev behind : Kind → List (Key × Said)
-  behind k = (By, name by) ∷ (Do, text (word_text (word_of k))) ∷ (clearance_said (named_clearance k) ++ own_said k)
+  kind_is : (k : Kind) → all_taken (own_said k) ≡ true → kind_in (word_of k) (value k) ≡ Ok k
+  kind_is k h =
+      kind_read (word_of k) (value k)
+      ∙ each_reads (value k) (own_keys (word_of k)) (said_by k).1 (λ values. Ok (kind_of (word_of k) values))
+      (subst (AreIn (value k)) (own_are k) (own_are_in k)) (subst (λ (list : List Said). all_taken list ≡ true) (own_are k) h)
+      ∙ ap Ok (kind_again k)
 
-  -- flags and the text need no reading: they are in the value as they are
-  kind_is : (k : Kind) → KindTaken k → kind_in (word_of k) (value k) ≡ Ok k
-  unfolding kind_in
-  kind_is (kind.Request section) h = then _ _ (name_is (value (kind.Request section)) Section section refl h.0) refl
-  kind_is (kind.Order c points steps) h =
-      let d = value (kind.Order c points steps) in
-      then _ _ (clearance_is d c refl h.0) (then _ _ (names_are d points refl h.1.0) (then _ _ (tasks_are d steps refl h.1.1.0) refl))
-  kind_is (kind.Instruct c step) h =
-      let d = value (kind.Instruct c step) in
-      then _ _ (clearance_is d c refl h.0) (then _ _ (number_is d step refl h.1.0) refl)
-  kind_is (kind.Repeat c step spoken) h =
-      let d = value (kind.Repeat c step spoken) in
-      then _ _ (clearance_is d c refl h.0) (then _ _ (number_is d step refl h.1.0) refl)
-  kind_is (kind.Report c step done) h =
-      let d = value (kind.Report c step done) in
-      then _ _ (clearance_is d c refl h.0) (then _ _ (number_is d step refl h.1.1.0) refl)
-  kind_is (kind.Grant c) h = then _ _ (clearance_is (value (kind.Grant c)) c refl h.0) refl
-  kind_is (kind.Test c section dead) h =
-      let d = value (kind.Test c section dead) in
-      then _ _ (clearance_is d c refl h.0) (then _ _ (name_is d Section section refl h.1.1.0) refl)
-  kind_is (kind.Ground c section) h =
-      let d = value (kind.Ground c section) in
-      then _ _ (clearance_is d c refl h.0) (then _ _ (name_is d Section section refl h.1.0) refl)
-  kind_is (kind.Unground c section) h =
-      let d = value (kind.Unground c section) in
-      then _ _ (clearance_is d c refl h.0) (then _ _ (name_is d Section section refl h.1.0) refl)
-  kind_is (kind.SignOn c crew) h =
-      let d = value (kind.SignOn c crew) in
-      then _ _ (clearance_is d c refl h.0) (then _ _ (name_is d Crew crew refl h.1.0) refl)
-  kind_is (kind.SignOff c crew) h =
-      let d = value (kind.SignOff c crew) in
-      then _ _ (clearance_is d c refl h.0) (then _ _ (name_is d Crew crew refl h.1.0) refl)
-  kind_is (kind.Transfer c to emergency) h =
-      let d = value (kind.Transfer c to emergency) in
-      then _ _ (clearance_is d c refl h.0) (then _ _ (name_is d To to refl h.1.1.0) refl)
-  kind_is (kind.Release c notified clear) h = then _ _ (clearance_is (value (kind.Release c notified clear)) c refl h.0) refl
-  kind_is (kind.Cancel c) h = then _ _ (clearance_is (value (kind.Cancel c)) c refl h.0) refl
-  kind_is (kind.Restore c steps) h =
-      let d = value (kind.Restore c steps) in
-      then _ _ (clearance_is d c refl h.0) (then _ _ (tasks_are d steps refl h.1.0) refl)
-  kind_is (kind.Amend c step) h =
-      let d = value (kind.Amend c step) in
-      then _ _ (clearance_is d c refl h.0) (then _ _ (number_is d step refl h.1.0) refl)
-  kind_is (kind.Switch steps) h = then _ _ (tasks_are (value (kind.Switch steps)) steps refl h.0) refl
-  kind_is (kind.Show c) h = then _ _ (clearance_is (value (kind.Show c)) c refl h.0) refl
-  kind_is (kind.Jumper point from to lockable remote) h =
-      let d = value (kind.Jumper point from to lockable remote) in
-      then _ _ (name_is d From from refl h.0) (then _ _ (name_is d Point point refl h.1.1.0) (then _ _ (name_is d To to refl h.1.1.1.1.0) refl))
-
-  moment_reads : (k : Kind) → AllTaken (moment_said (word_of k) at) → (states_moment (word_of k) || (at == 0)) ≡ true
+  moment_reads : (k : Kind) → all_taken (moment_said (word_of k) at) ≡ true → (states_moment (word_of k) || (at == 0)) ≡ true
       → moment_of (word_of k) (value k) ≡ Ok at
   moment_reads (kind.Show c) h stated = ap Ok (sym (eqb-true at 0 stated))
   moment_reads (kind.Jumper point from to lockable remote) h stated = ap Ok (sym (eqb-true at 0 stated))
-  moment_reads k h stated = moment_is (value k) at refl h.0
+  moment_reads k h stated = said_is (value k) At at refl (and_parts _ _ h).0
 
-  caller_reads : (k : Kind) → is_taken (name by) ≡ true → name_at By (value k) ≡ Ok by
-  caller_reads (kind.Request section) h = name_is (value (kind.Request section)) By by refl h
-  caller_reads k h = name_is (value k) By by refl h
+  caller_reads : (k : Kind) → is_taken (By, by) ≡ true → said_at By (value k) ≡ Ok by
+  caller_reads (kind.Request section) h = said_is (value (kind.Request section)) By by refl h
+  caller_reads k h = said_is (value k) By by refl h
 
   word_reads : (k : Kind) → word_in (value k) ≡ Ok (word_of k)
   word_reads (kind.Request section) = refl
@@ -142,12 +108,14 @@ module _ (by : List ℕ) (at : ℕ) where
   command_reads : (k : Kind) → can_be_sent (command k) ≡ true → command_in (value k) ≡ Ok (command k)
   unfolding command_in values_in
   command_reads k h =
-      let parts = and_parts (list_all (λ said. is_taken said.1) (all_said (command k))) (states_moment (word_of k) || (at == 0)) h in
-      let said = all_taken (all_said (command k)) parts.0 in
-      let first = front_taken (moment_said (word_of k) at) (behind k) said in
-      let more = rest_taken (moment_said (word_of k) at) (behind k) said in
+      let w = word_of k in
+      let rest : List Said = (By, by) ∷ (Do, word_text w) ∷ own_said k in
+      let parts = and_parts (all_taken (all_said (command k))) (states_moment w || (at == 0)) h in
+      let halves = and_parts (all_taken (moment_said w at)) (all_taken rest) (sym (list_all-append is_taken (moment_said w at) rest) ∙ parts.0) in
+      let caller = and_parts (is_taken (By, by)) (all_taken ((Do, word_text w) ∷ own_said k)) halves.1 in
+      let own = and_parts (is_taken (Do, word_text w)) (all_taken (own_said k)) caller.1 in
       then _ _ (word_reads k) (then _ _ (no_other_reads k) (then _ _ (none_is_missing k)
-      (then _ _ (moment_reads k first parts.1) (then _ _ (caller_reads k more.0) (then _ _ (kind_is k more.1.1) refl)))))
+      (then _ _ (moment_reads k halves.0 parts.1) (then _ _ (caller_reads k caller.0) (then _ _ (kind_is k own.1) refl)))))
 
 pub command_values_read_back : CommandValuesReadBack
 command_values_read_back q h = command_reads q.caller q.moment q.kind h
@@ -215,21 +183,22 @@ key_is_ascii _ = refl
 key_is_utf8 : (key : Key) → is_utf8 (key_text key) ≡ true
 key_is_utf8 key = is_utf8-from_IsUtf8 (key_text key) (IsUtf8-are_ascii (key_text key) (key_is_ascii key))
 
-with_plain : (list : List (Key × Said)) (ms : Members) → AllTaken list → members_are_plain ms ≡ true → members_are_plain (with_said list ms) ≡ true
+with_plain : (list : List Said) (ms : Members) → all_taken list ≡ true → members_are_plain ms ≡ true → members_are_plain (with_said list ms) ≡ true
 with_plain [] ms h all = all
 with_plain (said ∷ rest) ms h all =
-    with_plain rest (put (key_text said.0) (said_data said.1) ms) h.1
-    (put_plain (key_text said.0) (said_data said.1) ms (key_is_utf8 said.0) (said_is_plain said.1 h.0) all)
+    let parts = and_parts (is_taken said) (all_taken rest) h in
+    with_plain rest (put (key_text said.0) (said_data said) ms) parts.1
+    (put_plain (key_text said.0) (said_data said) ms (key_is_utf8 said.0) (said_is_plain (sort_of said.0) said.1 parts.0) all)
 
-with_flat : (list : List (Key × Said)) (ms : Members) → members_depth ms ≤ 1 → members_depth (with_said list ms) ≤ 1
+with_flat : (list : List Said) (ms : Members) → members_depth ms ≤ 1 → members_depth (with_said list ms) ≤ 1
 with_flat [] ms all = all
 with_flat (said ∷ rest) ms all =
-    with_flat rest (put (key_text said.0) (said_data said.1) ms) (put_flat (key_text said.0) (said_data said.1) ms (said_is_flat said.1) all)
+    with_flat rest (put (key_text said.0) (said_data said) ms) (put_flat (key_text said.0) (said_data said) ms (said_is_flat (sort_of said.0) said.1) all)
 
 pub command_values_are_plain : CommandValuesArePlain
 command_values_are_plain q h =
-    let parts = and_parts (list_all (λ said. is_taken said.1) (all_said q)) (states_moment (word_of q.kind) || (q.moment == 0)) h in
-    let plain : is_plain (command_data q) ≡ true = with_plain (all_said q) no_members (all_taken (all_said q) parts.0) refl in
+    let parts = and_parts (all_taken (all_said q)) (has_its_moment q) h in
+    let plain : is_plain (command_data q) ≡ true = with_plain (all_said q) no_members parts.0 refl in
     let flat = with_flat (all_said q) no_members (omega arith) in
     (plain, omega (arith, flat))
 

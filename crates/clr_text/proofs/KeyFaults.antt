@@ -7,14 +7,14 @@ use Rattle.clr_text.specs.KeyLaws.{LeastBadValueIsNamed, LeastMissingIsNamed, fi
 use Rattle.clr_text.specs.Kinds.{has_key, keys_of, kind_in, states_moment, word_named}
 use Rattle.clr_text.specs.Keys.{every_key}
 use Rattle.clr_text.specs.Reading.{all_keys, command_in, is_key_of, none_missing, no_others, read_command, text_at_do, value_of, values_in, word_in}
-use Rattle.clr_text.specs.Values.{moment_at, name_at, value_at}
+use Rattle.clr_text.specs.Values.{said_at, value_at}
 use Rattle.clr_text.specs.declared.fault.TextFault.{TextFault}
 use Rattle.clr_text.specs.declared.fault.TextFault.TheVariants.{BadValue, MissingKey, NotObject, UnknownCommand, UnknownKey}
 use Rattle.clr_text.specs.declared.key.Key.{Key}
 use Rattle.clr_text.specs.declared.key.Key.TheVariants.{At, By, Do, Section}
-use Rattle.clr_text.specs.declared.word.Word.{Word}
+use Rattle.clr_text.specs.declared.kinds.Word.{Word}
 use Rattle.clr_text.proofs.KeysInOrder.{keys_stand_in_order, least_is_first}
-use Rattle.clr_text.specs.declared.word.Word.TheVariants as word
+use Rattle.clr_text.specs.declared.kinds.Word.TheVariants as word
 use Rattle.clr_rules.specs.declared.command.Command.{Command}
 use Rattle.clr_rules.specs.declared.command.Kind.{Kind}
 
@@ -82,12 +82,12 @@ module _ (d : Data) (e : TextFault) (did : fits d Do ≡ true) where
   kind_first word.Request = next_do (next_value Section _ _ refl (λ _. end))
   kind_first _ = search (next_value, next_do, end) depth 20
 
-  by_first : (w : Word) (at : ℕ) → (name_at By d >>= λ by. kind_in w d >>= λ kind. Ok (command by at kind)) ≡ Err e
+  by_first : (w : Word) (at : ℕ) → (said_at By d >>= λ by. kind_in w d >>= λ kind. Ok (command by at kind)) ≡ Err e
       → NamesBad (By ∷ behind_by w)
   by_first w at = next_value By _ _ refl (λ by told. kind_first w (of_kind (kind_in w d) _ e told))
 
   moment_first : (w : Word) (states : Bool)
-      → ((if states then moment_at d else Ok 0) >>= λ at. name_at By d >>= λ by. kind_in w d >>= λ kind. Ok (command by at kind)) ≡ Err e
+      → ((if states then said_at At d else Ok 0) >>= λ at. said_at By d >>= λ by. kind_in w d >>= λ kind. Ok (command by at kind)) ≡ Err e
       → NamesBad (cond states (At ∷ By ∷ behind_by w) (By ∷ behind_by w))
   moment_first w true = next_value At _ _ refl (λ at. by_first w at)
   moment_first w false = by_first w 0

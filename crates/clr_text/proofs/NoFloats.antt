@@ -7,14 +7,13 @@ use Rattle.serde_json.specs.Data.{Data, Members, member, no_members, put}
 use Rattle.serde_json.specs.View.{items_of}
 use Rattle.serde_json.specs.Written.{has_float, items_have_float, members_have_float}
 use Rattle.clr_rules.specs.Prelude.{Step}
-use Rattle.clr_text.specs.CommandText.{Said, all_said, clearance, command_data, flag, moment, name, names, number, said_data, task_data, tasks, text, with_said}
+use Rattle.clr_text.specs.CommandText.{Said, all_said, command_data, said_data, task_data, with_said, written}
 use Rattle.clr_text.specs.FaultText.{fault_data}
-use Rattle.clr_text.specs.Keys.{key_text}
+use Rattle.clr_text.specs.Keys.{Sort, ValueOf, clearance, flag, key_text, moment, name, names, number, sort_of, tasks, text}
 use Rattle.clr_text.specs.Json.{hold_data, id_data, name_data, optional_data, point_data, step_data}
 use Rattle.clr_text.specs.RefusalText.{refusal_data}
 use Rattle.clr_text.specs.Replies.{reply_data}
 use Rattle.clr_text.specs.declared.fault.TextFault.{TextFault}
-use Rattle.clr_text.specs.declared.key.Key.{Key}
 use Rattle.clr_rules.specs.declared.command.Command.{Command}
 use Rattle.clr_rules.specs.declared.refusal.Refusal.TheVariants as refusals
 use Rattle.clr_text.specs.declared.fault.TextFault.TheVariants as faults
@@ -63,15 +62,15 @@ in_fault _ = refl
 
 -- ---- commands
 
-in_said : (said : Said) → has_float (said_data said) ≡ false
-in_said (moment seconds) = refl
-in_said (name s) = refl
-in_said (clearance id) = refl
-in_said (number n) = refl
-in_said (flag b) = refl
-in_said (text s) = refl
-in_said (names list) = in_list name_data (λ s. refl) list
-in_said (tasks list) = in_list task_data (λ t. refl) list
+in_said : (sort : Sort) (x : ValueOf sort) → has_float (written sort x) ≡ false
+in_said moment seconds = refl
+in_said name s = refl
+in_said clearance id = refl
+in_said number n = refl
+in_said flag b = refl
+in_said text s = refl
+in_said names list = in_list name_data (λ s. refl) list
+in_said tasks list = in_list task_data (λ t. refl) list
 
 in_put_at : (o : Ordering) (k l : List ℕ) (d e : Data) (ms : Members) → has_float d ≡ false → members_have_float (member l e ms) ≡ false
     → members_have_float (put k d ms) ≡ false
@@ -86,10 +85,10 @@ in_put k d (member l e ms) value others =
     let parts = or_parts (has_float e) (members_have_float ms) others in
     in_put_at (slice_cmp nat_cmp k l) k l d e ms value others (in_put k d ms value parts.1)
 
-in_members : (list : List (Key × Said)) (ms : Members) → members_have_float ms ≡ false → members_have_float (with_said list ms) ≡ false
+in_members : (list : List Said) (ms : Members) → members_have_float ms ≡ false → members_have_float (with_said list ms) ≡ false
 in_members [] ms others = others
 in_members (said ∷ rest) ms others =
-    in_members rest (put (key_text said.0) (said_data said.1) ms) (in_put (key_text said.0) (said_data said.1) ms (in_said said.1) others)
+    in_members rest (put (key_text said.0) (said_data said) ms) (in_put (key_text said.0) (said_data said) ms (in_said (sort_of said.0) said.1) others)
 
 pub in_command : (q : Command) → has_float (command_data q) ≡ false
 in_command q = in_members (all_said q) no_members refl

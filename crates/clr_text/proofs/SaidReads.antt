@@ -21,12 +21,12 @@ use Rattle.clr_rules.specs.Moment.{is_moment}
 use Rattle.clr_rules.specs.Prelude.{Id, Task, task}
 use Rattle.clr_text.proofs.PlainTexts.{decimal_is_text}
 use Rattle.clr_text.specs.CommandLaws.{is_plain, items_are_plain}
-use Rattle.clr_text.specs.CommandText.{Said, clearance, flag, is_taken, moment, name, names, number, said_data, task_data, tasks, text}
-use Rattle.clr_text.specs.Json.{id_data, list_data, name_data, whole_data}
-use Rattle.clr_text.specs.Values.{all_read, at_key, clearance_at, flag_at, moment_at, name_at, point_in, points_at, step_at, step_in, steps_at, text_at, value_at}
+use Rattle.clr_text.specs.CommandText.{fits_sort, task_data, written}
+use Rattle.clr_text.specs.Json.{name_data}
+use Rattle.clr_text.specs.Keys.{Sort, ValueAt, ValueOf, clearance, flag, moment, name, names, number, sort_of, tasks, text}
+use Rattle.clr_text.specs.Values.{all_read, at_key, name_in, read_as, said_at, step_in, value_at}
 use Rattle.clr_text.specs.declared.fault.TextFault.TheVariants.{BadValue}
 use Rattle.clr_text.specs.declared.key.Key.{Key}
-use Rattle.clr_text.specs.declared.key.Key.TheVariants.{At, Clearance, Points, Step, Steps, Text}
 
 reads : {A : Type 0} (reading : Data → Option A) (key : Key) (d v : Data) (x : A) → value_at key d ≡ Some v → reading v ≡ Some x
     → at_key reading key d ≡ Ok x
@@ -40,54 +40,44 @@ name_reads s h =
     let few = le-ltb 24 (length s) parts.1 in
     rw (some, few, name_has_none s h) refl
 
-name_in : (s : List ℕ) → is_name s ≡ true → point_in (name_data s) ≡ Some s
-name_in s h = rw (name_reads s h) refl
+name_reads_back : (s : List ℕ) → is_name s ≡ true → name_in (name_data s) ≡ Some s
+name_reads_back s h = rw (name_reads s h) refl
 
-names_in : (list : List (List ℕ)) → list_all is_name list ≡ true → all_read point_in (items_of (map name_data list)) ≡ Some list
-names_in [] h = refl
-names_in (s ∷ list) h =
+names_read_back : (list : List (List ℕ)) → list_all is_name list ≡ true → all_read name_in (items_of (map name_data list)) ≡ Some list
+names_read_back [] h = refl
+names_read_back (s ∷ list) h =
     let parts = and_parts (is_name s) (list_all is_name list) h in
-    rw (name_in s parts.0, names_in list parts.1) refl
+    rw (name_reads_back s parts.0, names_read_back list parts.1) refl
 
-task_in : (t : Task) → is_name t.point ≡ true → step_in (task_data t) ≡ Some (waiting_step t)
-task_in t h = rw (step_texts_are_read t h) refl
+task_reads_back : (t : Task) → is_name t.point ≡ true → step_in (task_data t) ≡ Some (waiting_step t)
+task_reads_back t h = rw (step_texts_are_read t h) refl
 
-tasks_in : (list : List Task) → list_all (λ t. is_name t.point) list ≡ true
+tasks_read_back : (list : List Task) → list_all (λ t. is_name t.point) list ≡ true
     → all_read step_in (items_of (map task_data list)) ≡ Some (map waiting_step list)
-tasks_in [] h = refl
-tasks_in (t ∷ list) h =
+tasks_read_back [] h = refl
+tasks_read_back (t ∷ list) h =
     let parts = and_parts (is_name t.point) (list_all (λ u. is_name u.point) list) h in
-    rw (task_in t parts.0, tasks_in list parts.1) refl
+    rw (task_reads_back t parts.0, tasks_read_back list parts.1) refl
 
 tasks_again : (list : List Task) → map task (map waiting_step list) ≡ list
 tasks_again [] = refl
 tasks_again (t ∷ list) = ap (λ rest. t ∷ rest) (tasks_again list)
 
-module _ (d : Data) where
-  pub moment_is : (seconds : ℕ) → value_at At d ≡ Some (whole_data seconds) → is_moment seconds ≡ true → moment_at d ≡ Ok seconds
-  moment_is seconds there h = reads _ At d (whole_data seconds) seconds there (rw h refl)
+-- of each sort, what is written reads as what it was
+said_reads : (sort : Sort) (x : ValueOf sort) → fits_sort sort x ≡ true → read_as sort (written sort x) ≡ Some x
+said_reads moment seconds h = rw h refl
+said_reads name s h = name_reads_back s h
+said_reads clearance id h = written_reads id h
+said_reads number n h = rw h refl
+said_reads flag b h = refl
+said_reads text s h = refl
+said_reads names list h = names_read_back list h
+said_reads tasks list h = ap (option_map (map task)) (tasks_read_back list h) ∙ ap Some (tasks_again list)
 
-  pub name_is : (key : Key) (s : List ℕ) → value_at key d ≡ Some (name_data s) → is_name s ≡ true → name_at key d ≡ Ok s
-  name_is key s there h = reads _ key d (name_data s) s there (name_in s h)
-
-  pub clearance_is : (id : Id) → value_at Clearance d ≡ Some (id_data id) → is_id id ≡ true → clearance_at d ≡ Ok id
-  clearance_is id there h = reads _ Clearance d (id_data id) id there (written_reads id h)
-
-  pub number_is : (n : ℕ) → value_at Step d ≡ Some (whole_data n) → nat_le n 65535 ≡ true → step_at d ≡ Ok n
-  number_is n there h = reads _ Step d (whole_data n) n there (rw h refl)
-
-  pub flag_is : (key : Key) (b : Bool) → value_at key d ≡ Some (boolean b) → flag_at key d ≡ Ok b
-  flag_is key b there = reads _ key d (boolean b) b there refl
-
-  pub text_is : (s : List ℕ) → value_at Text d ≡ Some (string s) → text_at d ≡ Ok s
-  text_is s there = reads _ Text d (string s) s there refl
-
-  pub names_are : (list : List (List ℕ)) → value_at Points d ≡ Some (list_data name_data list) → list_all is_name list ≡ true → points_at d ≡ Ok list
-  names_are list there h = reads _ Points d (list_data name_data list) list there (names_in list h)
-
-  pub tasks_are : (list : List Task) → value_at Steps d ≡ Some (list_data task_data list) → list_all (λ t. is_name t.point) list ≡ true → steps_at d ≡ Ok list
-  tasks_are list there h =
-      reads _ Steps d (list_data task_data list) list there (ap (option_map (map task)) (tasks_in list h) ∙ ap Some (tasks_again list))
+-- and so does a key at which it is
+pub said_is : (d : Data) (key : Key) (x : ValueAt key) → value_at key d ≡ Some (written (sort_of key) x) → fits_sort (sort_of key) x ≡ true
+    → said_at key d ≡ Ok x
+said_is d key x there h = reads (read_as (sort_of key)) key d (written (sort_of key) x) x there (said_reads (sort_of key) x h)
 
 -- ---- the value of what is said is plain
 
@@ -116,15 +106,15 @@ all_plain seen test each (x ∷ list) h =
     let parts = and_parts (test x) (list_all test list) h in
     and_from _ _ (each x parts.0) (all_plain seen test each list parts.1)
 
-pub said_is_plain : (said : Said) → is_taken said ≡ true → is_plain (said_data said) ≡ true
-said_is_plain (moment seconds) h = let small = leb-true seconds 4102444799 h in lt-ltb seconds (2 ^ 64) (omega arith)
-said_is_plain (name s) h = name_is_utf8 s h
-said_is_plain (clearance id) h = id_is_utf8 id h
-said_is_plain (number n) h = let small = leb-true n 65535 h in lt-ltb n (2 ^ 64) (omega arith)
-said_is_plain (flag b) h = refl
-said_is_plain (text s) h = h
-said_is_plain (names list) h = all_plain name_data is_name name_is_utf8 list h
-said_is_plain (tasks list) h = all_plain task_data (λ t. is_name t.point) task_is_utf8 list h
+pub said_is_plain : (sort : Sort) (x : ValueOf sort) → fits_sort sort x ≡ true → is_plain (written sort x) ≡ true
+said_is_plain moment seconds h = let small = leb-true seconds 4102444799 h in lt-ltb seconds (2 ^ 64) (omega arith)
+said_is_plain name s h = name_is_utf8 s h
+said_is_plain clearance id h = id_is_utf8 id h
+said_is_plain number n h = let small = leb-true n 65535 h in lt-ltb n (2 ^ 64) (omega arith)
+said_is_plain flag b h = refl
+said_is_plain text s h = h
+said_is_plain names list h = all_plain name_data is_name name_is_utf8 list h
+said_is_plain tasks list h = all_plain task_data (λ t. is_name t.point) task_is_utf8 list h
 
 names_are_flat : (list : List (List ℕ)) → items_depth (items_of (map name_data list)) ≤ 0
 names_are_flat [] = omega arith
@@ -134,12 +124,12 @@ tasks_are_flat : (list : List Task) → items_depth (items_of (map task_data lis
 tasks_are_flat [] = omega arith
 tasks_are_flat (t ∷ list) = omega (arith, tasks_are_flat list)
 
-pub said_is_flat : (said : Said) → depth (said_data said) ≤ 1
-said_is_flat (moment seconds) = omega arith
-said_is_flat (name s) = omega arith
-said_is_flat (clearance id) = omega arith
-said_is_flat (number n) = omega arith
-said_is_flat (flag b) = omega arith
-said_is_flat (text s) = omega arith
-said_is_flat (names list) = omega (arith, names_are_flat list)
-said_is_flat (tasks list) = omega (arith, tasks_are_flat list)
+pub said_is_flat : (sort : Sort) (x : ValueOf sort) → depth (written sort x) ≤ 1
+said_is_flat moment seconds = omega arith
+said_is_flat name s = omega arith
+said_is_flat clearance id = omega arith
+said_is_flat number n = omega arith
+said_is_flat flag b = omega arith
+said_is_flat text s = omega arith
+said_is_flat names list = omega (arith, names_are_flat list)
+said_is_flat tasks list = omega (arith, tasks_are_flat list)

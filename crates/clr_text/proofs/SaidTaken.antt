@@ -17,13 +17,13 @@ use Rattle.clr_rules.specs.Id.{is_id}
 use Rattle.clr_rules.specs.IdText.{read_id}
 use Rattle.clr_rules.specs.Moment.{is_moment, new_moment}
 use Rattle.clr_rules.specs.Prelude.{Id, Step, Task, task}
-use Rattle.clr_text.proofs.TextsRead.{DataIsText, text_at_key}
-use Rattle.clr_text.specs.Keys.{key_text}
-use Rattle.clr_text.specs.Values.{all_read, at_key, clearance_at, if_step_number, moment_at, name_at, point_in, points_at, step_at, step_in, steps_at, text_at, value_at, whole}
+use Rattle.clr_text.proofs.TextsRead.{DataIsText, text_is_text, value_at_key}
+use Rattle.clr_text.specs.CommandText.{fits_sort}
+use Rattle.clr_text.specs.Keys.{Sort, ValueAt, ValueOf, clearance, flag, key_text, moment, name, names, number, sort_of, tasks, text}
+use Rattle.clr_text.specs.Values.{all_read, at_key, if_step_number, name_in, read_as, said_at, step_in, value_at, whole}
 use Rattle.clr_text.specs.declared.fault.TextFault.{TextFault}
 use Rattle.clr_text.specs.declared.fault.TextFault.TheVariants.{BadValue}
 use Rattle.clr_text.specs.declared.key.Key.{Key}
-use Rattle.clr_text.specs.declared.key.Key.TheVariants.{At, Clearance, Points, Step as StepKey, Steps, Text}
 
 -- ---- what is read is read from a value
 
@@ -51,33 +51,33 @@ tested true x y h = (refl, cc)
 tested false x y h = cc
 
 -- what reads as a name is one
-named : (text s : List ℕ) → read_name text ≡ Ok s → is_name s ≡ true
-named text s h = at (length text == 0) refl (nat_lt 24 (length text)) refl (bad_byte text) refl
+named : (bytes s : List ℕ) → read_name bytes ≡ Ok s → is_name s ≡ true
+named bytes s h = at (length bytes == 0) refl (nat_lt 24 (length bytes)) refl (bad_byte bytes) refl
   where
-    at : (b : Bool) → (length text == 0) ≡ b → (c : Bool) → nat_lt 24 (length text) ≡ c → (o : Option ℕ) → bad_byte text ≡ o → is_name s ≡ true
+    at : (b : Bool) → (length bytes == 0) ≡ b → (c : Bool) → nat_lt 24 (length bytes) ≡ c → (o : Option ℕ) → bad_byte bytes ≡ o → is_name s ≡ true
     at true e c f o g = let k = rw e at h in cc
     at false e true f o g = let k = rw (e, f) at h in cc
     at false e false f (Some place) g = let k = rw (e, f, g) at h in cc
     at false e false f None g =
         let k = rw (e, f, g) at h in
-        let same : text ≡ s = cc in
-        let one = eqb-false (length text) 0 e in
-        let few = ltb-false 24 (length text) f in
-        subst (λ (t : List ℕ). is_name t ≡ true) same (is_name_from text (omega (arith, one)) (omega arith) g)
+        let same : bytes ≡ s = cc in
+        let one = eqb-false (length bytes) 0 e in
+        let few = ltb-false 24 (length bytes) f in
+        subst (λ (t : List ℕ). is_name t ≡ true) same (is_name_from bytes (omega (arith, one)) (omega arith) g)
 
-name_of : (v : Data) (s : List ℕ) → point_in v ≡ Some s → is_name s ≡ true
-name_of v s h = let found = some (λ text. result_ok (read_name text)) (as_str v) s h in named found.0 s (fine (read_name found.0) s found.2)
+name_of : (v : Data) (s : List ℕ) → name_in v ≡ Some s → is_name s ≡ true
+name_of v s h = let found = some (λ t. result_ok (read_name t)) (as_str v) s h in named found.0 s (fine (read_name found.0) s found.2)
 
-all_names : (ds : Items) (list : List (List ℕ)) → all_read point_in ds ≡ Some list → list_all is_name list ≡ true
+all_names : (ds : Items) (list : List (List ℕ)) → all_read name_in ds ≡ Some list → list_all is_name list ≡ true
 all_names no_items list h = subst (λ (l : List (List ℕ)). list_all is_name l ≡ true) (let same : [] ≡ list = cc in same) refl
 all_names (item d ds) list h =
-    let first = some (λ s. option_map (λ l. s ∷ l) (all_read point_in ds)) (point_in d) list h in
-    let rest = some_of (λ l. first.0 ∷ l) (all_read point_in ds) list first.2 in
+    let first = some (λ s. option_map (λ l. s ∷ l) (all_read name_in ds)) (name_in d) list h in
+    let rest = some_of (λ l. first.0 ∷ l) (all_read name_in ds) list first.2 in
     subst (λ (l : List (List ℕ)). list_all is_name l ≡ true) rest.2 (and_from _ _ (name_of d first.0 first.1) (all_names ds rest.0 rest.1))
 
 step_of : (v : Data) (s : Step) → step_in v ≡ Some s → is_name (task s).point ≡ true
 step_of v s h =
-    let found = some (λ text. result_ok (read_step_text text)) (as_str v) s h in
+    let found = some (λ t. result_ok (read_step_text t)) (as_str v) s h in
     (only_step_texts_are_read found.0 s (fine (read_step_text found.0) s found.2)).2
 
 all_tasks : (ds : Items) (list : List Step) → all_read step_in ds ≡ Some list → list_all (λ t. is_name t.point) (map task list) ≡ true
@@ -87,44 +87,27 @@ all_tasks (item d ds) list h =
     let rest = some_of (λ l. first.0 ∷ l) (all_read step_in ds) list first.2 in
     subst (λ (l : List Step). list_all (λ t. is_name t.point) (map task l) ≡ true) rest.2 (and_from _ _ (step_of d first.0 first.1) (all_tasks ds rest.0 rest.1))
 
-module _ (d : Data) where
-  pub moment_taken : (seconds : ℕ) → moment_at d ≡ Ok seconds → is_moment seconds ≡ true
-  moment_taken seconds h =
-      let found = from_value (λ v. option_and_then new_moment (whole v)) At d seconds h in
-      let number = some new_moment (whole found.0) seconds found.2 in
-      let both = tested (is_moment number.0) number.0 seconds number.2 in
-      subst (λ (n : ℕ). is_moment n ≡ true) both.1 both.0
+-- of each sort, what a value is read as is one that a key takes
+taken : (sort : Sort) (d : Data) (x : ValueOf sort) → DataIsText d → read_as sort d ≡ Some x → fits_sort sort x ≡ true
+taken moment d seconds whole_text h =
+    let number = some new_moment (whole d) seconds h in
+    let both = tested (is_moment number.0) number.0 seconds number.2 in
+    subst (λ (n : ℕ). is_moment n ≡ true) both.1 both.0
+taken name d s whole_text h = name_of d s h
+taken clearance d id whole_text h = let found = some read_id (as_str d) id h in (reads_written found.0 id found.2).0
+taken number d n whole_text h =
+    let number = some if_step_number (whole d) n h in
+    let both = tested (nat_le number.0 65535) number.0 n number.2 in
+    subst (λ (m : ℕ). nat_le m 65535 ≡ true) both.1 both.0
+taken flag d b whole_text h = refl
+taken text d s whole_text h = is_utf8-from_IsUtf8 s (text_is_text d s whole_text h)
+taken names d list whole_text h = let items = some (all_read name_in) (as_array d) list h in all_names items.0 list items.2
+taken tasks d list whole_text h =
+    let steps = some_of (map task) (option_and_then (all_read step_in) (as_array d)) list h in
+    let items = some (all_read step_in) (as_array d) steps.0 steps.1 in
+    subst (λ (l : List Task). list_all (λ t. is_name t.point) l ≡ true) steps.2 (all_tasks items.0 steps.0 items.2)
 
-  pub name_taken : (key : Key) (s : List ℕ) → name_at key d ≡ Ok s → is_name s ≡ true
-  name_taken key s h = let found = from_value point_in key d s h in name_of found.0 s found.2
-
-  pub id_taken : (id : Id) → clearance_at d ≡ Ok id → is_id id ≡ true
-  id_taken id h =
-      let found = from_value (λ v. option_and_then read_id (as_str v)) Clearance d id h in
-      let text = some read_id (as_str found.0) id found.2 in
-      (reads_written text.0 id text.2).0
-
-  pub number_taken : (n : ℕ) → step_at d ≡ Ok n → nat_le n 65535 ≡ true
-  number_taken n h =
-      let found = from_value (λ v. option_and_then if_step_number (whole v)) StepKey d n h in
-      let number = some if_step_number (whole found.0) n found.2 in
-      let both = tested (nat_le number.0 65535) number.0 n number.2 in
-      subst (λ (m : ℕ). nat_le m 65535 ≡ true) both.1 both.0
-
-  pub names_taken : (list : List (List ℕ)) → points_at d ≡ Ok list → list_all is_name list ≡ true
-  names_taken list h =
-      let found = from_value (λ v. option_and_then (all_read point_in) (as_array v)) Points d list h in
-      let items = some (all_read point_in) (as_array found.0) list found.2 in
-      all_names items.0 list items.2
-
-  pub tasks_taken : (list : List Task) → steps_at d ≡ Ok list → list_all (λ t. is_name t.point) list ≡ true
-  tasks_taken list h =
-      let found = from_value (λ v. option_map (map task) (option_and_then (all_read step_in) (as_array v))) Steps d list h in
-      let steps = some_of (map task) (option_and_then (all_read step_in) (as_array found.0)) list found.2 in
-      let items = some (all_read step_in) (as_array found.0) steps.0 steps.1 in
-      subst (λ (l : List Task). list_all (λ t. is_name t.point) l ≡ true) steps.2 (all_tasks items.0 steps.0 items.2)
-
-  pub text_taken : DataIsText d → (s : List ℕ) → text_at d ≡ Ok s → is_utf8 s ≡ true
-  text_taken whole s h =
-      let found = sure (option_and_then as_str (value_at Text d)) (BadValue Text) s h in
-      is_utf8-from_IsUtf8 s (text_at_key d (key_text Text) s whole found)
+pub said_taken : (d : Data) (key : Key) (x : ValueAt key) → DataIsText d → said_at key d ≡ Ok x → fits_sort (sort_of key) x ≡ true
+said_taken d key x whole_text h =
+    let found = from_value (read_as (sort_of key)) key d x h in
+    taken (sort_of key) found.0 x (value_at_key d (key_text key) found.0 whole_text found.1) found.2

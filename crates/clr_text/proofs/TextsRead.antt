@@ -377,10 +377,10 @@ as_text (string s) h = h
 as_text (array ds) h = tt
 as_text (object ms) h = tt
 
--- the values of a value of texts are values of texts
-pub text_at_key : (d : Data) (k s : List ℕ) → DataIsText d → option_and_then as_str (get k d) ≡ Some s → IsUtf8 s
-text_at_key d k s whole there = subst (If IsUtf8) there (if_then DataIsText IsUtf8 as_str as_text (get k d) (got_is_text k d whole))
+pub text_is_text : (d : Data) (s : List ℕ) → DataIsText d → as_str d ≡ Some s → IsUtf8 s
+text_is_text d s whole is = subst (If IsUtf8) is (as_text d whole)
 
+-- the values of a value of texts are values of texts
 pub value_at_key : (d : Data) (k : List ℕ) (v : Data) → DataIsText d → get k d ≡ Some v → DataIsText v
 value_at_key d k v whole there = subst (If DataIsText) there (got_is_text k d whole)
 

@@ -9,15 +9,11 @@ use Rattle.clr_shelf.specs.Rows.{in_key_order}
 use Rattle.clr_text.specs.Kinds.{keys_of}
 use Rattle.clr_text.specs.Keys.{key_text}
 use Rattle.clr_text.specs.Reading.{read_command, text_at_do, value_of, word_in}
-use Rattle.clr_text.specs.Values.{clearance_at, flag_at, moment_at, name_at, points_at, step_at}
-use Rattle.clr_text.specs.Values.{steps_at, text_at, value_at}
+use Rattle.clr_text.specs.Values.{said_at, value_at}
 use Rattle.clr_text.specs.declared.fault.TextFault.TheVariants.{BadValue, MissingKey}
 use Rattle.clr_text.specs.declared.key.Key.{Key}
-use Rattle.clr_text.specs.declared.key.Key.TheVariants.{At, By, Clear, Clearance, Crew, Dead, Do}
-use Rattle.clr_text.specs.declared.key.Key.TheVariants.{Done, Emergency, From, Lockable, Notified}
-use Rattle.clr_text.specs.declared.key.Key.TheVariants.{Point, Points, Remote, Section, Step, Steps}
-use Rattle.clr_text.specs.declared.key.Key.TheVariants.{Text, To}
-use Rattle.clr_text.specs.declared.word.Word.{Word}
+use Rattle.clr_text.specs.declared.key.Key.TheVariants.{Do}
+use Rattle.clr_text.specs.declared.kinds.Word.{Word}
 
 -- THE KEYS OF EACH COMMAND are in the order of their bytes, and none comes twice
 abbrev pub KeysStandInOrder : Type 0
@@ -29,26 +25,8 @@ lacks d key = is_none (value_at key d)
 
 -- the value at a key is what the key asks for, whichever command it is
 abbrev pub fits : Data → Key → Bool
-fits d At = is_ok (moment_at d)
-fits d By = is_ok (name_at By d)
-fits d Clear = is_ok (flag_at Clear d)
-fits d Clearance = is_ok (clearance_at d)
-fits d Crew = is_ok (name_at Crew d)
-fits d Dead = is_ok (flag_at Dead d)
 fits d Do = is_ok (text_at_do d)
-fits d Done = is_ok (flag_at Done d)
-fits d Emergency = is_ok (flag_at Emergency d)
-fits d From = is_ok (name_at From d)
-fits d Lockable = is_ok (flag_at Lockable d)
-fits d Notified = is_ok (flag_at Notified d)
-fits d Point = is_ok (name_at Point d)
-fits d Points = is_ok (points_at d)
-fits d Remote = is_ok (flag_at Remote d)
-fits d Section = is_ok (name_at Section d)
-fits d Step = is_ok (step_at d)
-fits d Steps = is_ok (steps_at d)
-fits d Text = is_ok (text_at d)
-fits d To = is_ok (name_at To d)
+fits d key = is_ok (said_at key d)
 
 -- of these keys it is the least in byte order that passes a test
 pub record IsLeast (test : Key → Bool) (keys : List Key) (key : Key) : Type 0 where

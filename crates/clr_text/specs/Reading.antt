@@ -9,14 +9,14 @@ use Rattle.serde_json.specs.Read.{read}
 use Rattle.clr_result.specs.Results.{◌>>=◌}
 use Rattle.clr_text.specs.Keys.{every_key, key_text}
 use Rattle.clr_text.specs.Kinds.{has_key, keys_of, kind_in, states_moment, word_named}
-use Rattle.clr_text.specs.Values.{moment_at, name_at, value_at}
+use Rattle.clr_text.specs.Values.{said_at, value_at}
 use Rattle.clr_text.specs.declared.fault.TextFault.{TextFault}
 use Rattle.clr_text.specs.declared.fault.TextFault.TheVariants.{BadValue, MissingKey, NotJson}
 use Rattle.clr_text.specs.declared.fault.TextFault.TheVariants.{NotObject, UnknownCommand}
 use Rattle.clr_text.specs.declared.fault.TextFault.TheVariants.{UnknownKey}
 use Rattle.clr_text.specs.declared.key.Key.{Key}
-use Rattle.clr_text.specs.declared.key.Key.TheVariants.{By, Do}
-use Rattle.clr_text.specs.declared.word.Word.{Word}
+use Rattle.clr_text.specs.declared.key.Key.TheVariants.{At, By, Do}
+use Rattle.clr_text.specs.declared.kinds.Word.{Word}
 use Rattle.clr_rules.specs.declared.command.Command.{Command}
 
 -- the value of a text: UTF-8, and one JSON value with blanks round it. Of a key that comes twice
@@ -53,13 +53,13 @@ none_missing (key ∷ keys) d = if is_some (value_at key d) then none_missing ke
 
 -- the moment of a command: one that states none is at 0
 abbrev pub moment_of : Word → Data → Result ℕ TextFault
-moment_of w d = if states_moment w then moment_at d else Ok 0
+moment_of w d = if states_moment w then said_at At d else Ok 0
 
 -- the command of the values, or the first key whose value does not fit
 unfoldable pub values_in : Word → Data → Result Command TextFault
 values_in w d = do
   at ← moment_of w d
-  by ← name_at By d
+  by ← said_at By d
   kind ← kind_in w d
   Ok (record { caller = by; moment = at; kind = kind })
 

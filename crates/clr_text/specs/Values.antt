@@ -1,20 +1,19 @@
 -- What the values of a command's keys have to be, and what they are read as.
-use Rattle.std.specs.Prelude.{ℕ, nat_le, Bool, List, [], ◌∷◌, map, Result, Option, Some, None}
+use Rattle.std.specs.Prelude.{ℕ, nat_le, List, [], ◌∷◌, map, Result, Option, Some, None}
 use Rattle.std.specs.Prelude.{option_map, option_and_then, if◌then◌else◌, ok_or}
 use Rattle.std.specs.Result.{result_ok}
 use Rattle.serde_json.specs.Data.{Data, Items, no_items, item}
 use Rattle.serde_json.specs.Find.{get, as_array, as_bool, as_number, as_str, as_u64}
 use Rattle.clr_net.specs.NameText.{read_name}
-use Rattle.clr_rules.specs.Prelude.{Task, task, Step, Id}
+use Rattle.clr_rules.specs.Prelude.{Id, Step, Task, task}
 use Rattle.clr_order.specs.Texts.{read_step_text}
 use Rattle.clr_rules.specs.IdText.{read_id}
 use Rattle.clr_rules.specs.Moment.{new_moment}
-use Rattle.clr_text.specs.Keys.{key_text}
+use Rattle.clr_text.specs.Keys.{Sort, ValueAt, ValueOf, clearance, flag, key_text, moment, name}
+use Rattle.clr_text.specs.Keys.{names, number, sort_of, tasks, text}
 use Rattle.clr_text.specs.declared.fault.TextFault.{TextFault}
 use Rattle.clr_text.specs.declared.fault.TextFault.TheVariants.{BadValue}
 use Rattle.clr_text.specs.declared.key.Key.{Key}
-use Rattle.clr_text.specs.declared.key.Key.TheVariants.{At, Clearance, Points, Step as StepKey}
-use Rattle.clr_text.specs.declared.key.Key.TheVariants.{Steps, Text}
 
 -- the value at a key of an object
 abbrev pub value_at : Key → Data → Option Data
@@ -28,32 +27,24 @@ at_key reading key d = ok_or (option_and_then reading (value_at key d)) (BadValu
 abbrev pub whole : Data → Option ℕ
 whole d = option_and_then as_u64 (as_number d)
 
--- `at`: a whole number of seconds, up to the end of 2099
-abbrev pub moment_at : Data → Result ℕ TextFault
-moment_at = at_key (λ d. option_and_then new_moment (whole d)) At
+-- a whole number of seconds, up to the end of 2099
+abbrev pub moment_in : Data → Option ℕ
+moment_in d = option_and_then new_moment (whole d)
 
--- `by`, `section`, `crew`, `to`, `from`, `point`: the text of a name
-abbrev pub name_at : Key → Data → Result (List ℕ) TextFault
-name_at = at_key (λ d. option_and_then (λ text. result_ok (read_name text)) (as_str d))
+-- the text of a name
+abbrev pub name_in : Data → Option (List ℕ)
+name_in d = option_and_then (λ s. result_ok (read_name s)) (as_str d)
 
--- `clearance`: the text of a clearance, as `JONES/1`
-abbrev pub clearance_at : Data → Result Id TextFault
-clearance_at = at_key (λ d. option_and_then read_id (as_str d)) Clearance
+-- the text of a clearance, as `JONES/1`
+abbrev pub clearance_in : Data → Option Id
+clearance_in d = option_and_then read_id (as_str d)
 
 abbrev pub if_step_number : ℕ → Option ℕ
 if_step_number n = if nat_le n 65535 then Some n else None
 
--- `step`: a whole number up to 65535
-abbrev pub step_at : Data → Result ℕ TextFault
-step_at = at_key (λ d. option_and_then if_step_number (whole d)) StepKey
-
--- `done`, `dead`, `emergency`, `notified`, `clear`, `lockable`, `remote`: true or false
-abbrev pub flag_at : Key → Data → Result Bool TextFault
-flag_at = at_key as_bool
-
--- `text`: any text
-abbrev pub text_at : Data → Result (List ℕ) TextFault
-text_at = at_key as_str Text
+-- a whole number up to 65535
+abbrev pub number_in : Data → Option ℕ
+number_in d = option_and_then if_step_number (whole d)
 
 -- what each item of a list is read as, where all of them fit
 abbrev pub all_read : {A : Type 0} → (Data → Option A) → Items → Option (List A)
@@ -61,17 +52,29 @@ all_read reading no_items = Some []
 all_read reading (item d ds) =
     option_and_then (λ x. option_map (λ xs. x ∷ xs) (all_read reading ds)) (reading d)
 
-abbrev pub point_in : Data → Option (List ℕ)
-point_in d = option_and_then (λ text. result_ok (read_name text)) (as_str d)
+-- a list of the texts of names
+abbrev pub names_in : Data → Option (List (List ℕ))
+names_in d = option_and_then (all_read name_in) (as_array d)
 
--- `points`: a list of the texts of names
-abbrev pub points_at : Data → Result (List (List ℕ)) TextFault
-points_at = at_key (λ d. option_and_then (all_read point_in) (as_array d)) Points
-
+-- the text of a step, as `OPEN S2`
 abbrev pub step_in : Data → Option Step
-step_in d = option_and_then (λ text. result_ok (read_step_text text)) (as_str d)
+step_in d = option_and_then (λ s. result_ok (read_step_text s)) (as_str d)
 
--- `steps`: a list of the texts of steps, as `OPEN S2`
-abbrev pub steps_at : Data → Result (List Task) TextFault
-steps_at = at_key (λ d. option_map (map task) (option_and_then (all_read step_in) (as_array d)))
-    Steps
+-- a list of the texts of steps
+abbrev pub tasks_in : Data → Option (List Task)
+tasks_in d = option_map (map task) (option_and_then (all_read step_in) (as_array d))
+
+-- WHAT EACH SORT of value is read as
+abbrev pub read_as : (sort : Sort) → Data → Option (ValueOf sort)
+read_as moment = moment_in
+read_as name = name_in
+read_as clearance = clearance_in
+read_as number = number_in
+read_as flag = as_bool
+read_as text = as_str
+read_as names = names_in
+read_as tasks = tasks_in
+
+-- the value at a key, by its sort
+abbrev pub said_at : (key : Key) → Data → Result (ValueAt key) TextFault
+said_at key = at_key (read_as (sort_of key)) key

@@ -1,245 +1,203 @@
-//! What each command asks for, read from the values of its keys.
-ghost use Rattle.serde_json.specs.View.{view};
+//! THE NINETEEN COMMANDS: the word and the keys of each. They are read and written by one table.
+ghost use Rattle.std.specs.Prelude.{◌≡◌, IsTrue, OnOk};
+ghost use Rattle.std.specs.List.{list_any};
+ghost use Rattle.std.specs.Str.{bytes_eq};
+ghost use Rattle.serde_json.specs.View.{members_view, view};
 ghost use Rattle.clr_text.specs.Answers.{Gives};
-ghost use Rattle.clr_text.specs.Kinds.{kind_in};
-ghost use Rattle.clr_text.specs.declared.word.Word.TheVariants as word;
+ghost use Rattle.clr_text.specs.CommandText.{all_taken, own_said, with_said};
+ghost use Rattle.clr_text.specs.Keys.{key_text};
+ghost use Rattle.clr_text.specs.Kinds.{has_key, kind_in, own_keys, states_moment, word_named};
+ghost use Rattle.clr_text.specs.Kinds.{word_of, word_text};
 
+use crate::commands::Object;
 use crate::fault::TextFault;
 use crate::key::Key;
-use crate::values::{clearance_at, flag_at, name_at, points_at, step_at, steps_at, text_at};
-use crate::word::Word;
+use crate::values::{KeyValue, at};
 use clr_rules::Kind;
 use serde_json::Value;
-use std::alloc::Global;
+use std::alloc::{AllocError, Global};
 
-/// What a command of this word asks for.
-pub(crate) fn kind_in(alloc: Global, word: Word, value: &Value) -> Result<Kind, TextFault>
-    ensures { Gives result (kind_in word (view value.now)) }
-{
-    match word {
-        Word::Request => request(value),
-        Word::Order => order(alloc, value),
-        Word::Instruct => instruct(value),
-        Word::Repeat => repeat(alloc, value),
-        Word::Report => report(value),
-        Word::Grant => grant(value),
-        Word::Test => test(value),
-        Word::Ground => ground_section(value),
-        Word::Unground => unground_section(value),
-        Word::SignOn => sign_on(value),
-        Word::SignOff => sign_off(value),
-        Word::Transfer => transfer(value),
-        Word::Release => release(value),
-        Word::Cancel => cancel(value),
-        Word::Restore => restore(alloc, value),
-        Word::Amend => amend(value),
-        Word::Switch => switch(alloc, value),
-        Word::Show => show(value),
-        Word::Jumper => jumper(value),
+/// THE TABLE: of each command its word as it is written, and its fields at its own keys, in the
+/// order of the keys' bytes. `rows` makes of it what is asked for.
+macro_rules! commands {
+    ($($asked:tt)*) => {
+        rows! { [$($asked)*]
+            Request "request" (section: Section)
+            Order "order" (clearance: Clearance, points: Points, steps: Steps)
+            Instruct "instruct" (clearance: Clearance, step: Step)
+            Repeat "repeat" (clearance: Clearance, step: Step, text: Text)
+            Report "report" (clearance: Clearance, done: Done, step: Step)
+            Grant "grant" (clearance: Clearance)
+            Test "test" (clearance: Clearance, dead: Dead, section: Section)
+            Ground "ground" (clearance: Clearance, section: Section)
+            Unground "unground" (clearance: Clearance, section: Section)
+            SignOn "sign_on" (clearance: Clearance, crew: Crew)
+            SignOff "sign_off" (clearance: Clearance, crew: Crew)
+            Transfer "transfer" (clearance: Clearance, emergency: Emergency, to: To)
+            Release "release" (clear: Clear, clearance: Clearance, notified: Notified)
+            Cancel "cancel" (clearance: Clearance)
+            Restore "restore" (clearance: Clearance, steps: Steps)
+            Amend "amend" (clearance: Clearance, step: Step)
+            Switch "switch" (steps: Steps)
+            Show "show" (clearance: Clearance)
+            Jumper "jumper" (
+                from: From,
+                lockable: Lockable,
+                point: Point,
+                remote: Remote,
+                to: To
+            )
+        }
+    };
+}
+
+macro_rules! rows {
+    ([words] $($kind:ident $text:literal ($($field:ident: $key:ident),*))*) => {
+        [$(Word::$kind),*]
+    };
+    ([word of $of:expr] $($kind:ident $text:literal ($($field:ident: $key:ident),*))*) => {
+        match $of {
+            $(Kind::$kind { .. } => Word::$kind,)*
+        }
+    };
+    ([text of $of:expr] $($kind:ident $text:literal ($($field:ident: $key:ident),*))*) => {
+        match $of {
+            $(Word::$kind => $text,)*
+        }
+    };
+    ([keys of $of:expr] $($kind:ident $text:literal ($($field:ident: $key:ident),*))*) => {
+        match $of {
+            $(Word::$kind => &[$(Key::$key),*],)*
+        }
+    };
+    ([kind of $of:ident at $alloc:ident $value:ident]
+        $($kind:ident $text:literal ($($field:ident: $key:ident),*))*) => {
+        match $of {
+            $(Word::$kind => Ok(Kind::$kind {
+                $($field: at($alloc, $value, Key::$key)?),*
+            }),)*
+        }
+    };
+    ([put $of:ident into $object:ident]
+        $($kind:ident $text:literal ($($field:ident: $key:ident),*))*) => {
+        match $of {
+            $(Kind::$kind { $($field),* } => {
+                $($object.put(Key::$key, $field)?;)*
+            })*
+        }
+    };
+    ([take $of:ident] $($kind:ident $text:literal ($($field:ident: $key:ident),*))*) => {
+        match $of {
+            $(Kind::$kind { $($field),* } => {
+                $($field.taken();)*
+            })*
+        }
+    };
+}
+
+/// The word at `do`, which says which of the nineteen commands it is.
+#[derive(Clone, Copy, Debug, PartialEq, Eq)]
+pub(crate) enum Word {
+    Request,
+    Order,
+    Instruct,
+    Repeat,
+    Report,
+    Grant,
+    Test,
+    Ground,
+    Unground,
+    SignOn,
+    SignOff,
+    Transfer,
+    Release,
+    Cancel,
+    Restore,
+    Amend,
+    Switch,
+    Show,
+    Jumper,
+}
+
+impl Word {
+    /// All words, in the order in which they are declared.
+    const ALL: [Word; 19] = commands!(words);
+
+    /// The word of a command of this kind.
+    pub(crate) fn of(kind: &Kind) -> Word
+        ensures { result ≡ word_of kind.now }
+    {
+        commands!(word of kind)
+    }
+
+    /// The word that a text is.
+    pub(crate) fn named(text: &str) -> Option<Word>
+        ensures { result ≡ word_named text.now }
+    {
+        Word::ALL.iter().copied().find(|word| word.text() == text)
+    }
+
+    /// The word as it is written.
+    pub(crate) fn text(self) -> &'static str
+        ensures { result.now ≡ word_text self }
+    {
+        commands!(text of self)
+    }
+
+    /// The keys that are the command's own, beside those that it has in common with others.
+    fn own_keys(self) -> &'static [Key]
+        ensures { result.now ≡ own_keys self }
+    {
+        commands!(keys of self)
+    }
+
+    /// Whether the command states its moment: `show` and `jumper` do not.
+    pub(crate) fn states_moment(self) -> bool
+        ensures { result ≡ states_moment self }
+    {
+        !matches!(self, Word::Show | Word::Jumper)
+    }
+
+    /// Whether a key is the command's own.
+    fn has_own(self, key: Key) -> bool
+        ensures { result
+            ≡ list_any (λ own. bytes_eq (key_text own) (key_text key)) (own_keys self) }
+    {
+        self.own_keys().iter().any(|own| own.text() == key.text())
+    }
+
+    /// Whether the command has a key.
+    pub(crate) fn has(self, key: Key) -> bool
+        ensures { result ≡ has_key self key }
+    {
+        match key {
+            Key::At => self.states_moment(),
+            Key::By | Key::Do => true,
+            _ => self.has_own(key),
+        }
     }
 }
 
+/// What a command of this word asks for, read from the values at its own keys.
 #[tactic(auto, unfolding(crate::specs::Kinds::kind_in))]
-fn request(value: &Value) -> Result<Kind, TextFault>
-    ensures { Gives result (kind_in word.Request (view value.now)) }
+pub(crate) fn kind_in(alloc: Global, word: Word, value: &Value) -> Result<Kind, TextFault>
+    ensures { Gives result (kind_in word (view value.now)) }
 {
-    let section = name_at(value, Key::Section)?;
-    Ok(Kind::Request { section })
+    commands!(kind of word at alloc value)
 }
 
-#[tactic(auto, unfolding(crate::specs::Kinds::kind_in))]
-fn order(alloc: Global, value: &Value) -> Result<Kind, TextFault>
-    ensures { Gives result (kind_in word.Order (view value.now)) }
+/// Puts what a command of this kind says at its own keys.
+pub(crate) fn put_own(object: &mut Object, kind: &Kind) -> Result<(), AllocError>
+    ensures { OnOk result (members_view object.new.members.entries
+        ≡ with_said (own_said kind.now) (members_view object.old.members.entries)) }
 {
-    let clearance = clearance_at(value)?;
-    let points = points_at(alloc, value)?;
-    let steps = steps_at(alloc, value)?;
-    Ok(Kind::Order {
-        clearance,
-        points,
-        steps,
-    })
+    commands!(put kind into object);
+    Ok(())
 }
 
-#[tactic(auto, unfolding(crate::specs::Kinds::kind_in))]
-fn instruct(value: &Value) -> Result<Kind, TextFault>
-    ensures { Gives result (kind_in word.Instruct (view value.now)) }
+/// What a command of this kind says at its own keys is taken: a law, with nothing to do.
+pub(crate) fn own_taken(kind: &Kind)
+    ensures { IsTrue (all_taken (own_said kind.now)) }
 {
-    let clearance = clearance_at(value)?;
-    let step = step_at(value)?;
-    Ok(Kind::Instruct { clearance, step })
-}
-
-#[tactic(auto, unfolding(crate::specs::Kinds::kind_in))]
-fn repeat(alloc: Global, value: &Value) -> Result<Kind, TextFault>
-    ensures { Gives result (kind_in word.Repeat (view value.now)) }
-{
-    let clearance = clearance_at(value)?;
-    let step = step_at(value)?;
-    let text = text_at(alloc, value)?;
-    Ok(Kind::Repeat {
-        clearance,
-        step,
-        text,
-    })
-}
-
-#[tactic(auto, unfolding(crate::specs::Kinds::kind_in))]
-fn report(value: &Value) -> Result<Kind, TextFault>
-    ensures { Gives result (kind_in word.Report (view value.now)) }
-{
-    let clearance = clearance_at(value)?;
-    let done = flag_at(value, Key::Done)?;
-    let step = step_at(value)?;
-    Ok(Kind::Report {
-        clearance,
-        step,
-        done,
-    })
-}
-
-#[tactic(auto, unfolding(crate::specs::Kinds::kind_in))]
-fn grant(value: &Value) -> Result<Kind, TextFault>
-    ensures { Gives result (kind_in word.Grant (view value.now)) }
-{
-    let clearance = clearance_at(value)?;
-    Ok(Kind::Grant { clearance })
-}
-
-#[tactic(auto, unfolding(crate::specs::Kinds::kind_in))]
-fn test(value: &Value) -> Result<Kind, TextFault>
-    ensures { Gives result (kind_in word.Test (view value.now)) }
-{
-    let clearance = clearance_at(value)?;
-    let dead = flag_at(value, Key::Dead)?;
-    let section = name_at(value, Key::Section)?;
-    Ok(Kind::Test {
-        clearance,
-        section,
-        dead,
-    })
-}
-
-#[tactic(auto, unfolding(crate::specs::Kinds::kind_in))]
-fn ground_section(value: &Value) -> Result<Kind, TextFault>
-    ensures { Gives result (kind_in word.Ground (view value.now)) }
-{
-    let clearance = clearance_at(value)?;
-    let section = name_at(value, Key::Section)?;
-    Ok(Kind::Ground { clearance, section })
-}
-
-#[tactic(auto, unfolding(crate::specs::Kinds::kind_in))]
-fn unground_section(value: &Value) -> Result<Kind, TextFault>
-    ensures { Gives result (kind_in word.Unground (view value.now)) }
-{
-    let clearance = clearance_at(value)?;
-    let section = name_at(value, Key::Section)?;
-    Ok(Kind::Unground { clearance, section })
-}
-
-#[tactic(auto, unfolding(crate::specs::Kinds::kind_in))]
-fn sign_on(value: &Value) -> Result<Kind, TextFault>
-    ensures { Gives result (kind_in word.SignOn (view value.now)) }
-{
-    let clearance = clearance_at(value)?;
-    let crew = name_at(value, Key::Crew)?;
-    Ok(Kind::SignOn { clearance, crew })
-}
-
-#[tactic(auto, unfolding(crate::specs::Kinds::kind_in))]
-fn sign_off(value: &Value) -> Result<Kind, TextFault>
-    ensures { Gives result (kind_in word.SignOff (view value.now)) }
-{
-    let clearance = clearance_at(value)?;
-    let crew = name_at(value, Key::Crew)?;
-    Ok(Kind::SignOff { clearance, crew })
-}
-
-#[tactic(auto, unfolding(crate::specs::Kinds::kind_in))]
-fn transfer(value: &Value) -> Result<Kind, TextFault>
-    ensures { Gives result (kind_in word.Transfer (view value.now)) }
-{
-    let clearance = clearance_at(value)?;
-    let emergency = flag_at(value, Key::Emergency)?;
-    let to = name_at(value, Key::To)?;
-    Ok(Kind::Transfer {
-        clearance,
-        to,
-        emergency,
-    })
-}
-
-#[tactic(auto, unfolding(crate::specs::Kinds::kind_in))]
-fn release(value: &Value) -> Result<Kind, TextFault>
-    ensures { Gives result (kind_in word.Release (view value.now)) }
-{
-    let clear = flag_at(value, Key::Clear)?;
-    let clearance = clearance_at(value)?;
-    let notified = flag_at(value, Key::Notified)?;
-    Ok(Kind::Release {
-        clearance,
-        notified,
-        clear,
-    })
-}
-
-#[tactic(auto, unfolding(crate::specs::Kinds::kind_in))]
-fn cancel(value: &Value) -> Result<Kind, TextFault>
-    ensures { Gives result (kind_in word.Cancel (view value.now)) }
-{
-    let clearance = clearance_at(value)?;
-    Ok(Kind::Cancel { clearance })
-}
-
-#[tactic(auto, unfolding(crate::specs::Kinds::kind_in))]
-fn restore(alloc: Global, value: &Value) -> Result<Kind, TextFault>
-    ensures { Gives result (kind_in word.Restore (view value.now)) }
-{
-    let clearance = clearance_at(value)?;
-    let steps = steps_at(alloc, value)?;
-    Ok(Kind::Restore { clearance, steps })
-}
-
-#[tactic(auto, unfolding(crate::specs::Kinds::kind_in))]
-fn amend(value: &Value) -> Result<Kind, TextFault>
-    ensures { Gives result (kind_in word.Amend (view value.now)) }
-{
-    let clearance = clearance_at(value)?;
-    let step = step_at(value)?;
-    Ok(Kind::Amend { clearance, step })
-}
-
-#[tactic(auto, unfolding(crate::specs::Kinds::kind_in))]
-fn switch(alloc: Global, value: &Value) -> Result<Kind, TextFault>
-    ensures { Gives result (kind_in word.Switch (view value.now)) }
-{
-    let steps = steps_at(alloc, value)?;
-    Ok(Kind::Switch { steps })
-}
-
-#[tactic(auto, unfolding(crate::specs::Kinds::kind_in))]
-fn show(value: &Value) -> Result<Kind, TextFault>
-    ensures { Gives result (kind_in word.Show (view value.now)) }
-{
-    let clearance = clearance_at(value)?;
-    Ok(Kind::Show { clearance })
-}
-
-#[tactic(auto, unfolding(crate::specs::Kinds::kind_in))]
-fn jumper(value: &Value) -> Result<Kind, TextFault>
-    ensures { Gives result (kind_in word.Jumper (view value.now)) }
-{
-    let from = name_at(value, Key::From)?;
-    let lockable = flag_at(value, Key::Lockable)?;
-    let point = name_at(value, Key::Point)?;
-    let remote = flag_at(value, Key::Remote)?;
-    let to = name_at(value, Key::To)?;
-    Ok(Kind::Jumper {
-        point,
-        from,
-        to,
-        lockable,
-        remote,
-    })
+    commands!(take kind)
 }

@@ -14,7 +14,6 @@ mod replies;
 mod said;
 mod sent;
 mod values;
-mod word;
 
 pub use clr_print::{print_board, print_order};
 pub use commands::{command_text, command_value};

@@ -11,9 +11,8 @@ ghost use Rattle.clr_text.specs.Reading.{read_command, text_at_do, value_of, val
 
 use crate::fault::TextFault;
 use crate::key::Key;
-use crate::kinds::kind_in;
-use crate::values::{moment_at, name_at};
-use crate::word::Word;
+use crate::kinds::{Word, kind_in};
+use crate::values::at;
 use clr_rules::{Command, Moment};
 use serde_json::{Map, Value};
 use std::alloc::Global;
@@ -127,8 +126,8 @@ fn none_missing(word: Word, value: &Value) -> Result<bool, TextFault>
 fn values_in(alloc: Global, word: Word, value: &Value) -> Result<Command, TextFault>
     ensures { Gives result (values_in word (view value.now)) }
 {
-    let moment = moment_of(word, value)?;
-    let caller = name_at(value, Key::By)?;
+    let moment = moment_of(alloc, word, value)?;
+    let caller = at(alloc, value, Key::By)?;
     let kind = kind_in(alloc, word, value)?;
     Ok(Command {
         caller,
@@ -138,11 +137,11 @@ fn values_in(alloc: Global, word: Word, value: &Value) -> Result<Command, TextFa
 }
 
 /// The moment of a command: one that states none is at 0.
-fn moment_of(word: Word, value: &Value) -> Result<Moment, TextFault>
+fn moment_of(alloc: Global, word: Word, value: &Value) -> Result<Moment, TextFault>
     ensures { Gives result (moment_of word (view value.now)) }
 {
     if word.states_moment() {
-        return moment_at(value);
+        return at(alloc, value, Key::At);
     }
     Moment::new(0).ok_or(TextFault::BadValue(Key::At))
 }

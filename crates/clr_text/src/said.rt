@@ -7,8 +7,8 @@ ghost use Rattle.clr_text.specs.CommandText.{task_data};
 ghost use Rattle.clr_text.specs.Json.{list_data, name_data, whole_data};
 ghost use Rattle.clr_text.specs.Kinds.{word_text};
 
+use crate::kinds::Word;
 use crate::parts::{ToJson, list_value};
-use crate::word::Word;
 use clr_order::{Step, step_text};
 use clr_rules::{Moment, Names, Tasks, Text};
 use serde_json::Value;

@@ -1,9 +1,17 @@
-//! The values of a command's keys.
-ghost use Rattle.std.specs.Prelude.{◌≡◌, IfOk, option_map};
+//! The values of a command's keys: what each is read from, and that its key takes it.
+ghost use Rattle.std.specs.Prelude.{◌≡◌, Bool, true, IfOk, IsTrue, Option, nat_le, option_map};
+ghost use Rattle.std.specs.List.{list_all};
+ghost use Rattle.std.specs.Str.{is_utf8};
+ghost use Rattle.serde_json.specs.Data.{Data};
+ghost use Rattle.serde_json.specs.Find.{as_bool, as_str};
 ghost use Rattle.serde_json.specs.View.{items_view, view};
+ghost use Rattle.clr_net.specs.Name.{is_name};
+ghost use Rattle.clr_rules.specs.Id.{is_id};
+ghost use Rattle.clr_rules.specs.Moment.{is_moment};
 ghost use Rattle.clr_text.specs.Answers.{Gives};
-ghost use Rattle.clr_text.specs.Values.{all_read, clearance_at, flag_at, moment_at, name_at};
-ghost use Rattle.clr_text.specs.Values.{point_in, points_at, step_at, step_in, steps_at, text_at};
+ghost use Rattle.clr_text.specs.CommandText.{has_named_point};
+ghost use Rattle.clr_text.specs.Values.{all_read, at_key, clearance_in, moment_in, name_in};
+ghost use Rattle.clr_text.specs.Values.{names_in, number_in, step_in, tasks_in};
 
 use crate::fault::TextFault;
 use crate::key::Key;
@@ -13,146 +21,219 @@ use clr_rules::{ClearanceId, Moment, Names, Tasks, Text};
 use serde_json::Value;
 use std::alloc::{AllocError, Global};
 
-/// The moment at `at`.
-pub(crate) fn moment_at(value: &Value) -> Result<Moment, TextFault>
-    ensures { Gives result (moment_at (view value.now)) }
-{
-    match value.get(Key::At.text()).and_then(Value::as_u64) {
-        Some(seconds) => Moment::new(seconds).ok_or(TextFault::BadValue(Key::At)),
-        None => Err(TextFault::BadValue(Key::At)),
-    }
+/// A value that a key of a command has, or an item of one.
+pub(crate) trait KeyValue: Drop {
+    /// What a JSON value is read as, as contracts see it.
+    ghost reading: { Data → Option Self };
+
+    /// Whether a key takes the value, as contracts see it.
+    ghost is_taken: { Self → Bool };
+
+    /// The value that a JSON value is, if it is one.
+    fn read(alloc: Global, value: &Value) -> Result<Option<Self>, AllocError>
+        ensures { IfOk result (λ found. found ≡ reading (view value.now)) };
+
+    /// A key takes each value: a law, with nothing to do.
+    fn taken(&self)
+        ensures { IsTrue (is_taken self.now) };
 }
 
-/// The name at a key.
-pub(crate) fn name_at(value: &Value, key: Key) -> Result<Name, TextFault>
-    ensures { Gives result (name_at key (view value.now)) }
+/// The value at a key.
+pub(crate) fn at<T: KeyValue>(alloc: Global, value: &Value, key: Key) -> Result<T, TextFault>
+    ensures { Gives result (at_key T.reading key (view value.now)) }
 {
-    match value.get(key.text()).and_then(Value::as_str) {
-        Some(text) => Name::read(text).map_err(|_| TextFault::BadValue(key)),
+    let Some(found) = value.get(key.text()) else {
+        return Err(TextFault::BadValue(key));
+    };
+    match T::read(alloc, found)? {
+        Some(read) => Ok(read),
         None => Err(TextFault::BadValue(key)),
     }
 }
 
-/// The clearance at `clearance`.
-pub(crate) fn clearance_at(value: &Value) -> Result<ClearanceId, TextFault>
-    ensures { Gives result (clearance_at (view value.now)) }
-{
-    match value.get(Key::Clearance.text()).and_then(Value::as_str) {
-        Some(text) => ClearanceId::read(text).map_err(|_| TextFault::BadValue(Key::Clearance)),
-        None => Err(TextFault::BadValue(Key::Clearance)),
+impl KeyValue for Moment {
+    ghost reading = { moment_in };
+
+    ghost is_taken = { is_moment };
+
+    fn read(_alloc: Global, value: &Value) -> Result<Option<Moment>, AllocError> {
+        Ok(value.as_u64().and_then(Moment::new))
+    }
+
+    fn taken(&self) {
+        let _seconds = self.seconds();
     }
 }
 
-/// The number of a step at `step`.
-pub(crate) fn step_at(value: &Value) -> Result<u16, TextFault>
-    ensures { Gives result (step_at (view value.now)) }
-{
-    match value.get(Key::Step.text()).and_then(Value::as_u64) {
-        Some(number) if number <= 65535 => Ok(number as u16),
-        _ => Err(TextFault::BadValue(Key::Step)),
-    }
-}
+impl KeyValue for Name {
+    ghost reading = { name_in };
 
-/// The `true` or `false` at a key.
-pub(crate) fn flag_at(value: &Value, key: Key) -> Result<bool, TextFault>
-    ensures { Gives result (flag_at key (view value.now)) }
-{
-    match value.get(key.text()).and_then(Value::as_bool) {
-        Some(flag) => Ok(flag),
-        None => Err(TextFault::BadValue(key)),
-    }
-}
+    ghost is_taken = { is_name };
 
-/// The text at `text`.
-pub(crate) fn text_at(alloc: Global, value: &Value) -> Result<Text, TextFault>
-    ensures { Gives result (text_at (view value.now)) }
-{
-    match value.get(Key::Text.text()).and_then(Value::as_str) {
-        Some(text) => {
-            let copy = String::from_str(alloc, text)?;
-            Ok(Text::new(copy))
+    fn read(_alloc: Global, value: &Value) -> Result<Option<Name>, AllocError> {
+        match value.as_str() {
+            Some(text) => Ok(Name::read(text).ok()),
+            None => Ok(None),
         }
-        None => Err(TextFault::BadValue(Key::Text)),
+    }
+
+    fn taken(&self) {
+        let _text = self.as_str();
     }
 }
 
-/// The names of the points at `points`.
-pub(crate) fn points_at(alloc: Global, value: &Value) -> Result<Names, TextFault>
-    ensures { Gives result (points_at (view value.now)) }
-{
-    let Some(list) = value.get(Key::Points.text()).and_then(Value::as_array) else {
-        return Err(TextFault::BadValue(Key::Points));
-    };
-    match points_in(alloc, list.as_slice())? {
-        Some(points) => Ok(Names::new(points)),
-        None => Err(TextFault::BadValue(Key::Points)),
+impl KeyValue for ClearanceId {
+    ghost reading = { clearance_in };
+
+    ghost is_taken = { is_id };
+
+    fn read(_alloc: Global, value: &Value) -> Result<Option<ClearanceId>, AllocError> {
+        match value.as_str() {
+            Some(text) => Ok(ClearanceId::read(text).ok()),
+            None => Ok(None),
+        }
+    }
+
+    fn taken(&self) {
+        let _number = self.number();
+        self.requester().taken();
     }
 }
 
-/// The names of points in a list, where each item is one.
-fn points_in(alloc: Global, list: &[Value]) -> Result<Option<Vec<Name>>, AllocError>
-    ensures { IfOk result (λ found. option_map (λ points. points.items) found
-        ≡ all_read point_in (items_view list.now)) }
-{
-    let mut points = Vec::new(alloc);
-    for item in list {
-        let Some(point) = point_in(item) else {
+impl KeyValue for u16 {
+    ghost reading = { number_in };
+
+    ghost is_taken = { λ number. nat_le number 65535 };
+
+    fn read(_alloc: Global, value: &Value) -> Result<Option<u16>, AllocError> {
+        match value.as_u64() {
+            Some(number) if number <= 65535 => Ok(Some(number as u16)),
+            _ => Ok(None),
+        }
+    }
+
+    fn taken(&self) {
+        fits(*self);
+    }
+}
+
+impl KeyValue for bool {
+    ghost reading = { as_bool };
+
+    ghost is_taken = { λ flag. true };
+
+    fn read(_alloc: Global, value: &Value) -> Result<Option<bool>, AllocError> {
+        Ok(value.as_bool())
+    }
+
+    fn taken(&self) {}
+}
+
+impl KeyValue for Text {
+    ghost reading = { as_str };
+
+    ghost is_taken = { is_utf8 };
+
+    fn read(alloc: Global, value: &Value) -> Result<Option<Text>, AllocError> {
+        match value.as_str() {
+            Some(text) => {
+                let copy = String::from_str(alloc, text)?;
+                Ok(Some(Text::new(copy)))
+            }
+            None => Ok(None),
+        }
+    }
+
+    fn taken(&self) {
+        let _text = self.as_str();
+    }
+}
+
+impl KeyValue for Names {
+    ghost reading = { names_in };
+
+    ghost is_taken = { λ names. list_all is_name names };
+
+    fn read(alloc: Global, value: &Value) -> Result<Option<Names>, AllocError> {
+        let Some(list) = value.as_array() else {
             return Ok(None);
         };
-        points.push(point)?;
+        match all_read(alloc, list.as_slice())? {
+            Some(names) => Ok(Some(Names::new(names))),
+            None => Ok(None),
+        }
     }
-    Ok(Some(points))
-}
 
-/// The name of a point that an item of a list is.
-fn point_in(item: &Value) -> Option<Name>
-    ensures { result ≡ point_in (view item.now) }
-{
-    match item.as_str() {
-        Some(text) => Name::read(text).ok(),
-        None => None,
+    fn taken(&self) {
+        each_taken(self.as_slice());
     }
 }
 
-/// The steps at `steps`.
-pub(crate) fn steps_at(alloc: Global, value: &Value) -> Result<Tasks, TextFault>
-    ensures { Gives result (steps_at (view value.now)) }
-{
-    let Some(list) = value.get(Key::Steps.text()).and_then(Value::as_array) else {
-        return Err(TextFault::BadValue(Key::Steps));
-    };
-    match steps_in(alloc, list.as_slice())? {
-        Some(steps) => Ok(Tasks::new(steps)),
-        None => Err(TextFault::BadValue(Key::Steps)),
+impl KeyValue for Step {
+    ghost reading = { step_in };
+
+    ghost is_taken = { has_named_point };
+
+    fn read(_alloc: Global, value: &Value) -> Result<Option<Step>, AllocError> {
+        match value.as_str() {
+            Some(text) => match read_step_text(text) {
+                Ok(step) => Ok(Some(step)),
+                Err(_) => Ok(None),
+            },
+            None => Ok(None),
+        }
+    }
+
+    fn taken(&self) {
+        self.point.taken();
     }
 }
 
-/// The steps in a list, where each item is the text of one.
-fn steps_in(alloc: Global, list: &[Value]) -> Result<Option<Vec<Step>>, AllocError>
-    ensures { IfOk result (λ found. option_map (λ steps. steps.items) found
-        ≡ all_read step_in (items_view list.now)) }
-{
-    let mut steps = Vec::new(alloc);
-    for item in list {
-        let Some(step) = step_in(item) else {
+impl KeyValue for Tasks {
+    ghost reading = { tasks_in };
+
+    ghost is_taken = { λ tasks. list_all (λ t. is_name t.point) tasks };
+
+    fn read(alloc: Global, value: &Value) -> Result<Option<Tasks>, AllocError> {
+        let Some(list) = value.as_array() else {
             return Ok(None);
         };
-        // Read for its type alone, which the check does not find otherwise.
-        let _point = step.point;
-        steps.push(step)?;
+        match all_read(alloc, list.as_slice())? {
+            Some(steps) => Ok(Some(Tasks::new(steps))),
+            None => Ok(None),
+        }
     }
-    Ok(Some(steps))
+
+    fn taken(&self) {
+        each_taken(self.as_slice());
+    }
 }
 
-/// The step whose text an item of a list is.
-fn step_in(item: &Value) -> Option<Step>
-    ensures { result ≡ step_in (view item.now) }
+/// What the items of a list are read as, where each of them fits.
+fn all_read<T: KeyValue>(alloc: Global, list: &[Value]) -> Result<Option<Vec<T>>, AllocError>
+    ensures { IfOk result (λ found. option_map (λ items. items.items) found
+        ≡ all_read T.reading (items_view list.now)) }
 {
-    match item.as_str() {
-        Some(text) => match read_step_text(text) {
-            Ok(step) => Some(step),
-            Err(_) => None,
-        },
-        None => None,
+    let mut items = Vec::new(alloc);
+    for item in list {
+        let Some(read) = T::read(alloc, item)? else {
+            return Ok(None);
+        };
+        items.push(read)?;
+    }
+    Ok(Some(items))
+}
+
+/// A number of sixteen bits has a greatest value.
+fn fits(number: u16)
+    ensures { IsTrue (nat_le number 65535) }
+{}
+
+/// Each of these values is taken.
+fn each_taken<T: KeyValue>(values: &[T])
+    ensures { IsTrue (list_all T.is_taken values.now) }
+{
+    for value in values {
+        value.taken();
     }
 }

@@ -6,38 +6,32 @@ use Rattle.json.specs.Print.{escape_byte}
 use Rattle.json.proofs.Printed.Utf8.{IsUtf8-are_ascii, are_ascii}
 use Rattle.clr_rules.specs.declared.command.Command.{Command}
 use Rattle.clr_rules.proofs.Common.{and_from, and_parts, list_all}
-use Rattle.clr_text.specs.CommandText.{Said, all_said, all_taken, clearance, command_text, flag, has_its_moment, is_taken, moment, name, names, number, tasks, text}
-use Rattle.clr_text.specs.declared.key.Key.{Key}
+use Rattle.clr_text.specs.CommandText.{Said, all_said, all_taken, command_text, fits_sort, has_its_moment, is_taken}
+use Rattle.clr_text.specs.Keys.{Sort, ValueOf, sort_of, text}
 use Rattle.clr_worked.specs.OneClearance.{AllCanBePosted, alone, beside}
 use Rattle.clr_worked.specs.Sent.{can_all_be_posted, can_be_posted}
 
-is_plain : Said → Bool
-is_plain (text s) = are_ascii s
-is_plain said = is_taken said
+is_plain : (sort : Sort) → ValueOf sort → Bool
+is_plain text s = are_ascii s
+is_plain sort x = fits_sort sort x
 
-all_plain : List (Key × Said) → Bool
-all_plain list = list_all (λ said. is_plain said.1) list
+all_plain : List Said → Bool
+all_plain list = list_all (λ said. is_plain (sort_of said.0) said.1) list
 
 is_plain_command : Command → Bool
 is_plain_command q = (all_plain (all_said q) && has_its_moment q) && nat_le (length (command_text q)) 65536
 
-plain_taken : (said : Said) → is_plain said ≡ true → is_taken said ≡ true
+plain_taken : (sort : Sort) (x : ValueOf sort) → is_plain sort x ≡ true → fits_sort sort x ≡ true
 unfolding is_plain
-plain_taken (text s) e = is_utf8-from_IsUtf8 s (IsUtf8-are_ascii s e)
-plain_taken (moment seconds) e = e
-plain_taken (name s) e = e
-plain_taken (clearance id) e = e
-plain_taken (number n) e = e
-plain_taken (flag b) e = e
-plain_taken (names list) e = e
-plain_taken (tasks list) e = e
+plain_taken text s e = is_utf8-from_IsUtf8 s (IsUtf8-are_ascii s e)
+plain_taken sort x e = e
 
-plain_all_taken : (list : List (Key × Said)) → all_plain list ≡ true → all_taken list ≡ true
+plain_all_taken : (list : List Said) → all_plain list ≡ true → all_taken list ≡ true
 unfolding all_plain
 plain_all_taken [] e = refl
 plain_all_taken (said ∷ rest) e =
-    let (here, later) = and_parts (is_plain said.1) (all_plain rest) e in
-    and_from (is_taken said.1) (all_taken rest) (plain_taken said.1 here) (plain_all_taken rest later)
+    let (here, later) = and_parts (is_plain (sort_of said.0) said.1) (all_plain rest) e in
+    and_from (is_taken said) (all_taken rest) (plain_taken (sort_of said.0) said.1 here) (plain_all_taken rest later)
 
 plain_posted : (q : Command) → is_plain_command q ≡ true → can_be_posted q ≡ true
 unfolding is_plain_command

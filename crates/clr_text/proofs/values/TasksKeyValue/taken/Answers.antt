@@ -3,7 +3,7 @@ use Rattle.std.specs.List.{list_all}
 use Rattle.std.proofs.lemmas.List.Folds.{list_all-map}
 use Rattle.clr_net.specs.Name.{is_name}
 use Rattle.clr_order.specs.Step.{Task, task}
-use Rattle.clr_text.proofs.sent.TasksTaken.taken.Goals as goal
+use Rattle.clr_text.proofs.values.TasksKeyValue.taken.Goals as goal
 
 pub returns : goal.returns
 returns c =
