@@ -8,7 +8,7 @@ use Rattle.clr_commands.specs.Journal.{IsOfJournal}
 plain : (fault : Fault) → IsOfJournal fault → IsOfSubcommand fault
 plain fault (inl is) = (λ e. cc (sym is ∙ e), λ e. cc (sym is ∙ e), λ e. cc (sym is ∙ e), λ file e. cc (sym is ∙ e))
 plain fault (inr (inl is)) = (λ e. cc (sym is ∙ e), λ e. cc (sym is ∙ e), λ e. cc (sym is ∙ e), λ file e. cc (sym is ∙ e))
-plain fault (inr (inr (cause, is))) = (λ e. cc (sym is ∙ e), λ e. cc (sym is ∙ e), λ e. cc (sym is ∙ e), λ file e. cc (sym is ∙ e))
+plain fault (inr (inr (cause, is, read_only, apart))) = (λ e. cc (sym is ∙ e), λ e. cc (sym is ∙ e), λ e. cc (sym is ∙ e), λ file e. cc (sym is ∙ e))
 
 pub journal_plain : (answer : Result (String Global) Fault) → IfErr answer IsOfJournal → IfErr answer IsOfSubcommand
 journal_plain (Ok text) own = own

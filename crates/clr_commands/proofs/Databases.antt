@@ -2,20 +2,24 @@
 use Rattle.std.proofs.Common.{◌≡◌, ◌⊎◌, ap, inl, inr, subst, sym, ℕ, List, Result, Ok, Err}
 use Rattle.std.specs.Prelude.{IfErr, IfOk, IsErrAnd, String, string_bytes}
 use Rattle.std.specs.declared.alloc.Global.{Global}
-use Rattle.sqlite.specs.Held.{Held, state}
-use Rattle.sqlite.specs.State.{HasCleanDisk, Survives}
+use Rattle.sqlite.specs.Files.{over_files}
+use Rattle.sqlite.specs.Held.{Held}
+use Rattle.sqlite_disk.specs.declared.Disk as disk
 use Rattle.sqlite_trees.specs.declared.store.Store.{Ghosts}
+use Rattle.clr_desk.specs.declared.desk.Desk.{Desk}
 use Rattle.clr_rules.specs.CrewSafety.{CrewsAreSafe}
 use Rattle.clr_rules.specs.Fit.{IsFit}
 use Rattle.clr_rules.specs.Good.{IsGood}
 use Rattle.clr_rules.proofs.good.CrewSafety.{crews_are_safe}
 use Rattle.clr_rules.specs.Register.{Register}
-use Rattle.clr_edge.specs.Database.{HasRegister, IsOfLine, IsOnlyRead, IsRefused, ReadsAs}
+use Rattle.clr_edge.specs.Database.{IsOfLine, IsOnlyRead, IsRefused, ReadsAs}
+use Rattle.clr_edge.specs.Keeping.{IsNotRead, IsNotUp, IsReadFrom, IsUp, plain}
+use Rattle.clr_edge.specs.Visit.{Comes, Done, Ending, Ends, Opening, Over, Shutting}
 use Rattle.clr_edge.specs.declared.fault.Fault.{Fault}
 use Rattle.clr_edge.specs.declared.fault.Fault.TheVariants.{Memory}
 use Rattle.clr_edge.proofs.Databases.{OnOk-any}
 use Rattle.clr_commands.specs.Answers.{GivesText, IsMemory, Prints}
-use Rattle.clr_commands.specs.Stored.{AnswersOf, IsUnanswered, PrintsOf}
+use Rattle.clr_commands.specs.Stored.{AnswersOf, IsUnanswered, WhileOpen}
 
 -- a fault that is passed on is the answer
 pub is_err : {T : Type 0} (result : Result T Fault) (fault : Fault) → IsErrAnd result (λ cause. cause ≡ fault) → result ≡ Err fault
@@ -54,40 +58,64 @@ faulted_of g Is (Ok text) before after Q fit reads gives = tt
 faulted_of g Is (Err fault) before after Q fit reads gives = λ other. inr (Q, fit, reads, gives other)
 
 -- what is answered of the register Q that was read from a database
-pub AnswersOf-read : {S : Type 0} (g : Ghosts S) (IsOwn : Fault → Type 0) (Is : Register → Result (List ℕ) Fault → Type 0) (result : Result (String Global) Fault)
-    (before after : Held S) (Q : Register) → ((R : Register) → HasRegister g R before → HasCleanDisk (state g after) → Q ≡ R)
-    → IsFit Q → ReadsAs g before after Q → IsOnlyRead g before after → Prints IsMemory (Is Q) result → IfErr result IsOwn
-    → AnswersOf g IsOwn Is result before after
-AnswersOf-read g IsOwn Is result before after Q is_register fit reads read gives own = record {
-  known = λ R has clean. gives_line (Is Q) (Is R) result (λ known is. subst (λ (P : Register). Is P known) (is_register R has clean) is) gives;
-  printed = printed_of g Is result before after Q fit reads gives;
-  read = OnOk-any result (IsOnlyRead g before after) read;
-  refused = unanswered g IsOwn before after Q result own reads read;
-  faulted = faulted_of g Is result before after Q fit reads gives;
+answers_of : {S : Type 0} (g : Ghosts S) (IsOwn : Fault → Type 0) (Is : Register → Result (List ℕ) Fault → Type 0) (result : Result (String Global) Fault)
+    (before after : Held S) (Q : Register) → IsReadFrom g before after Q → Prints IsMemory (Is Q) result → IfErr result IsOwn → AnswersOf g IsOwn Is result before after
+answers_of g IsOwn Is result before after Q it gives own = record {
+  known = λ R has clean. gives_line (Is Q) (Is R) result (λ known is. subst (λ (P : Register). Is P known) (it.is_register R has clean) is) gives;
+  printed = printed_of g Is result before after Q it.fit it.reads gives;
+  read = OnOk-any result (IsOnlyRead g before after) it.read;
+  refused = unanswered g IsOwn before after Q result own it.reads it.read;
+  faulted = faulted_of g Is result before after Q it.fit it.reads gives;
 }
 
 -- nothing is answered of one whose tables were refused
-pub AnswersOf-refused : {S : Type 0} (g : Ghosts S) (IsOwn : Fault → Type 0) (Is : Register → Result (List ℕ) Fault → Type 0) (fault : Fault)
-    (before after : Held S) → ((R : Register) → HasRegister g R before → HasCleanDisk (state g after) → IsOfLine fault)
-    → IsRefused g before fault after → Survives (state g before) (state g after) (λ _. ⊥) → AnswersOf g IsOwn Is (Err fault) before after
-AnswersOf-refused g IsOwn Is fault before after line refused survives = record {
-  known = λ R has clean other. absurd (other (line R has clean));
+answers_none : {S : Type 0} (g : Ghosts S) (IsOwn : Fault → Type 0) (Is : Register → Result (List ℕ) Fault → Type 0) (fault : Fault) (before after : Held S)
+    → IsNotRead g before fault after → AnswersOf g IsOwn Is (Err fault) before after
+answers_none g IsOwn Is fault before after it = record {
+  known = λ R has clean other. absurd (other (it.known R has clean));
   printed = tt;
   read = tt;
-  refused = record { cause = inr refused; survives = survives };
-  faulted = λ other. inl refused;
+  refused = record { cause = inr it.refused; survives = it.survives };
+  faulted = λ other. inl it.refused;
 }
 
--- the same of an answer that is computed
-pub PrintsOf-read : {S : Type 0} (g : Ghosts S) (IsOwn : Fault → Type 0) (answer : Register → Result (List ℕ) Fault) (result : Result (String Global) Fault)
-    (before after : Held S) (Q : Register) → ((R : Register) → HasRegister g R before → HasCleanDisk (state g after) → Q ≡ R)
-    → IsFit Q → ReadsAs g before after Q → IsOnlyRead g before after → GivesText IsMemory (answer Q) result → IfErr result IsOwn
-    → PrintsOf g IsOwn answer result before after
-PrintsOf-read g IsOwn answer result before after Q is_register fit reads read gives own =
-    AnswersOf-read g IsOwn (λ R known. answer R ≡ known) result before after Q is_register fit reads read gives own
+module _ {M D : Type 0} (g : disk.Ghosts D) (opens : Opening M D) (shuts : Shutting M) (ends : Ending M D) (path : List ℕ) (IsOwn : Fault → Type 0)
+    (Is : Register → Result (List ℕ) Fault → Type 0) where
+  -- a register was taken up from the database at a path, answered, and let go
+  pub visited : (result : Result (String Global) Fault) (old between new : M) (desk : Desk (Over g)) (after : Over g) (closed : Done)
+      → IsUp g opens path (plain over_files) old between desk → after ≡ desk.store → Ends ends after closed between new
+      → Prints IsMemory (Is desk.book.register) result → IfErr result IsOwn
+      → Comes g opens shuts ends path (WhileOpen (AnswersOf over_files IsOwn Is)) result old new
+  visited result old between new desk after closed up same ended prints own = inr (record {
+    before = up.before;
+    after = desk.store;
+    closed = closed;
+    middle = up.middle;
+    later = between;
+    opened = up.opened;
+    mode = up.mode;
+    does = (up.taken_up.0, answers_of over_files IsOwn Is result up.before desk.store desk.book.register up.taken_up.1 prints own);
+    ended = subst (λ (h : Over g). Ends ends h closed between new) same ended;
+  })
 
-pub PrintsOf-refused : {S : Type 0} (g : Ghosts S) (IsOwn : Fault → Type 0) (answer : Register → Result (List ℕ) Fault) (fault : Fault)
-    (before after : Held S) → ((R : Register) → HasRegister g R before → HasCleanDisk (state g after) → IsOfLine fault)
-    → IsRefused g before fault after → Survives (state g before) (state g after) (λ _. ⊥) → PrintsOf g IsOwn answer (Err fault) before after
-PrintsOf-refused g IsOwn answer fault before after line refused survives =
-    AnswersOf-refused g IsOwn (λ R known. answer R ≡ known) fault before after line refused survives
+  -- it was not taken up
+  pub unvisited : (result : Result (String Global) Fault) (old new : M) (fault : Fault) → IsErrAnd result (λ cause. cause ≡ fault)
+      → IsNotUp g opens shuts ends path (plain over_files) old new fault
+      → Comes g opens shuts ends path (WhileOpen (AnswersOf over_files IsOwn Is)) result old new
+  unvisited (Ok value) old new fault is not = absurd is
+  unvisited (Err cause) old new fault is (inl (line, shut)) = inl (fault, ap Err is, line, shut)
+  unvisited (Err cause) old new fault is (inr visit) = inr (record {
+    before = visit.before;
+    after = visit.after;
+    closed = visit.closed;
+    middle = visit.middle;
+    later = visit.later;
+    opened = visit.opened;
+    mode = visit.mode;
+    does = (
+      visit.does.0.0,
+      subst (λ (f : Fault). AnswersOf over_files IsOwn Is (Err f) visit.before visit.after) (sym is)
+          (answers_none over_files IsOwn Is fault visit.before visit.after visit.does.0.1),
+    );
+    ended = visit.ended;
+  })

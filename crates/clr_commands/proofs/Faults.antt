@@ -117,7 +117,7 @@ verify_plain fault (inr (found, is)) = plain_as fault _ is refl
 
 pub history_plain : (fault : Fault) → IsOfJournalFile fault → IsOfSubcommand fault
 history_plain fault (inl memory) = memory_plain fault memory
-history_plain fault (inr (cause, is)) = plain_as fault _ is refl
+history_plain fault (inr (cause, is, read_only, apart)) = plain_as fault _ is refl
 
 pub taking_up_plain : (fault : Fault) → IsOfTakingUp fault → IsOfSubcommand fault
 taking_up_plain fault (inl (inl memory)) = memory_plain fault memory

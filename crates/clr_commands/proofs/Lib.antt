@@ -12,7 +12,6 @@ pub mod ReadFiles
 pub mod ReadRows
 pub mod RunAnswers
 pub mod RunOfInput
-pub mod Serving
 pub mod Verifies
 pub mod WaysBack
 pub mod Written

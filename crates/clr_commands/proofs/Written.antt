@@ -1,7 +1,7 @@
 -- What a server writes: its line, and the lines of connections that failed.
 use Rattle.std.proofs.Common.{◌≡◌, ◌≢◌, ◌⊎◌, ◌∙◌, ℕ, zero, suc, ◌+◌, not, List, Option, None, Some, Result, Ok, Err, ap, inl, inr, subst, sym}
 use Rattle.std.specs.Borrow.{Bor}
-use Rattle.std.specs.Prelude.{IfErr, position}
+use Rattle.std.specs.Prelude.{IfErr, IsErrAnd, position}
 use Rattle.std.specs.declared.io.ErrorKind.{ErrorKind}
 use Rattle.std.specs.declared.io.ErrorKind.TheVariants.{OutOfMemory}
 use Rattle.sqlite.specs.Files.{over_files}
@@ -22,10 +22,10 @@ use Rattle.clr_load.specs.declared.fault.StoreFault.{StoreFault}
 use Rattle.clr_load.specs.declared.fault.StoreFault.TheVariants as store
 use Rattle.clr_desk.specs.declared.desk_fault.DeskFault.{DeskFault}
 use Rattle.clr_desk.specs.declared.desk_fault.DeskFault.TheVariants as desk
-use Rattle.clr_rules.specs.Register.{Register}
-use Rattle.clr_edge.specs.Database.{IsOfLine, IsOnlyRead, IsRefused, ReadsAs}
+use Rattle.clr_edge.specs.Database.{IsOfLine}
 use Rattle.clr_edge.specs.Fault.{of_desk, of_store}
 use Rattle.clr_edge.specs.Journals.{IsOfTakingUp}
+use Rattle.clr_edge.specs.Keeping.{Keeping, Works, WorksIn, logged, plain}
 use Rattle.clr_edge.specs.TakenUp.{IsNotTakenUp, Logs}
 use Rattle.clr_edge.specs.Logins.{is_employee, unless_unknown}
 use Rattle.clr_edge.specs.Loopback.{listen_fault}
@@ -35,10 +35,10 @@ use Rattle.clr_edge.specs.declared.fault.Fault.TheVariants.{Output, UnknownEmplo
 use Rattle.clr_edge.specs.declared.journals.Journals as journals
 use Rattle.clr_edge.specs.declared.loopback.Loopback as loopback
 use Rattle.clr_commands.specs.Connections.{ReportsConnection, ReportsFirst, Seen, TakesFirst, TakesNext, accept_fault}
-use Rattle.clr_commands.specs.Desks.{over_store, with_journal}
+use Rattle.clr_commands.specs.Desks.{desk_keeps}
 use Rattle.clr_commands.specs.Logins.{NamesLogins, terms_of, terms_with}
 use Rattle.clr_commands.specs.Paths.{AtPaths}
-use Rattle.clr_commands.specs.Serve.{ServesAt, ServesKeeper, ServesKept, ServesLogged, ServesLoggedPath, ServesOn, ServesOver, ServesPath, serving_line}
+use Rattle.clr_commands.specs.Serve.{ServesAt, ServesDesk, ServesKeeper, ServesKept, ServesOn, serving_line}
 use Rattle.clr_commands.specs.declared.serve.Terms.{Terms}
 use Rattle.clr_commands.proofs.Faults.{file_plain}
 
@@ -157,71 +157,44 @@ module _ {D M L R W : Type 0} (by : registrar.Ghosts D) (net : loopback.Ghosts M
       of (Some place) (kept, (is, untouched, same, quiet)) =
           unserved_written output output' errors errors' args.port args.count (UnknownEmployee (place + 1)) (both served closed) (λ e. cc e) (ap (λ (r : Done). both r closed) is) same quiet
 
-module _ {M L R W : Type 0} (net : loopback.Ghosts M L R W) (seen : Seen R W) (output output' errors errors' : Stream) where
-  over_written : {D : Type 0} (args : ServeArgs) (logins : Option (List LoginRow)) (g : Ghosts D) (served closed : Done) (old new : M) (before after : Held D)
-      → ServesOver net seen args logins output output' errors errors' g served old new before after
-      → IfErr closed (λ fault. fault ≢ Output) → Writes args.port args.count (both served closed) output output' errors errors'
-  over_written args logins g (Ok value) closed old new before after (inl (refused, same, quiet, rest)) other = absurd refused
-  over_written args logins g (Err fault) closed old new before after (inl ((unanswered, known), same, quiet, rest)) other =
-      inl (refused_other unanswered.cause, same, quiet)
-    where
-      refused_other : (⊥ × IsOnlyRead g before after × ((R : Register) × ReadsAs g before after R)) ⊎ IsRefused g before fault after → fault ≢ Output
-      refused_other (inl (none, read, reads)) = absurd none
-      refused_other (inr refused) = other_as fault _ refused.told_is (store_other refused.fault)
-  over_written args logins g served closed old new before after (inr opened) other =
-      asked_written (over_store g) net seen output output' errors errors' args opened.opened.book.register.staff logins opened.opened opened.left served closed old new opened.serves other
-
-  path_written : {D : Type 0} (args : ServeArgs) (logins : Option (List LoginRow)) (g : disk.Ghosts D) (opens : Opening M D) (shuts : Shutting M) (ends : Ending M D)
-      (path : List ℕ) (result : Done) (old new : M) → ServesPath net seen args logins output output' errors errors' g opens shuts ends path result old new
+module _ {M L R W : Type 0} (net : loopback.Ghosts M L R W) (seen : Seen R W) (output output' errors errors' : Stream) (args : ServeArgs) (logins : Option (List LoginRow)) where
+  over_written : {T K : Type 0} (by : Keeping M T K) → ((old new : M) (before after : Held T) (fault : Fault) → by.refuses old new before fault after → fault ≢ Output)
+      → (result : Done) (old new : M) (before after : Held T) (closed : Done) → IfErr closed (λ fault. fault ≢ Output)
+      → WorksIn by ((output' ≡ output) × (errors' ≡ errors)) (ServesDesk net seen args logins output output' errors errors' by.keeper) both result old before after closed new
       → Writes args.port args.count result output output' errors errors'
-  path_written args logins g opens shuts ends path result old new (inl (fault, is, line, (shut, same, quiet))) =
+  over_written {T} {K} by refused_other result old new before after closed other did =
+      subst (λ (r : Done). Writes args.port args.count r output output' errors errors') (sym did.result_is) (of did.told did.works)
+    where
+      of : (told : Done) → (IsErrAnd told (λ fault. by.refuses old new before fault after) × ((output' ≡ output) × (errors' ≡ errors)))
+          ⊎ Works by (ServesDesk net seen args logins output output' errors errors' by.keeper told) old new before after
+          → Writes args.port args.count (both told closed) output output' errors errors'
+      of (Ok value) (inl (refused, quiet)) = absurd refused
+      of (Err fault) (inl (refused, (same, quiet))) = inl (refused_other old new before after fault refused, same, quiet)
+      of told (inr it) =
+          asked_written (desk_keeps by.keeper) net seen output output' errors errors' args it.taken.book.register.staff logins it.taken it.left told closed
+          it.between it.later it.did.serves other
+
+  kept_written : {D J C : Type 0} (logs : Logs M J C) (g : disk.Ghosts D) (opens : Opening M D) (shuts : Shutting M) (ends : Ending M D)
+      (journal : Option (Bor (List ℕ))) (path : List ℕ) (result : Done) (old new : M)
+      → ServesKept net seen args logins output output' errors errors' logs g opens shuts ends journal path result old new
+      → Writes args.port args.count result output output' errors errors'
+  kept_written logs g opens shuts ends journal path result old new (inl (fault, is, line, (shut, same, quiet))) =
       unserved_written output output' errors errors' args.port args.count fault result (line_other fault line) is same quiet
-  path_written args logins g opens shuts ends path result old new (inr visits) =
-      let (files, left, back) = visits.ended in
-      let did = visits.does in
-      subst (λ (r : Done). Writes args.port args.count r output output' errors errors') (sym did.result_is)
-      (over_written args logins over_files did.served visits.closed visits.middle visits.later visits.before visits.after did.serves
-      (closed_other g visits.after left.last files visits.closed left.copies))
+  kept_written logs g opens shuts ends None path result old new (inr visit) =
+      let (files, left, back) = visit.ended in
+      over_written (plain over_files) (λ old new before after fault not. other_as fault _ not.1.refused.told_is (store_other not.1.refused.fault))
+      result visit.middle visit.later visit.before visit.after visit.closed (closed_other g visit.after left.last files visit.closed left.copies) visit.does
+  kept_written logs g opens shuts ends (Some journal) path result old new (inr visit) =
+      let (files, left, back) = visit.ended in
+      over_written (logged over_files logs journal.now) (λ old new before after fault not. not_taken_other over_files logs.steps journal.now old new before after fault not)
+      result visit.middle visit.later visit.before visit.after visit.closed (closed_other g visit.after left.last files visit.closed left.copies) visit.does
 
 module _ {M L R W J C : Type 0} (logs : Logs M J C) (net : loopback.Ghosts M L R W) (seen : Seen R W) (output output' errors errors' : Stream) where
-  -- the same of a register with a journal
-  logged_written : {D : Type 0} (args : ServeArgs) (logins : Option (List LoginRow)) (g : Ghosts D) (journal : List ℕ) (served closed : Done) (old new : M)
-      (before after : Held D) → ServesLogged logs net seen args logins output output' errors errors' g journal served old new before after
-      → IfErr closed (λ fault. fault ≢ Output) → Writes args.port args.count (both served closed) output output' errors errors'
-  logged_written args logins g journal (Ok value) closed old new before after (inl (not, same, quiet)) other = absurd not
-  logged_written args logins g journal (Err fault) closed old new before after (inl (not, same, quiet)) other =
-      inl (not_taken_other g logs.steps journal old new before after fault not, same, quiet)
-  logged_written args logins g journal served closed old new before after (inr taken) other =
-      asked_written (with_journal g logs) net seen output output' errors errors' args taken.taken.book.register.staff logins taken.taken taken.left served closed taken.between taken.later
-      taken.serves other
-
-  logged_path_written : {D : Type 0} (args : ServeArgs) (logins : Option (List LoginRow)) (g : disk.Ghosts D) (opens : Opening M D) (shuts : Shutting M)
-      (ends : Ending M D) (journal path : List ℕ) (result : Done) (old new : M)
-      → ServesLoggedPath logs net seen args logins output output' errors errors' g opens shuts ends journal path result old new
-      → Writes args.port args.count result output output' errors errors'
-  logged_path_written args logins g opens shuts ends journal path result old new (inl (fault, is, line, (shut, same, quiet))) =
-      unserved_written output output' errors errors' args.port args.count fault result (line_other fault line) is same quiet
-  logged_path_written args logins g opens shuts ends journal path result old new (inr visits) =
-      let (files, left, back) = visits.ended in
-      let did = visits.does in
-      subst (λ (r : Done). Writes args.port args.count r output output' errors errors') (sym did.result_is)
-      (logged_written args logins over_files journal did.served visits.closed visits.middle visits.later visits.before visits.after did.serves
-      (closed_other g visits.after left.last files visits.closed left.copies))
-
-  kept_written : {D : Type 0} (args : ServeArgs) (logins : Option (List LoginRow)) (g : disk.Ghosts D) (opens : Opening M D) (shuts : Shutting M)
-      (ends : Ending M D) (journal : Option (Bor (List ℕ))) (path : List ℕ) (result : Done) (old new : M)
-      → ServesKept logs net seen args logins output output' errors errors' g opens shuts ends journal path result old new
-      → Writes args.port args.count result output output' errors errors'
-  kept_written args logins g opens shuts ends None path result old new did =
-      path_written net seen output output' errors errors' args logins g opens shuts ends path result old new did
-  kept_written args logins g opens shuts ends (Some journal) path result old new did =
-      logged_path_written args logins g opens shuts ends journal.now path result old new did
-
   -- what `serve` wrote
   pub serve_written : {D : Type 0} (at : AtPaths) (args : ServeArgs) (g : disk.Ghosts D) (opens : Opening M D) (shuts : Shutting M) (ends : Ending M D)
       (result : Done) (old new : M) → ServesAt logs net seen at args output output' errors errors' g opens shuts ends result old new
       → Writes args.port args.count result output output' errors errors'
   serve_written at args g opens shuts ends result old new (Ok logins, named, did) =
-      kept_written args logins g opens shuts ends args.journal args.database.now result old new did
+      kept_written net seen output output' errors errors' args logins logs g opens shuts ends args.journal args.database.now result old new did
   serve_written at args g opens shuts ends result old new (Err fault, named, (is, untouched, same, quiet)) =
       unserved_written output output' errors errors' args.port args.count fault result (named_other at args.logins fault named) is same quiet

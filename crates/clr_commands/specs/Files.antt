@@ -1,5 +1,5 @@
 -- THE LINES OF A JOURNAL'S FILE, by its bytes.
-use Rattle.std.specs.Prelude.{◌≡◌, ◌⊎◌, ℕ, nat_lt, true, false, List, Option, Result, Ok, Err, length, map}
+use Rattle.std.specs.Prelude.{◌≡◌, ◌≢◌, ◌⊎◌, ℕ, nat_lt, true, false, List, Option, Result, Ok, Err, length, map}
 use Rattle.std.specs.Prelude.{if◌then◌else◌, Vec}
 use Rattle.std.specs.declared.alloc.Global.{Global}
 use Rattle.clr_stream.specs.Failures.{Rose}
@@ -12,7 +12,7 @@ use Rattle.clr_edge.specs.declared.fault.Fault.{Fault}
 use Rattle.clr_edge.specs.declared.fault.Fault.TheVariants.{Journal, Memory}
 use Rattle.clr_edge.specs.declared.fault.JournalFault.{JournalFault}
 use Rattle.clr_edge.specs.declared.fault.JournalFault.TheVariants.{OpenFailed, ReadFailed, TooLong}
-use Rattle.clr_edge.specs.declared.fault.JournalFault.TheVariants.{BadLine}
+use Rattle.clr_edge.specs.declared.fault.JournalFault.TheVariants.{BadLine, SameFile, WriteFailed}
 
 -- a file that holds these bytes could not be opened, or a read of it failed
 abbrev pub FailsToRead : {F : Type 0} → (F → Option (List ℕ)) → (F → ℕ) → Option (List ℕ) → Type 0
@@ -23,9 +23,11 @@ FailsToRead {F} remaining failures bytes = (before : F) × (after : F)
 abbrev pub IsUnread : Fault → Type 0
 IsUnread fault = (fault ≡ Memory) ⊎ (fault ≡ Journal OpenFailed) ⊎ (fault ≡ Journal ReadFailed)
 
--- the fault is one of a journal's file
+-- the fault is one of a journal's file that is only read: not of writing it, nor that it is the
+-- database's
 abbrev pub IsOfFile : Fault → Type 0
-IsOfFile fault = (fault ≡ Memory) ⊎ ((cause : JournalFault) × (fault ≡ Journal cause))
+IsOfFile fault = (fault ≡ Memory) ⊎ ((cause : JournalFault) × (fault ≡ Journal cause)
+    × (cause ≢ WriteFailed) × (cause ≢ SameFile))
 
 -- what the lines come to
 abbrev pub lines_or_fault : {A : Type 0} → Result A BadJournal → Result A Fault

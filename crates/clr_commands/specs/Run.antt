@@ -1,6 +1,6 @@
 -- What `run` prints over a register, and over the opening one of its three files.
 use Rattle.std.specs.Prelude.{◌≡◌, ◌⊎◌, ◌<◌, ◌≤◌, ℕ, List, Option, Some, None, option_map}
-use Rattle.std.specs.Prelude.{Result, Ok, Err, IfErr, IfSome, IsErrOf, length}
+use Rattle.std.specs.Prelude.{Result, Ok, Err, IfErr, IfSome, IsErrOf, OnErr, length}
 use Rattle.std.specs.Borrow.{Bor}
 use Rattle.clr_net.specs.Grid.{Grid}
 use Rattle.clr_net.specs.Network as network
@@ -11,15 +11,14 @@ use Rattle.clr_rules.specs.Good.{IsGood}
 use Rattle.clr_rules.specs.Staffed.{IsStaffed}
 use Rattle.clr_rules.specs.Register.{Register, opening}
 use Rattle.clr_rules.specs.declared.reply.Reply.{Reply}
-use Rattle.clr_desk.specs.Faults.{FailsAsStore}
+use Rattle.clr_desk.specs.Given.{LeadsTo}
 use Rattle.clr_desk.specs.Taking.{Taking, TakesRun}
+use Rattle.clr_desk.specs.declared.commit.Commit as commit
 use Rattle.clr_desk.specs.declared.desk.Desk.{Desk}
 use Rattle.clr_desk.specs.declared.desk_fault.DeskFault.{DeskFault}
-use Rattle.clr_journaled.specs.Journaling.{FailsToo}
-use Rattle.clr_journaled.specs.declared.journaled.Journaled.{Journaled}
 use Rattle.sqlite.specs.Files.{over_files}
-use Rattle.sqlite.specs.Held.{Held, state}
-use Rattle.sqlite.specs.State.{HasCleanDisk, State}
+use Rattle.sqlite.specs.Held.{Held}
+use Rattle.sqlite.specs.State.{State}
 use Rattle.sqlite_disk.specs.declared.Disk as disk
 use Rattle.sqlite_trees.specs.declared.store.Store.{Ghosts}
 use Rattle.clr_args.specs.declared.asked.Files.{Files}
@@ -27,19 +26,17 @@ use Rattle.clr_args.specs.declared.asked.RunArgs.{RunArgs}
 use Rattle.clr_args.specs.declared.asked.RunArgs.TheVariants as over
 use Rattle.clr_args.specs.declared.asked.StoredArgs.{StoredArgs}
 use Rattle.clr_edge.specs.Answers.{unless}
-use Rattle.clr_edge.specs.Database.{HasRegister, IsOfLine, IsOnlyRead, ReadsAs}
-use Rattle.clr_edge.specs.TakenUp.{GoThrough, IsNotTakenUp, IsTakenUp, Logs}
-use Rattle.clr_edge.specs.Visit.{Alone, Comes, Done, Ending, Opening, Shutting}
+use Rattle.clr_edge.specs.Keeping.{WorksWith}
+use Rattle.clr_edge.specs.TakenUp.{Logs}
+use Rattle.clr_edge.specs.Visit.{Comes, Done, Ending, Opening, Shutting}
 use Rattle.clr_edge.specs.Fault.{of_network, of_staff}
 use Rattle.clr_edge.specs.declared.fault.Fault.{Fault}
 use Rattle.clr_edge.specs.declared.fault.Fault.TheVariants.{Input, Memory}
 use Rattle.clr_edge.specs.declared.fault.InputFault.TheVariants.{ReadFailed, TooLong}
 use Rattle.clr_commands.specs.Answers.{Answers, IsMemory}
-use Rattle.clr_commands.specs.Desks.{ThroughJournal}
 use Rattle.clr_commands.specs.Import.{AnswersFiles, FileRows}
 use Rattle.clr_commands.specs.Paths.{AtPaths}
 use Rattle.clr_commands.specs.Replies.{AnswersInput, AnswersOver, asked_commands}
-use Rattle.clr_commands.specs.Stored.{IsUnanswered}
 use Rattle.clr_commands.specs.declared.replies.Printed.{Printed}
 
 -- ---- the input
@@ -129,101 +126,25 @@ abbrev pub printed_after : Result Printed Fault → Done → Result Printed Faul
 printed_after (Ok printed) closed = Ok (record printed { fault = ended_by printed.fault closed })
 printed_after (Err fault) closed = Err fault
 
--- WHAT A RUN LEAVES IN A DATABASE: this was opened and read, which changes nothing; the register
--- that it had is a good one, and the input was answered over it
-pub record RunsIn {T : Type 0} (g : Ghosts T) (before after : Held T) (input : Option (List ℕ))
-    (printed : Printed) : Type 0 where
-  pub opened : Held T
-  pub read : IsOnlyRead g before opened
-  pub register : Register
-  pub good : IsGood register
-  pub staffed : IsStaffed register
-  pub is_register : (R : Register) → HasRegister g R before → HasCleanDisk (state g opened)
-      → register ≡ R
-  pub reads : ReadsAs g before opened register
-  pub left : Register
-  pub bytes : List ℕ
-  pub is_input : IsInput input bytes
-  pub answers : AnswersOver FailsAsStore (state g opened) (state g after) register left bytes
-      printed
+-- WHAT A RUN DID OVER A DESK: it answered the input, or left the desk as it was. Its commands went to
+-- what keeps the changes, and nothing else did
+pub record RunsDesk {K : Type 0} (keeper : commit.Ghosts K) (input : Option (List ℕ))
+    (result : Result Printed Fault) (old new : Desk K) : Type 0 where
+  pub answer : RunsOnDesk keeper.fails keeper.kept keeper.takes old new input result
+  pub none : OnErr result (new ≡ old)
+  pub led : LeadsTo keeper.kept keeper.takes keeper.hears old new
 
--- a run that answers nothing leaves the database as it was; where that is known to have a register,
--- the input was not read, or the database refused
-pub record RunsNot {T : Type 0} (g : Ghosts T) (before after : Held T) (input : Option (List ℕ))
-    (fault : Fault) : Type 0 where
-  pub unanswered : IsUnanswered g before after (IsOfInput input) fault
-  pub known : (R : Register) → HasRegister g R before → HasCleanDisk (state g after)
-      → IsOfLine fault ⊎ IsOfInput input fault
-
-abbrev pub RunsFrom : {T : Type 0} → Ghosts T → Option (List ℕ) → Result Printed Fault → Held T
-    → Held T → Type 0
-RunsFrom g input (Ok printed) before after = RunsIn g before after input printed
-RunsFrom g input (Err fault) before after = RunsNot g before after input fault
-
--- the same of a database that is closed after it
-pub record RunsStored {T : Type 0} (g : Ghosts T) (input : Option (List ℕ))
-    (result : Result Printed Fault) (before after : Held T) (closed : Done) : Type 0 where
-  pub printed : Result Printed Fault
-  pub runs : RunsFrom g input printed before after
-  pub closing : IfErr closed IsOfLine
-  pub result_is : result ≡ printed_after printed closed
-
--- ---- over a stored register with a journal
-
--- a machine that opens journals, and the path of one
-module _ {M J C : Type 0} (logs : Logs M J C) (journal : List ℕ) where
-  -- WHAT A RUN WITH A JOURNAL LEAVES IN A DATABASE: its register was taken up with the journal at the
-  -- path, and the input was answered over it, through the journal. Its commands were put there, and
-  -- no others, and so the journal is let go
-  pub record RunsWithin {T : Type 0} (g : Ghosts T) (old new : M) (before after : Held T)
-      (input : Option (List ℕ)) (printed : Printed) : Type 0 where
-    pub taken : Journaled (Held T) J C
-    pub between : M
-    pub register : Register
-    pub good : IsGood register
-    pub taken_up : IsTakenUp g logs.steps journal old between before taken register
-    pub left : Register
-    pub ended : Journaled (Held T) J C
-    pub went : GoThrough logs.log logs.shows register taken left ended
-    pub after_is : after ≡ ended.keeper
-    pub gone : logs.steps.lets_journal_go between ended.journal new
-    pub bytes : List ℕ
-    pub is_input : IsInput input bytes
-    pub answers : AnswersOver (FailsToo FailsAsStore) (state g taken.keeper) (state g after)
-        register left bytes printed
-    pub put : PutsInput (ThroughJournal logs) left taken bytes answers.told answers.run.ended ended
-
-  -- a run that answers nothing: the register was not taken up, or the input was not read, and then
-  -- the journal is let go as it was taken up
-  abbrev pub RunsUnlogged : {T : Type 0} → Ghosts T → M → M → Held T → Held T → Option (List ℕ)
-      → Fault → Type 0
-  RunsUnlogged {T} g old new before after input fault =
-      IsNotTakenUp g logs.steps journal before fault after old new
-      ⊎ (IsOfInput input fault × (S : Register) × (it : Journaled (Held T) J C) × (between : M)
-      × IsTakenUp g logs.steps journal old between before it S × (after ≡ it.keeper)
-      × logs.steps.lets_journal_go between it.journal new)
-
-  abbrev pub RunsLoggedFrom : {T : Type 0} → Ghosts T → Option (List ℕ) → Result Printed Fault
-      → M → Held T → Held T → M → Type 0
-  RunsLoggedFrom g input (Ok printed) old before after new =
-      RunsWithin g old new before after input printed
-  RunsLoggedFrom g input (Err fault) old before after new =
-      RunsUnlogged g old new before after input fault
-
-  -- the same of a database that is closed after it. Nothing is opened but the journal
-  pub record RunsLogged {T : Type 0} (g : Ghosts T) (input : Option (List ℕ))
-      (result : Result Printed Fault) (middle : M) (before after : Held T) (closed : Done)
-      (later : M) : Type 0 where
-    pub printed : Result Printed Fault
-    pub runs : RunsLoggedFrom g input printed middle before after later
-    pub closing : IfErr closed IsOfLine
-    pub result_is : result ≡ printed_after printed closed
+-- the same, with no step of the machine
+abbrev pub RunsAlone : {M : Type 0} → Option (List ℕ) → (K : Type 0) → commit.Ghosts K
+    → Result Printed Fault → M → M → Desk K → Desk K → Type 0
+RunsAlone input K keeper result old new taken left =
+    (new ≡ old) × RunsDesk keeper input result taken left
 
 -- with a journal or without one
 abbrev pub RunsOver : {M J C T : Type 0} → Logs M J C → Ghosts T → Option (Bor (List ℕ))
     → Option (List ℕ) → Result Printed Fault → M → Held T → Held T → Done → M → Type 0
-RunsOver logs g None input = Alone (RunsStored g input)
-RunsOver logs g (Some journal) input = RunsLogged logs journal.now g input
+RunsOver logs g journal input =
+    WorksWith logs g journal (Unit {0}) (RunsAlone input) printed_after
 
 -- over the database at a path, which is closed after it
 abbrev pub RunsKept : {M J C D : Type 0} → Logs M J C → (g : disk.Ghosts D) → Opening M D

@@ -1,19 +1,18 @@
 //! The subcommand `board`: what clearances and switch orders are not closed.
-ghost use Rattle.std.specs.Prelude.{◌≡◌, IfErr, IfOk, Ok, string_bytes};
+ghost use Rattle.std.specs.Prelude.{◌≡◌, IfErr, IfOk, string_bytes};
 ghost use Rattle.clr_print.specs.Printed.{board_text};
-ghost use Rattle.clr_commands.specs.Answers.{IsMemory};
 ghost use Rattle.clr_commands.specs.Faults.{IsOfSubcommand};
-ghost use Rattle.clr_commands.specs.Stored.{PrintsBoard, PrintsOf};
+ghost use Rattle.clr_commands.specs.Stored.{PrintsBoard};
 ghost use Rattle.clr_edge.specs.Visit.{Comes};
 
 use clr_args::asked::{BoardArgs, Offset};
 use clr_book::Book;
-use clr_edge::database::{Databases, close, desk_over};
+use clr_edge::database::{Databases, close};
 use clr_edge::fault::Fault;
+use clr_edge::taking_up::open_desk;
 use clr_print::print_board;
 use clr_rules::{Hold, PointState, Record, StepRow};
 use clr_shelf::Shelf;
-use sqlite::{Alter, Connection};
 use std::alloc::Global;
 
 /// What `board DB [--offset MINUTES]` prints. It is also printed where the database cannot be closed,
@@ -23,29 +22,10 @@ pub fn board<R: Databases>(alloc: Global, rt: &mut R, args: &BoardArgs<'_>) -> R
         (PrintsBoard args.now) result rt.old rt.new }
     ensures faults { IfErr result IsOfSubcommand }
 {
-    let connection = rt.stored(args.database)?;
-    let (printed, connection) = board_over(alloc, connection, args.offset);
-    let _closed = close(rt, connection);
+    let desk = open_desk(alloc, rt, args.database)?;
+    let printed = board_of(alloc, desk.book(), args.offset);
+    let _closed = close(rt, desk.end().end());
     printed
-}
-
-/// The printed board of the register that a database has.
-fn board_over<S: Alter + Drop>(
-    alloc: Global,
-    connection: Connection<S>,
-    offset: Offset,
-) -> (Result<String, Fault>, Connection<S>)
-    ensures printed { PrintsOf S.Store IsMemory (λ Q. Ok (board_text Q offset.minutes)) result.0
-        connection result.1 }
-    ensures faults { IfErr result.0 IsOfSubcommand }
-{
-    match desk_over(alloc, connection) {
-        Ok(desk) => {
-            let printed = board_of(alloc, desk.book(), offset);
-            (printed, desk.end().end())
-        }
-        Err((fault, connection)) => (Err(fault), connection),
-    }
 }
 
 /// The printed board of a book.

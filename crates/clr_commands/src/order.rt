@@ -2,18 +2,18 @@
 ghost use Rattle.std.specs.Prelude.{◌≡◌, IfErr, option_map};
 ghost use Rattle.clr_commands.specs.Answers.{GivesText, IsMemory};
 ghost use Rattle.clr_commands.specs.Faults.{IsOfSubcommand};
-ghost use Rattle.clr_commands.specs.Order.{order_asked_for, order_told, read_round};
-ghost use Rattle.clr_commands.specs.Stored.{IsOfOrder, PrintsOf, PrintsOrder};
+ghost use Rattle.clr_commands.specs.Order.{order_told, read_round};
+ghost use Rattle.clr_commands.specs.Stored.{IsOfOrder, PrintsOrder};
 ghost use Rattle.clr_edge.specs.Visit.{Comes};
 
 use clr_args::asked::{Offset, OrderArgs};
 use clr_book::Book;
-use clr_edge::database::{Databases, close, desk_over};
+use clr_edge::database::{Databases, close};
 use clr_edge::fault::Fault;
+use clr_edge::taking_up::open_desk;
 use clr_print::print_order;
 use clr_rules::{ClearanceId, Hold, PointState, Record, StepRow};
 use clr_shelf::Shelf;
-use sqlite::{Alter, Connection};
 use std::alloc::Global;
 
 /// What `order DB CLEARANCE ROUND [--offset MINUTES]` prints. It is also printed where
@@ -23,29 +23,10 @@ pub fn order<R: Databases>(alloc: Global, rt: &mut R, args: &OrderArgs<'_>) -> R
         (PrintsOrder args.now) result rt.old rt.new }
     ensures faults { IfErr result IsOfSubcommand }
 {
-    let connection = rt.stored(args.database)?;
-    let (printed, connection) = order_over(alloc, connection, args);
-    let _closed = close(rt, connection);
+    let desk = open_desk(alloc, rt, args.database)?;
+    let printed = order_of(alloc, desk.book(), args.clearance, args.round, args.offset);
+    let _closed = close(rt, desk.end().end());
     printed
-}
-
-/// The printed order of the register that a database has.
-fn order_over<S: Alter + Drop>(
-    alloc: Global,
-    connection: Connection<S>,
-    args: &OrderArgs<'_>,
-) -> (Result<String, Fault>, Connection<S>)
-    ensures printed { PrintsOf S.Store IsOfOrder (λ Q. order_asked_for Q args.now) result.0
-        connection result.1 }
-    ensures faults { IfErr result.0 IsOfSubcommand }
-{
-    match desk_over(alloc, connection) {
-        Ok(desk) => {
-            let printed = order_of(alloc, desk.book(), args.clearance, args.round, args.offset);
-            (printed, desk.end().end())
-        }
-        Err((fault, connection)) => (Err(fault), connection),
-    }
 }
 
 /// The printed order of a book that two words name.

@@ -1,7 +1,6 @@
 //! The subcommand `run`: the commands of standard input, run as one list over a register in memory
 //! or over a stored one.
 ghost use Rattle.std.specs.Prelude.{◌≡◌, ◌≢◌, Err, IfErr, IfOk, IsErrOf, Ok, OnErr, OnOk};
-ghost use Rattle.sqlite.specs.Files.{over_files};
 ghost use Rattle.clr_stream.specs.Failures.{Rose};
 ghost use Rattle.clr_rules.specs.Run.{IsReached};
 ghost use Rattle.clr_desk.specs.Given.{LeadsTo};
@@ -9,25 +8,25 @@ ghost use Rattle.clr_commands.specs.Faults.{FailsAsSubcommand, IsOfSubcommand};
 ghost use Rattle.clr_commands.specs.Import.{lists_of};
 ghost use Rattle.clr_commands.specs.Paths.{at_paths};
 ghost use Rattle.clr_commands.specs.Run.{IsInput, IsOfInput, IsOpeningOf, ReadsInput, RunsAsked};
-ghost use Rattle.clr_commands.specs.Run.{RunsAt, RunsFrom, RunsKept, RunsLogged, RunsLoggedFrom};
-ghost use Rattle.clr_commands.specs.Run.{RunsOnDesk, RunsStored};
+ghost use Rattle.clr_commands.specs.Run.{RunsAt, RunsDesk, RunsKept, RunsOnDesk};
 ghost use Rattle.clr_commands.specs.Run.{ended_by, printed_after, rows_fault};
+ghost use Rattle.clr_edge.specs.Keeping.{IsDoneOver};
 ghost use Rattle.clr_edge.specs.TakenUp.{logs};
-ghost use Rattle.clr_edge.specs.Visit.{Alone, Comes};
 
 use crate::import::{Rows, rows_at};
 use crate::replies::{Printed, print, read_lines};
 use clr_args::asked::{Files, RunArgs, StoredArgs};
 use clr_desk::{Commit, Desk, Unkept};
-use clr_edge::database::{Databases, close, desk_over};
+use clr_edge::database::Databases;
 use clr_edge::fault::{Fault, InputFault};
 use clr_edge::journals::Journals;
 use clr_edge::paths::Opens;
-use clr_edge::taking_up::journaled_desk;
+use clr_edge::taking_up::{Opened, let_go, take_up};
+use clr_journal::Journal;
+use clr_journaled::{Clock, Journaled};
 use clr_net::Network;
 use clr_staff::Staff;
 use clr_stream::{CountedRead, read_whole};
-use sqlite::{Alter, Connection};
 use std::alloc::Global;
 
 /// The most bytes of standard input.
@@ -55,9 +54,10 @@ pub fn run<'a, R: Databases + Journals, O: Opens<'a>, I: CountedRead>(
     }
 }
 
-/// The replies to the commands of the input, over the register that a database has, with a journal
-/// or without one.
-fn run_stored<R: Databases + Journals, I: CountedRead>(
+/// The replies to the commands of the input, over the register that a database has. With a journal
+/// each command has its line there before it is carried out. Both are opened before the input is
+/// read.
+pub fn run_stored<R: Databases + Journals, I: CountedRead>(
     alloc: Global,
     rt: &mut R,
     args: &StoredArgs<'_>,
@@ -70,78 +70,29 @@ fn run_stored<R: Databases + Journals, I: CountedRead>(
         (I.failure_count input.new) input.old input.new result }
     ensures faults { FailsAsSubcommand result }
 {
-    match args.journal {
-        Some(journal) => run_with_journal(alloc, rt, args.database, journal, input),
-        None => run_of_database(alloc, rt, args.database, input),
-    }
+    let mut opened = take_up(alloc, rt, args.database, args.journal)?;
+    let printed = run_opened(alloc, &mut opened, input);
+    let closed = let_go(rt, opened);
+    printed_after(printed, closed)
 }
 
-/// The replies to the commands of the input, over the register that the database at a path has, each
-/// of which has its line in the journal at another path before it is carried out. Both are opened
-/// before the input is read.
-pub fn run_with_journal<R: Databases + Journals, I: CountedRead>(
+/// The replies to the commands of the input, over a register that was taken up.
+fn run_opened<K: Commit, J: Journal + Drop, C: Clock, I: CountedRead>(
     alloc: Global,
-    rt: &mut R,
-    path: &str,
-    journal: &str,
+    opened: &mut Opened<K, J, C>,
     input: &mut I,
 ) -> Result<Printed, Fault>
-    ensures visit { Comes R.Medium.Disk R.opens R.shuts R.ends path.now
-        (RunsLogged (logs R.Journals R.Log.Journal R.Time.shows) journal.now over_files
-        (I.remaining input.old)) result rt.old rt.new }
+    ensures ran { IsDoneOver (RunsDesk K.Commit (I.remaining input.old) result)
+        (RunsDesk ⟦<Journaled<K, J, C> as Commit>⟧ (I.remaining input.old) result)
+        opened.old opened.new }
     ensures input { ReadsInput (I.remaining input.old) (I.failure_count input.old)
         (I.failure_count input.new) input.old input.new result }
     ensures faults { FailsAsSubcommand result }
 {
-    let connection = rt.stored(path)?;
-    let (printed, connection) = run_logged(alloc, rt, connection, journal, input);
-    let closed = close(rt, connection);
-    printed_after(printed, closed)
-}
-
-/// The replies to the commands of the input, over the register that a database has, with the journal
-/// at a path.
-fn run_logged<S: Alter + Drop, L: Journals, I: CountedRead>(
-    alloc: Global,
-    rt: &mut L,
-    connection: Connection<S>,
-    journal: &str,
-    input: &mut I,
-) -> (Result<Printed, Fault>, Connection<S>)
-    ensures runs { RunsLoggedFrom (logs L.Journals L.Log.Journal L.Time.shows) journal.now S.Store
-        (I.remaining input.old) result.0 rt.old connection result.1 rt.new }
-    ensures input { ReadsInput (I.remaining input.old) (I.failure_count input.old)
-        (I.failure_count input.new) input.old input.new result.0 }
-{
-    match journaled_desk(alloc, rt, connection, journal) {
-        Ok(mut desk) => {
-            let printed = run_over(alloc, &mut desk, input);
-            let (store, log) = desk.end().end();
-            rt.let_journal_go(log);
-            (printed, store.end())
-        }
-        Err((fault, connection)) => (Err(fault), connection),
+    match opened {
+        Opened::Plain(desk) => run_over(alloc, desk, input),
+        Opened::Logged(desk) => run_over(alloc, desk, input),
     }
-}
-
-/// The replies to the commands of the input, over the register that the database at a path has. The
-/// register is opened before the input is read.
-pub fn run_of_database<R: Databases, I: CountedRead>(
-    alloc: Global,
-    rt: &mut R,
-    path: &str,
-    input: &mut I,
-) -> Result<Printed, Fault>
-    ensures visit { Comes R.Medium.Disk R.opens R.shuts R.ends path.now
-        (Alone (RunsStored over_files (I.remaining input.old))) result rt.old rt.new }
-    ensures input { ReadsInput (I.remaining input.old) (I.failure_count input.old)
-        (I.failure_count input.new) input.old input.new result }
-    ensures faults { FailsAsSubcommand result }
-{
-    let connection = rt.stored(path)?;
-    let (printed, connection) = run_connected(alloc, connection, input);
-    let closed = close(rt, connection);
-    printed_after(printed, closed)
 }
 
 /// What was printed, with the fault of closing its database, if there was no other.
@@ -168,25 +119,6 @@ fn ended_by(fault: Option<Fault>, closed: Result<(), Fault>) -> Option<Fault>
         (Some(fault), _) => Some(fault),
         (None, Err(fault)) => Some(fault),
         (None, Ok(())) => None,
-    }
-}
-
-/// The replies to the commands of the input, over the register that a database has.
-fn run_connected<S: Alter + Drop, I: CountedRead>(
-    alloc: Global,
-    connection: Connection<S>,
-    input: &mut I,
-) -> (Result<Printed, Fault>, Connection<S>)
-    ensures runs { RunsFrom S.Store (I.remaining input.old) result.0 connection result.1 }
-    ensures input { ReadsInput (I.remaining input.old) (I.failure_count input.old)
-        (I.failure_count input.new) input.old input.new result.0 }
-{
-    match desk_over(alloc, connection) {
-        Ok(mut desk) => {
-            let printed = run_over(alloc, &mut desk, input);
-            (printed, desk.end().end())
-        }
-        Err((fault, connection)) => (Err(fault), connection),
     }
 }
 

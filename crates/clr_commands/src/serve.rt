@@ -1,6 +1,7 @@
 //! The subcommand `serve`: the register of a database, answered over HTTP.
 ghost use Rattle.std.specs.Prelude.{◌≡◌, ◌≢◌, Err, IfErr, OnErr, OnOk, false, true};
 ghost use Rattle.std.specs.IoError.{error_kind};
+ghost use Rattle.clr_edge.specs.Keeping.{IsDoneOver};
 ghost use Rattle.clr_edge.specs.TakenUp.{logs};
 ghost use Rattle.clr_edge.specs.Visit.{both};
 ghost use Rattle.clr_rules.specs.Good.{IsGood};
@@ -11,12 +12,13 @@ ghost use Rattle.clr_commands.specs.Connections.{accept_fault, seen, tries_of};
 ghost use Rattle.clr_commands.specs.ConnectionLaws.{ConnectionsHaveRun, EndsEarly};
 ghost use Rattle.clr_commands.specs.Logins.{AreLoginsAt, NamesLogins, terms_of, terms_with};
 ghost use Rattle.clr_commands.specs.Paths.{at_paths};
-ghost use Rattle.clr_commands.specs.Serve.{ServesAt, ServesKeeper, ServesKept, ServesLogged};
-ghost use Rattle.clr_commands.specs.Serve.{ServesLoggedPath, ServesOn, ServesOver, ServesPath};
+ghost use Rattle.clr_commands.specs.Serve.{ServesAt, ServesDesk, ServesKeeper, ServesKept};
+ghost use Rattle.clr_commands.specs.Serve.{ServesOn};
 
 use crate::serve_line::{connection_line, serving_line};
 use clr_args::asked::ServeArgs;
-use clr_edge::database::{Databases, close, desk_over};
+use clr_desk::{Commit, Desk};
+use clr_edge::database::Databases;
 use clr_edge::fault::Fault;
 use clr_edge::files::logins_from;
 use clr_edge::journals::Journals;
@@ -24,13 +26,14 @@ use clr_edge::logins::known_logins;
 use clr_edge::loopback::{Connection, Loopback, listen};
 use clr_edge::output::write_out;
 use clr_edge::paths::Opens;
-use clr_edge::taking_up::journaled_desk;
+use clr_edge::taking_up::{Opened, let_go, take_up};
 use clr_http::{HttpFault, Registrar, Served, Service, may_be_unread, serve_request};
+use clr_journal::Journal;
+use clr_journaled::{Clock, Journaled};
 use clr_logins::Logins;
 use clr_rules::laws::run_headline::headline_holds_of_runs;
 use clr_staff::Staff;
 use clr_stream::{CountedFlush, CountedRead};
-use sqlite::Alter;
 use std::alloc::Global;
 use std::io;
 
@@ -88,69 +91,68 @@ fn serve_kept<R: Databases + Journals + Loopback, W: CountedFlush, E: CountedFlu
     output: &mut W,
     errors: &mut E,
 ) -> Result<(), Fault>
-    ensures visit { ServesKept (logs R.Journals R.Log.Journal R.Time.shows) R.Loopback
+    ensures visit { ServesKept R.Loopback
         (seen R.Reader.remaining R.Reader.failure_count R.Writer.stream) args.now logins
         (W.stream output.old) (W.stream output.new) (E.stream errors.old) (E.stream errors.new)
-        R.Medium.Disk R.opens R.shuts R.ends args.now.journal args.now.database.now result
-        rt.old rt.new }
+        (logs R.Journals R.Log.Journal R.Time.shows) R.Medium.Disk R.opens R.shuts R.ends
+        args.now.journal args.now.database.now result rt.old rt.new }
 {
-    match args.journal {
-        Some(journal) => serve_with_journal(alloc, rt, args, journal, logins, output, errors),
-        None => serve_path(alloc, rt, args, logins, output, errors),
-    }
+    let mut opened = take_up(alloc, rt, args.database, args.journal)?;
+    let served = serve_opened(alloc, rt, &mut opened, args, logins, output, errors);
+    let closed = let_go(rt, opened);
+    both(served, closed)
 }
 
-/// Serves the register of the database at a path, whose commands have their lines in the journal at
-/// another path before they are carried out.
-fn serve_with_journal<R: Databases + Journals + Loopback, W: CountedFlush, E: CountedFlush>(
+/// Serves a register that was taken up, on the terms that its staff allows.
+fn serve_opened<K, J, C, L, W, E>(
     alloc: Global,
-    rt: &mut R,
+    net: &mut L,
+    opened: &mut Opened<K, J, C>,
     args: &ServeArgs<'_>,
-    journal: &str,
     logins: Option<Logins>,
     output: &mut W,
     errors: &mut E,
 ) -> Result<(), Fault>
-    ensures visit { ServesLoggedPath (logs R.Journals R.Log.Journal R.Time.shows) R.Loopback
-        (seen R.Reader.remaining R.Reader.failure_count R.Writer.stream) args.now logins
-        (W.stream output.old) (W.stream output.new) (E.stream errors.old) (E.stream errors.new)
-        R.Medium.Disk R.opens R.shuts R.ends journal.now args.now.database.now result
-        rt.old rt.new }
+where
+    K: Commit,
+    J: Journal + Drop,
+    C: Clock,
+    L: Loopback,
+    W: CountedFlush,
+    E: CountedFlush,
+    ensures { IsDoneOver
+        (ServesDesk L.Loopback (seen L.Reader.remaining L.Reader.failure_count L.Writer.stream)
+        args.now logins (W.stream output.old) (W.stream output.new)
+        (E.stream errors.old) (E.stream errors.new) K.Commit result net.old net.new)
+        (ServesDesk L.Loopback (seen L.Reader.remaining L.Reader.failure_count L.Writer.stream)
+        args.now logins (W.stream output.old) (W.stream output.new)
+        (E.stream errors.old) (E.stream errors.new) ⟦<Journaled<K, J, C> as Commit>⟧
+        result net.old net.new)
+        opened.old opened.new }
 {
-    let found = rt.stored(args.database)?;
-    let (served, connection) = serve_logged(
-        alloc, rt, found, args, journal, logins, output, errors,
-    );
-    let closed = close(rt, connection);
-    both(served, closed)
+    match opened {
+        Opened::Plain(desk) => serve_asked(alloc, net, desk, args, logins, output, errors),
+        Opened::Logged(desk) => serve_asked(alloc, net, desk, args, logins, output, errors),
+    }
 }
 
-/// Serves the register that a database has, with the journal at a path, and gives the database back.
-fn serve_logged<S: Alter + Drop, L: Loopback + Journals, W: CountedFlush, E: CountedFlush>(
+/// The same over a desk.
+fn serve_asked<K: Commit, L: Loopback, W: CountedFlush, E: CountedFlush>(
     alloc: Global,
     net: &mut L,
-    connection: sqlite::Connection<S>,
+    desk: &mut Desk<K>,
     args: &ServeArgs<'_>,
-    journal: &str,
     logins: Option<Logins>,
     output: &mut W,
     errors: &mut E,
-) -> (Result<(), Fault>, sqlite::Connection<S>)
-    ensures served { ServesLogged (logs L.Journals L.Log.Journal L.Time.shows) L.Loopback
+) -> Result<(), Fault>
+    ensures { ServesDesk L.Loopback
         (seen L.Reader.remaining L.Reader.failure_count L.Writer.stream) args.now logins
         (W.stream output.old) (W.stream output.new) (E.stream errors.old) (E.stream errors.new)
-        S.Store journal.now result.0 net.old net.new connection result.1 }
+        K.Commit result net.old net.new desk.old desk.new }
 {
-    match journaled_desk(alloc, net, connection, journal) {
-        Ok(mut desk) => {
-            let asked = terms_of(args, desk.book().staff(), logins);
-            let served = serve_on(alloc, net, &mut desk, asked, output, errors);
-            let (store, log) = desk.end().end();
-            net.let_journal_go(log);
-            (served, store.end())
-        }
-        Err((fault, connection)) => (Err(fault), connection),
-    }
+    let terms = terms_of(args, desk.book().staff(), logins);
+    serve_on(alloc, net, desk, terms, output, errors)
 }
 
 /// The logins of the file at a path, if one is named.
@@ -182,26 +184,6 @@ fn logins_of<'a, O: Opens<'a>>(alloc: Global, paths: &O, path: &'a str) -> Resul
     Ok(Logins::new(rows))
 }
 
-/// Serves the register of the database at a path, with these logins.
-fn serve_path<R: Databases + Loopback, W: CountedFlush, E: CountedFlush>(
-    alloc: Global,
-    rt: &mut R,
-    args: &ServeArgs<'_>,
-    logins: Option<Logins>,
-    output: &mut W,
-    errors: &mut E,
-) -> Result<(), Fault>
-    ensures visit { ServesPath R.Loopback
-        (seen R.Reader.remaining R.Reader.failure_count R.Writer.stream) args.now logins
-        (W.stream output.old) (W.stream output.new) (E.stream errors.old) (E.stream errors.new)
-        R.Medium.Disk R.opens R.shuts R.ends args.now.database.now result rt.old rt.new }
-{
-    let connection = rt.stored(args.database)?;
-    let (served, connection) = serve_over(alloc, rt, connection, args, logins, output, errors);
-    let closed = close(rt, connection);
-    both(served, closed)
-}
-
 /// The fault of a server, or that of closing its database.
 fn both(served: Result<(), Fault>, closed: Result<(), Fault>) -> Result<(), Fault>
     ensures { result ≡ both served closed }
@@ -209,31 +191,6 @@ fn both(served: Result<(), Fault>, closed: Result<(), Fault>) -> Result<(), Faul
     match served {
         Ok(()) => closed,
         Err(fault) => Err(fault),
-    }
-}
-
-/// Serves the register that a database has, and gives the database back.
-fn serve_over<S: Alter + Drop, L: Loopback, W: CountedFlush, E: CountedFlush>(
-    alloc: Global,
-    net: &mut L,
-    connection: sqlite::Connection<S>,
-    args: &ServeArgs<'_>,
-    logins: Option<Logins>,
-    output: &mut W,
-    errors: &mut E,
-) -> (Result<(), Fault>, sqlite::Connection<S>)
-    ensures served { ServesOver L.Loopback
-        (seen L.Reader.remaining L.Reader.failure_count L.Writer.stream) args.now logins
-        (W.stream output.old) (W.stream output.new) (E.stream errors.old) (E.stream errors.new)
-        S.Store result.0 net.old net.new connection result.1 }
-{
-    match desk_over(alloc, connection) {
-        Ok(mut desk) => {
-            let terms = terms_of(args, desk.book().staff(), logins);
-            let served = serve_on(alloc, net, &mut desk, terms, output, errors);
-            (served, desk.end().end())
-        }
-        Err((fault, connection)) => (Err(fault), connection),
     }
 }
 

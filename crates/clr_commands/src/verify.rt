@@ -3,7 +3,6 @@ ghost use Rattle.std.specs.Prelude.{IfErr};
 ghost use Rattle.clr_commands.specs.Answers.{IsMemory, Prints};
 ghost use Rattle.clr_commands.specs.Faults.{IsOfSubcommand};
 ghost use Rattle.clr_commands.specs.Paths.{at_paths};
-ghost use Rattle.clr_commands.specs.Stored.{AnswersOf};
 ghost use Rattle.clr_commands.specs.Verify.{IsOfVerify, IsVerified, RunsJournalAt, Verifies};
 ghost use Rattle.clr_commands.specs.Verify.{VerifiesAt};
 ghost use Rattle.clr_edge.specs.Visit.{Comes};
@@ -13,11 +12,11 @@ use crate::import::rows_at;
 use crate::run::desk_of_rows;
 use clr_args::asked::VerifyArgs;
 use clr_desk::DeskBook;
-use clr_edge::database::{Databases, close, desk_over};
+use clr_edge::database::{Databases, close};
 use clr_edge::fault::{Fault, JournalFault, VerifyFault};
 use clr_edge::paths::Opens;
+use clr_edge::taking_up::open_desk;
 use clr_verify::{Rerun, RerunFault, compare_with, run_again};
-use sqlite::{Alter, Connection};
 use std::alloc::Global;
 
 /// What `verify DB JOURNAL SECTIONS POINTS STAFF` prints: how many commands of the journal were
@@ -39,9 +38,9 @@ pub fn verify<'a, R: Databases, O: Opens<'a>>(
     ensures faults { IfErr result IsOfSubcommand }
 {
     let rerun = run_of_journal(alloc, paths, args)?;
-    let connection = rt.stored(args.database)?;
-    let (printed, connection) = verify_over(alloc, connection, &rerun);
-    let _closed = close(rt, connection);
+    let desk = open_desk(alloc, rt, args.database)?;
+    let printed = verified(alloc, &rerun, desk.book());
+    let _closed = close(rt, desk.end().end());
     printed
 }
 
@@ -64,25 +63,6 @@ fn run_of_journal<'a, O: Opens<'a>>(
         Err(RerunFault::BadLine(place)) => Err(Fault::Journal(JournalFault::BadLine(place))),
         Err(RerunFault::Reply(number)) => Err(Fault::Verify(VerifyFault::Reply(number))),
         Err(RerunFault::NoMemory) => Err(Fault::Memory),
-    }
-}
-
-/// Compares the register that a database has with that of a run.
-fn verify_over<S: Alter + Drop>(
-    alloc: Global,
-    connection: Connection<S>,
-    rerun: &Rerun,
-) -> (Result<String, Fault>, Connection<S>)
-    ensures printed { AnswersOf S.Store IsOfVerify (IsVerified rerun.now) result.0
-        connection result.1 }
-    ensures faults { IfErr result.0 IsOfSubcommand }
-{
-    match desk_over(alloc, connection) {
-        Ok(desk) => {
-            let printed = verified(alloc, rerun, desk.book());
-            (printed, desk.end().end())
-        }
-        Err((fault, connection)) => (Err(fault), connection),
     }
 }
 

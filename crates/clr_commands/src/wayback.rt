@@ -5,24 +5,24 @@ ghost use Rattle.clr_rules.specs.IdText.{read_id};
 ghost use Rattle.clr_rules.specs.Staffed.{IsStaffed};
 ghost use Rattle.clr_commands.specs.Answers.{GivesText, IsMemory, Prints};
 ghost use Rattle.clr_commands.specs.Faults.{IsOfSubcommand};
-ghost use Rattle.clr_commands.specs.Stored.{AnswersOf};
-ghost use Rattle.clr_commands.specs.WayBack.{GivesBackTo, IsOfWayBack, IsWayBackOf};
+ghost use Rattle.clr_commands.specs.WayBack.{GivesBackTo, IsOfWayBack};
 ghost use Rattle.clr_commands.specs.WayBack.{PrintsWayBack, way_back_to};
 ghost use Rattle.clr_edge.specs.Visit.{Comes};
 
 use clr_args::asked::WayBackArgs;
 use clr_book::Book;
-use clr_edge::database::{Databases, close, desk_over};
+use clr_edge::database::{Databases, close};
 use clr_edge::fault::Fault;
+use clr_edge::taking_up::open_desk;
 use clr_rules::{ClearanceId, Hold, PointState, Record, StepRow};
 use clr_shelf::Shelf;
 use clr_wayback::{WayBack, print_way_back, way_back};
-use sqlite::{Alter, Connection};
 use std::alloc::Global;
 
 /// What `wayback DB CLEARANCE` prints: the commands by which the clearance or switch order is given
 /// back, each on a line that `run` takes; nothing where it is Closed. It is also printed where the
-/// database cannot be closed, as on a full disk.
+/// database cannot be closed, as on a full disk. The commands are tried in the book alone, so the
+/// database is only read.
 pub fn wayback<R: Databases>(
     alloc: Global,
     rt: &mut R,
@@ -32,31 +32,11 @@ pub fn wayback<R: Databases>(
         (PrintsWayBack args.now) result rt.old rt.new }
     ensures faults { IfErr result IsOfSubcommand }
 {
-    let connection = rt.stored(args.database)?;
-    let (printed, connection) = wayback_over(alloc, connection, args);
-    let _closed = close(rt, connection);
+    let desk = open_desk(alloc, rt, args.database)?;
+    let (book, store) = desk.parted();
+    let printed = wayback_of(alloc, book, args.clearance);
+    let _closed = close(rt, store.end());
     printed
-}
-
-/// The way back in the register that a database has. The commands are tried in the book alone, so
-/// the database is only read.
-fn wayback_over<S: Alter + Drop>(
-    alloc: Global,
-    connection: Connection<S>,
-    args: &WayBackArgs<'_>,
-) -> (Result<String, Fault>, Connection<S>)
-    ensures printed { AnswersOf S.Store IsOfWayBack (IsWayBackOf args.now) result.0 connection
-        result.1 }
-    ensures faults { IfErr result.0 IsOfSubcommand }
-{
-    match desk_over(alloc, connection) {
-        Ok(desk) => {
-            let (book, store) = desk.parted();
-            let printed = wayback_of(alloc, book, args.clearance);
-            (printed, store.end())
-        }
-        Err((fault, connection)) => (Err(fault), connection),
-    }
 }
 
 /// The way back of the clearance that a word names, in a good book, which is used up.

@@ -195,7 +195,7 @@ IsOfStore-line fault (inl memory) = inl memory
 IsOfStore-line fault (inr sql) = inr (store.Sql, sql)
 
 -- outside a transaction a connection shows what is committed
-abbrev IsSettled : State → Type 0
+abbrev pub IsSettled : State → Type 0
 IsSettled s = s.in_transaction ≡ false → IsTrue s.is_open → s.now ≡ s.committed
 
 -- so where it shows the same, the same is committed

@@ -1,2 +1,3 @@
 pub mod Databases
+pub mod Keeping
 pub mod TakenUp

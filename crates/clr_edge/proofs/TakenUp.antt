@@ -1,24 +1,22 @@
 -- A register taken up with its journal.
 use Rattle.std.proofs.Common.{◌≡◌, ℕ, inl, inr, refl, subst, sym, List, Option}
 use Rattle.sqlite.specs.Held.{Held, state}
-use Rattle.sqlite.specs.State.{HasCleanDisk}
 use Rattle.sqlite_trees.specs.declared.store.Store.{Ghosts}
-use Rattle.clr_rules.specs.Good.{IsGood}
-use Rattle.clr_rules.specs.Staffed.{IsStaffed}
 use Rattle.clr_rules.specs.Register.{Register}
 use Rattle.clr_desk.specs.Kept.{Keeps}
 use Rattle.clr_journaled.specs.declared.journaled.Journaled.{Journaled}
-use Rattle.clr_edge.specs.Database.{HasRegister, IsOnlyRead, ReadsAs}
+use Rattle.clr_edge.specs.Database.{IsOnlyRead}
 use Rattle.clr_edge.specs.Journals.{IsKept, IsOfBadLine, IsOfOpening, IsOfTakingUp, IsRedoneOver}
+use Rattle.clr_edge.specs.Keeping.{IsReadFrom}
 use Rattle.clr_edge.specs.TakenUp.{IsNotTakenUp, IsTakenUp}
 use Rattle.clr_edge.specs.declared.fault.Fault.{Fault}
 use Rattle.clr_edge.specs.declared.journals.Journals as journals
 
 module _ {M J C T : Type 0} (g : Ghosts T) (at : journals.Ghosts M J C) (path : List ℕ) (old new : M) (before opened : Held T) (R : Register)
-    (read : IsOnlyRead g before opened) (good : IsGood R) (staffed : IsStaffed R)
-    (is_register : (K : Register) → HasRegister g K before → HasCleanDisk (state g opened) → R ≡ K) (reads : ReadsAs g before opened R) where
+    (is : IsReadFrom g before opened R) where
   abbrev kept : (after : Held T) (S : Register) → Keeps (state g opened) R (state g after) S → IsKept g before after S
-  kept after S keeps = record { opened = opened; read = read; first = R; good = good; staffed = staffed; is_register = is_register; reads = reads; keeps = keeps }
+  kept after S keeps =
+      record { opened = opened; read = is.read; first = R; good = is.fit.0; staffed = is.fit.1; is_register = is.is_register; reads = is.reads; keeps = keeps }
 
   pub takes_up : (journal : J) (last : Option (List ℕ)) (clock : C) (it : Journaled (Held T) J C) (S : Register)
       → at.opens_journal old path journal last new → at.has_time new clock → IsRedoneOver g journal last clock opened R it S
@@ -26,7 +24,7 @@ module _ {M J C T : Type 0} (g : Ghosts T) (at : journals.Ghosts M J C) (path : 
   takes_up journal last clock it S opens time redone = record {
     kept = kept it.keeper S redone.keeps;
     entry = redone.entry;
-    register = redone.register good;
+    register = redone.register is.fit.0;
     journal = record {
       last = last;
       opened = subst (λ (j : J). at.opens_journal old path j last new) (sym redone.journal_is) opens;
@@ -54,4 +52,4 @@ module _ {M J C T : Type 0} (g : Ghosts T) (at : journals.Ghosts M J C) (path : 
 
   pub not_opened : (after : Held T) (fault : Fault) → after ≡ opened → IsOfOpening fault → at.shuts_journal old path fault new
       → IsNotTakenUp g at path before fault after old new
-  not_opened after fault same of shuts = inr (inl (of, subst (λ (h : Held T). IsOnlyRead g before h) (sym same) read, shuts))
+  not_opened after fault same of shuts = inr (inl (of, subst (λ (h : Held T). IsOnlyRead g before h) (sym same) is.read, shuts))

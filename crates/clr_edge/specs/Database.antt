@@ -67,7 +67,7 @@ pub record HasRegister {S : Type 0} (g : Ghosts S) (R : Register) (connection : 
 
 -- a database of version 2 was read, and not changed: it has the tables of a register and nothing
 -- else, and `meta` its one row. They are the same where the disk is clean and the connection open,
--- and a crash leaves what it left before
+-- and so is what was committed last; a crash leaves what it left before
 pub record IsOnlyRead {S : Type 0} (g : Ghosts S) (before after : Held S) : Type 0 where
   pub has_meta : LacksMeta (state g before).now → ⊥
   pub version : HasCleanDisk (state g after) → (meta : List Row)
@@ -77,6 +77,9 @@ pub record IsOnlyRead {S : Type 0} (g : Ghosts S) (before after : Held S) : Type
   pub laid_out : HasCleanDisk (state g after) → IsLaidOut 2 (state g before).now
   pub same : HasCleanDisk (state g after) → IsTrue (state g after).is_open
       → (state g after).now ≡ (state g before).now
+  pub committed : HasCleanDisk (state g after) → IsTrue (state g before).is_open
+      → IsTrue (state g after).is_open → before.in_transaction ≡ false
+      → (state g after).committed ≡ (state g before).committed
   pub survives : Survives (state g before) (state g after) (λ _. ⊥)
 
 -- A REGISTER IS READ FROM A DATABASE that has tables: these read as rows, and the rows give that
@@ -151,8 +154,8 @@ pub record IsRefused {S : Type 0} (g : Ghosts S) (before : Held S) (told : Fault
       → HasTables (state g before).now t → SqlHasCause (state g before) (state g after) fault
 
 -- THE TABLES ARE OF VERSION 2: those of version 1, of which each point reads, were moved, and those
--- of version 2 are as before, where the disk is clean. A crash leaves the tables that were moved,
--- or what it left before
+-- of version 2 are as before, and committed as before, where the disk is clean. A crash leaves the
+-- tables that were moved, or what it left before
 pub record IsMoved {S : Type 0} (g : Ghosts S) (before after : Held S) : Type 0 where
   pub has_meta : LacksMeta (state g before).now → ⊥
   pub mode : after.in_transaction ≡ before.in_transaction
@@ -173,6 +176,10 @@ pub record IsMoved {S : Type 0} (g : Ghosts S) (before after : Held S) : Type 0 
   pub same : HasCleanDisk (state g after) → IsTrue (state g after).is_open → (meta : List Row)
       → HasMeta (state g before).now meta → read_version meta ≡ Ok (pos 2)
       → (state g after).now ≡ (state g before).now
+  pub committed : HasCleanDisk (state g after) → IsTrue (state g before).is_open
+      → IsTrue (state g after).is_open → before.in_transaction ≡ false → (meta : List Row)
+      → HasMeta (state g before).now meta → read_version meta ≡ Ok (pos 2)
+      → (state g after).committed ≡ (state g before).committed
   pub survives : Survives (state g before) (state g after) (LeavesMoved (state g before).now)
 
 -- they were not moved. Of tables that are there the fault that is reported is theirs. `Sql` has a

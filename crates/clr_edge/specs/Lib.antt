@@ -3,6 +3,7 @@ pub mod Database
 pub mod Fault
 pub mod Files
 pub mod Journals
+pub mod Keeping
 pub mod Logins
 pub mod Loopback
 pub mod Visit

@@ -1,4 +1,4 @@
--- A REGISTER IS TAKEN UP WITH A JOURNAL, or it is not; and commands go through the journal.
+-- A REGISTER IS TAKEN UP WITH A JOURNAL, or it is not.
 use Rattle.std.specs.Prelude.{◌≡◌, ◌⊎◌, ℕ, List, Option}
 use Rattle.sqlite.specs.Held.{Held, state}
 use Rattle.sqlite.specs.State.{Survives}
@@ -6,9 +6,6 @@ use Rattle.sqlite_trees.specs.declared.store.Store.{Ghosts}
 use Rattle.clr_append.specs.declared.journal.Journal as append
 use Rattle.clr_rules.specs.Register.{Register}
 use Rattle.clr_journal.specs.Line.{Entry}
-use Rattle.clr_desk.specs.Given.{AreGiven, Given}
-use Rattle.clr_desk.specs.Taking.{PassesOver}
-use Rattle.clr_journaled.specs.Journaling.{HearsLogin, IsDurable, Journals}
 use Rattle.clr_journaled.specs.Redo.{redone_by}
 use Rattle.clr_journaled.specs.declared.journaled.Journaled.{Journaled}
 use Rattle.clr_edge.specs.Database.{IsOnlyRead, IsRefused}
@@ -68,11 +65,3 @@ IsNotTakenUp g at path before fault after old new =
     × (new ≡ old))
     ⊎ ((IsOfOpening fault × IsOnlyRead g before after × at.shuts_journal old path fault new)
     ⊎ IsRefusedItsJournal g at path old new before fault after)
-
--- COMMANDS WENT THROUGH A JOURNAL, at their logins: each that was carried out has its line there,
--- and one that was accepted had it durably before its change was kept
-abbrev pub GoThrough : {K J C : Type 0} → append.Ghosts J → (C → ℕ → Type 0) → Register
-    → Journaled K J C → Register → Journaled K J C → Type 0
-GoThrough log shows R old S new = (given : List Given)
-    × AreGiven (Journals PassesOver shows log.text (IsDurable log.text log.may_leave)) HearsLogin
-    R old given S new

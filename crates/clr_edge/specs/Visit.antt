@@ -58,8 +58,8 @@ pub record IsLeft {D : Type 0} {g : disk.Ghosts D} (c : Over g) (files : Files D
 abbrev pub Ends : {M D : Type 0} {g : disk.Ghosts D} → Ending M D → Over g → Done → M → M → Type 0
 Ends {M} {D} ends c closed old new = (files : Files D) × IsLeft c files closed × ends old files new
 
--- ONE DATABASE WAS OPENED AT A PATH, WORKED ON, AND CLOSED AS IT WAS LEFT; and nothing else. What was
--- done over it may be steps of its own
+-- ONE DATABASE WAS OPENED AT A PATH, with no transaction open, WORKED ON, AND CLOSED AS IT WAS LEFT;
+-- and nothing else. What was done over it may be steps of its own
 pub record Visits {M D : Type 0} (g : disk.Ghosts D) (opens : Opening M D) (ends : Ending M D)
     (path : List ℕ) (Does : M → Over g → Over g → Done → M → Type 0) (old new : M) : Type 0 where
   pub before : Over g
@@ -68,6 +68,7 @@ pub record Visits {M D : Type 0} (g : disk.Ghosts D) (opens : Opening M D) (ends
   pub middle : M
   pub later : M
   pub opened : opens old path g before middle
+  pub mode : before.in_transaction ≡ false
   pub does : Does middle before after closed later
   pub ended : Ends ends after closed later new
 
@@ -90,22 +91,19 @@ abbrev pub both : Done → Done → Done
 both (Ok value) closed = closed
 both (Err fault) closed = Err fault
 
--- the tables of a register were made, or not, in a database with no transaction open, and the first
--- fault is the result
+-- the tables of a register were made, or not, and the first fault is the result
 pub record MakesRegister {S : Type 0} (g : Ghosts S) (R : Register) (result : Done)
     (before after : Held S) (closed : Done) : Type 0 where
   pub told : Done
-  pub mode : before.in_transaction ≡ false
   pub made : OnOk told (IsMade g before R after)
   pub unmade : OnErr told (IsUnmade g before R after)
   pub fault : IfErr told IsOfLine
   pub result_is : result ≡ both told closed
 
--- the tables were moved, or not, with no transaction open, and the first fault is the result
+-- the tables were moved, or not, and the first fault is the result
 pub record MovesRegister {S : Type 0} (g : Ghosts S) (result : Done) (before after : Held S)
     (closed : Done) : Type 0 where
   pub told : Done
-  pub mode : before.in_transaction ≡ false
   pub moved : OnOk told (IsMoved g before after)
   pub unmoved : IfErr told (λ fault. IsUnmoved g before fault after)
   pub known : (R : Register) → HasRegister g R before → HasCleanDisk (state g after)

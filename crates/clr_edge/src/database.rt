@@ -305,7 +305,11 @@ fn register_moved<S: Alter + Drop>(connection: Connection<S>) -> (Result<(), Fau
 {
     settled(&connection);
     match Store::migrate(connection) {
-        Ok(store) => (Ok(()), store.end()),
+        Ok(store) => {
+            let connection = store.end();
+            settled(&connection);
+            (Ok(()), connection)
+        }
         Err(Back { fault, connection }) => {
             settled(&connection);
             (Err(Fault::from(fault)), connection)
@@ -336,6 +340,7 @@ pub fn desk_over<S: Alter + Drop>(
     ensures unread { IfErr result (λ back. Survives (state S.Store connection)
         (state S.Store back.1) (λ _. ⊥)) }
 {
+    settled(&connection);
     let store = match Store::open(connection) {
         Ok(store) => store,
         Err(Back { fault, connection }) => return Err((Fault::from(fault), connection)),

@@ -45,6 +45,7 @@ pub fn with_journal<K: Commit, J: Journal + Drop, C: Clock>(
     ensures login { IfOk result (λ opened. opened.store.login ≡ None) }
     ensures settled { IfOk result (λ opened. opened.store.last ≡ Last.Settled) }
     ensures led { IfOk result (λ opened. IsOver (LeadsTo K.kept K.takes K.hears) desk opened) }
+    ensures faults { IfOk result (λ opened. opened.faults ≡ desk.faults) }
     ensures says { IfOk result (λ opened. (first : Register) → (lines : List Entry)
         → IsGood first → HasLines (J.text journal) (option_map (λ text. text.items) last) lines
         → WasLeft first lines desk.book.register
@@ -78,6 +79,7 @@ fn redo<K: Commit>(
     ensures redone { IfOk result (λ turn. IsRedone (option_map (λ text. text.items) last) turn
         desk.old.book.register desk.new.book.register) }
     ensures led { LeadsTo K.kept K.takes K.hears desk.old desk.new }
+    ensures faults { OnOk result (desk.new.faults ≡ desk.old.faults) }
     ensures same { OnErr result (desk.new.book.register ≡ desk.old.book.register) }
     ensures bad { result ≡ Err OpeningFault.BadLine
         → IsSomeAnd last (λ text. read_line text.items ≡ None) }
@@ -100,6 +102,7 @@ fn redo_line<K: Commit>(desk: &mut Desk<K>, line: Line) -> Result<(), DeskFault>
     ensures redone { IsGood desk.old.book.register → OnOk result (desk.new.book.register
         ≡ redone_by (Some (entry_of line)) desk.old.book.register) }
     ensures led { LeadsTo K.kept K.takes K.hears desk.old desk.new }
+    ensures faults { OnOk result (desk.new.faults ≡ desk.old.faults) }
     ensures same { OnErr result (desk.new.book.register ≡ desk.old.book.register) }
     ensures fault { IfErr result (IsOfKeeper K.fails) }
 {
@@ -120,6 +123,7 @@ fn redo_command<K: Commit>(desk: &mut Desk<K>, carried: Carried) -> Result<(), D
     ensures redone { IsGood desk.old.book.register → OnOk result (desk.new.book.register
         ≡ redone (is_of (view carried.reply)) desk.old.book.register carried.command) }
     ensures led { LeadsTo K.kept K.takes K.hears desk.old desk.new }
+    ensures faults { OnOk result (desk.new.faults ≡ desk.old.faults) }
     ensures same { OnErr result (desk.new.book.register ≡ desk.old.book.register) }
     ensures fault { IfErr result (IsOfKeeper K.fails) }
 {

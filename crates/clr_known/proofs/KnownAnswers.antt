@@ -1,6 +1,7 @@
 -- What `migrate`, `run` and `init` answer of a machine of which this much is known.
 use Rattle.std.proofs.Common.{◌≡◌, ◌∙◌, ℕ, ap, inl, inr, refl, subst, sym, List, Option, Some, Result, Ok, Err}
-use Rattle.std.specs.Prelude.{IfErr, IfOk, IfSome, None, OnOk, String, string_bytes}
+use Rattle.std.specs.Borrow.{Bor}
+use Rattle.std.specs.Prelude.{◌⊎◌, IfErr, IfOk, IfSome, IsErrAnd, None, OnOk, String, string_bytes}
 use Rattle.std.specs.declared.alloc.Global.{Global}
 use Rattle.sqlite.specs.Files.{over_files}
 use Rattle.sqlite.specs.Held.{state}
@@ -22,10 +23,12 @@ use Rattle.clr_edge.specs.Answers.{After}
 use Rattle.clr_edge.specs.Files.{told_of}
 use Rattle.clr_edge.specs.declared.fault.ImportFile.TheVariants.{Points, Sections, Staff}
 use Rattle.clr_edge.specs.Database.{HasRegister, IsMade, IsOfLine}
-use Rattle.clr_edge.specs.TakenUp.{Logs}
+use Rattle.clr_edge.specs.Keeping.{IsNotRead, Works, logged, logged_keeper, plain, plain_keeper}
+use Rattle.clr_edge.specs.TakenUp.{IsNotTakenUp, Logs}
 use Rattle.clr_journal.specs.Line.{Entry}
 use Rattle.clr_journaled.specs.Journaling.{FailsToo}
 use Rattle.clr_journaled.specs.Redo.{IsRead, redone_by}
+use Rattle.clr_journaled.specs.declared.journaled.Journaled.{Journaled}
 use Rattle.clr_edge.specs.Visit.{Alone, Comes, Done, Ending, IsLeft, MakesRegister, MovesRegister, Opening, Over, Shutting, Visits, both}
 use Rattle.clr_edge.specs.declared.fault.Fault.{Fault}
 use Rattle.clr_edge.specs.declared.fault.Fault.TheVariants.{Memory}
@@ -34,7 +37,7 @@ use Rattle.clr_commands.specs.Import.{AreRead, Contents, FileRows, IsUnreadFile,
 use Rattle.clr_commands.specs.Init.{Stores, counts_of}
 use Rattle.clr_commands.specs.Migrate.{Migrates, PrintsMoved}
 use Rattle.clr_commands.specs.Replies.{AnswersInput}
-use Rattle.clr_commands.specs.Run.{IsOpeningOf, RunsFrom, RunsLogged, RunsLoggedFrom, RunsStored, printed_after, rows_fault}
+use Rattle.clr_commands.specs.Run.{IsOpeningOf, RunsAlone, RunsOver, printed_after, rows_fault}
 use Rattle.clr_commands.specs.declared.replies.Printed.{Printed}
 use Rattle.clr_known.specs.Known.{IsAlwaysClean, IsLoggedRunOfJones, IsRunOfJones, IsVersionTwo, KnowsJones, StoresWorked}
 use Rattle.clr_known.specs.Known.{jones_register, point_file, section_file, staff_file, worked_counts}
@@ -143,53 +146,62 @@ module _ {D : Type 0} (g : disk.Ghosts D) (clean : IsAlwaysClean g) where
         (moved_line moves.told visit.closed (moves.known jones_register (knows _ _ _ _ visit.opened) (clean visit.after))
         (closing_line visit.after files visit.closed left))) prints
 
-    ran_given : (input : List ℕ) (printed : Result Printed Fault) (before after : Over g) → HasRegister over_files jones_register before
-        → RunsFrom over_files (Some input) printed before after → IsRunOfJones input printed
-    ran_given input (Ok printed) before after has runs = (
-      runs.left,
-      runs.answers.told,
-      printed,
-      subst (λ (S : Register). AnswersInput FailsAsStore S runs.left input runs.answers.told printed) (runs.is_register _ has (clean runs.opened))
-          (subst (λ (b : List ℕ). AnswersInput FailsAsStore runs.register runs.left b runs.answers.told printed) runs.is_input.0 runs.answers.run),
-      refl,
-    )
-    ran_given input (Err fault) before after has runs = runs.known _ has (clean after)
+    ran_given : (input : List ℕ) (printed : Result Printed Fault) (old new : M) (before after : Over g) → HasRegister over_files jones_register before
+        → (IsErrAnd printed (λ fault. (new ≡ old) × IsNotRead over_files before fault after) × Unit {0})
+        ⊎ Works (plain over_files) (RunsAlone (Some input) (Over g) (plain_keeper over_files) printed) old new before after → IsRunOfJones input printed
+    ran_given input (Ok printed) old new before after has (inl refused) = absurd refused.0
+    ran_given input (Err fault) old new before after has (inl refused) = inl (refused.0.1.known _ has (clean after))
+    ran_given input (Err fault) old new before after has (inr it) = inr it.did.1.answer
+    ran_given input (Ok printed) old new before after has (inr it) =
+        let (bytes, is_input, answers, put) = it.did.1.answer in (
+          it.left.book.register,
+          answers.told,
+          printed,
+          subst (λ (S : Register). AnswersInput FailsAsStore S it.left.book.register input answers.told printed) (it.taken_up.1.is_register _ has (clean it.taken.store))
+              (subst (λ (b : List ℕ). AnswersInput FailsAsStore it.taken.book.register it.left.book.register b answers.told printed) is_input.0 answers.run),
+          refl,
+        )
 
     -- the input was answered over the register, as far as its bytes are known
-    pub run_given : KnowsJones g opens → (path : List ℕ) (input : Option (List ℕ)) (result : Result Printed Fault) (old new : M)
-        → Comes g opens shuts ends path (Alone (RunsStored over_files input)) result old new
+    pub run_given : {J C : Type 0} (logs : Logs M J C) → KnowsJones g opens → (path : List ℕ) (input : Option (List ℕ)) (result : Result Printed Fault) (old new : M)
+        → Comes g opens shuts ends path (RunsOver logs over_files None input) result old new
         → IfSome input (λ bytes. IsRunOfJones bytes result)
-    run_given knows path None result old new comes = tt
-    run_given knows path (Some bytes) result old new (inl (fault, is, of_line, shut)) =
+    run_given logs knows path None result old new comes = tt
+    run_given logs knows path (Some bytes) result old new (inl (fault, is, of_line, shut)) =
         subst (λ (r : Result Printed Fault). IsRunOfJones bytes r) (sym is) (inl of_line)
-    run_given knows path (Some bytes) result old new (inr visit) =
-        let runs = visit.does.1 in
+    run_given logs knows path (Some bytes) result old new (inr visit) =
+        let runs = visit.does in
         subst (λ (r : Result Printed Fault). IsRunOfJones bytes r) (sym runs.result_is)
-        (still_given bytes runs.printed visit.closed (ran_given bytes runs.printed visit.before visit.after (knows _ _ _ _ visit.opened) runs.runs))
+        (still_given bytes runs.told visit.closed
+        (ran_given bytes runs.told visit.middle visit.later visit.before visit.after (knows _ _ _ _ visit.opened) runs.works))
 
     -- the same with a journal, which is new: no line of it is redone
     module _ {J C : Type 0} (logs : Logs M J C)
         (is_new : (old new : M) (path : List ℕ) (journal : J) (last : Option (List ℕ)) → logs.steps.opens_journal old path journal last new
         → last ≡ None) where
       logged_ran : (journal input : List ℕ) (printed : Result Printed Fault) (old new : M) (before after : Over g) → HasRegister over_files jones_register before
-          → RunsLoggedFrom logs journal over_files (Some input) printed old before after new → IsLoggedRunOfJones input printed
-      logged_ran journal input (Ok printed) old new before after has runs =
-          let up = runs.taken_up in
+          → (IsErrAnd printed (λ fault. IsNotTakenUp over_files logs.steps journal before fault after old new) × Unit {0})
+          ⊎ Works (logged over_files logs journal) (RunsAlone (Some input) (Journaled (Over g) J C) (logged_keeper over_files logs) printed) old new before after
+          → IsLoggedRunOfJones input printed
+      logged_ran journal input (Err fault) old new before after has ran = tt
+      logged_ran journal input (Ok printed) old new before after has (inl refused) = absurd refused.0
+      logged_ran journal input (Ok printed) old new before after has (inr it) =
+          let (bytes, is_input, answers, put) = it.did.1.answer in
+          let up = it.taken_up in
           let unread : up.entry ≡ None =
           subst (λ (last : Option (List ℕ)). IsRead last up.entry) (is_new _ _ _ _ _ up.journal.opened) up.journal.goes_on.read in
-          let register : runs.register ≡ jones_register =
+          let register : it.taken.book.register ≡ jones_register =
           up.register ∙ ap (λ (entry : Option Entry). redone_by entry up.kept.first) unread ∙ up.kept.is_register _ has (clean up.kept.opened) in (
-            runs.left,
-            runs.answers.told,
+            it.left.book.register,
+            answers.told,
             printed,
-            subst (λ (S : Register). AnswersInput (FailsToo FailsAsStore) S runs.left input runs.answers.told printed) register
-                (subst (λ (b : List ℕ). AnswersInput (FailsToo FailsAsStore) runs.register runs.left b runs.answers.told printed) runs.is_input.0 runs.answers.run),
+            subst (λ (S : Register). AnswersInput (FailsToo FailsAsStore) S it.left.book.register input answers.told printed) register
+                (subst (λ (b : List ℕ). AnswersInput (FailsToo FailsAsStore) it.taken.book.register it.left.book.register b answers.told printed) is_input.0 answers.run),
             refl,
           )
-      logged_ran journal input (Err fault) old new before after has runs = tt
 
-      pub logged_given : KnowsJones g opens → (path journal : List ℕ) (input : Option (List ℕ)) (result : Result Printed Fault) (old new : M)
-          → Comes g opens shuts ends path (RunsLogged logs journal over_files input) result old new
+      pub logged_given : KnowsJones g opens → (path : List ℕ) (journal : Bor (List ℕ)) (input : Option (List ℕ)) (result : Result Printed Fault) (old new : M)
+          → Comes g opens shuts ends path (RunsOver logs over_files (Some journal) input) result old new
           → IfSome input (λ bytes. IsLoggedRunOfJones bytes result)
       logged_given knows path journal None result old new comes = tt
       logged_given knows path journal (Some bytes) result old new (inl (fault, is, of_line, shut)) =
@@ -197,8 +209,8 @@ module _ {D : Type 0} (g : disk.Ghosts D) (clean : IsAlwaysClean g) where
       logged_given knows path journal (Some bytes) result old new (inr visit) =
           let runs = visit.does in
           subst (λ (r : Result Printed Fault). IsLoggedRunOfJones bytes r) (sym runs.result_is)
-          (still_logged bytes runs.printed visit.closed
-          (logged_ran journal bytes runs.printed visit.middle visit.later visit.before visit.after (knows _ _ _ _ visit.opened) runs.runs))
+          (still_logged bytes runs.told visit.closed
+          (logged_ran journal.now bytes runs.told visit.middle visit.later visit.before visit.after (knows _ _ _ _ visit.opened) runs.works))
 
     stored_given : (path : List ℕ) (R : Register) (stored : Done) (old new : M) → R ≡ worked_opening → stored ≡ Ok tt
         → Comes g opens shuts ends path (Alone (MakesRegister over_files R)) stored old new
@@ -212,6 +224,7 @@ module _ {D : Type 0} (g : disk.Ghosts D) (clean : IsAlwaysClean g) where
       middle = visit.middle;
       later = visit.later;
       opened = visit.opened;
+      mode = visit.mode;
       does = tables_made R visit.before visit.after stored visit.closed is ok visit.does.1;
       ended = visit.ended;
     }

@@ -1,6 +1,6 @@
 -- What comes of a visit of a database whose register is known: what is printed, and the response to a request for the board.
 use Rattle.std.proofs.Common.{◌≡◌, ◌∙◌, ℕ, ap, inl, inr, subst, sym, List, None, Option, Some, Result, Ok, Err}
-use Rattle.std.specs.Prelude.{OnOk, String}
+use Rattle.std.specs.Prelude.{◌⊎◌, IsErrAnd, OnOk, String}
 use Rattle.std.specs.Borrow.{Bor}
 use Rattle.std.specs.declared.alloc.Global.{Global}
 use Rattle.sqlite.specs.Files.{over_files}
@@ -17,16 +17,17 @@ use Rattle.clr_commands.specs.declared.serve.Terms.{Terms}
 use Rattle.clr_edge.specs.Database.{HasRegister, IsOfLine}
 use Rattle.clr_edge.specs.Visit.{Comes, Done, Ending, Opening, Over, Shutting, both}
 use Rattle.clr_edge.specs.declared.fault.Fault.{Fault}
-use Rattle.clr_edge.specs.TakenUp.{Logs}
+use Rattle.clr_edge.specs.Keeping.{IsNotRead, Works, logged, logged_keeper, plain, plain_keeper}
+use Rattle.clr_edge.specs.TakenUp.{IsNotTakenUp, Logs}
 use Rattle.clr_edge.specs.declared.loopback.Loopback as loopback
 use Rattle.clr_journal.specs.Line.{Entry}
 use Rattle.clr_journaled.specs.Redo.{IsRead, redone_by}
 use Rattle.clr_commands.specs.Answers.{GivesText, Prints}
 use Rattle.clr_commands.specs.Connections.{ReportsConnection, Seen, TakesFirst, TakesNext}
-use Rattle.clr_commands.specs.Desks.{over_store, with_journal}
+use Rattle.clr_commands.specs.Desks.{desk_keeps}
 use Rattle.clr_commands.specs.Logins.{NamesLogins, terms_with}
 use Rattle.clr_commands.specs.Paths.{AtPaths}
-use Rattle.clr_commands.specs.Serve.{ServesAt, ServesKeeper, ServesKept, ServesLogged, ServesOver, ServesRead}
+use Rattle.clr_commands.specs.Serve.{ServesAt, ServesDesk, ServesKeeper, ServesKept, ServesRead}
 use Rattle.clr_commands.specs.Stored.{AnswersOf, PrintsOf, WhileOpen}
 use Rattle.clr_commands.specs.WayBack.{GivesBackTo, IsOfWayBack, way_back_to}
 use Rattle.clr_known.specs.Known.{IsAlwaysClean, IsAskedForBoard, IsBoardResponse, KnowsJones, ServesOnce, fresh, jones_register, once_at}
@@ -104,16 +105,20 @@ module _ {M D : Type 0} (g : disk.Ghosts D) (clean : IsAlwaysClean g)
           (subst (λ (t : Terms). TakesFirst by net seen t listener t.count first last errors errors' middle new) once.terms takes)))
 
       served_so : (served : Done) (old new : M) (before after : Over g) → HasRegister over_files jones_register before
-          → ServesOver net seen args None output output' errors errors' over_files served old new before after
+          → (IsErrAnd served (λ fault. (new ≡ old) × IsNotRead over_files before fault after) × ((output' ≡ output) × (errors' ≡ errors)))
+          ⊎ Works (plain over_files) (ServesDesk net seen args None output output' errors errors' (plain_keeper over_files) served) old new before after
           → OnOk served (IsBoardResponse (response new))
       served_so (Err fault) old new before after has over = tt
       served_so (Ok value) old new before after has (inl refused) = absurd refused.0
       served_so (Ok value) old new before after has (inr it) =
-          kept_so (over_store over_files) it.opened it.left value old new (it.is_register _ has (clean it.opened.store)) it.good it.serves
+          subst (λ (m : M). IsBoardResponse (response m)) (sym it.gone.0)
+          (kept_so (desk_keeps (plain_keeper over_files)) it.taken it.left value it.between it.later (it.taken_up.1.is_register _ has (clean it.taken.store)) it.good
+          it.did.serves)
 
       -- the same with a journal, which is new: no line of it is redone
       logged_so : (journal : List ℕ) (served : Done) (old new : M) (before after : Over g) → HasRegister over_files jones_register before
-          → ServesLogged logs net seen args None output output' errors errors' over_files journal served old new before after
+          → (IsErrAnd served (λ fault. IsNotTakenUp over_files logs.steps journal before fault after old new) × ((output' ≡ output) × (errors' ≡ errors)))
+          ⊎ Works (logged over_files logs journal) (ServesDesk net seen args None output output' errors errors' (logged_keeper over_files logs) served) old new before after
           → OnOk served (IsBoardResponse (response new))
       logged_so journal (Err fault) old new before after has over = tt
       logged_so journal (Ok value) old new before after has (inl refused) = absurd refused.0
@@ -123,8 +128,8 @@ module _ {M D : Type 0} (g : disk.Ghosts D) (clean : IsAlwaysClean g)
           subst (λ (last : Option (List ℕ)). IsRead last up.entry) (asked.logged _ _ _ _ _ up.journal.opened) up.journal.goes_on.read in
           let register : it.taken.book.register ≡ jones_register =
           up.register ∙ ap (λ (entry : Option Entry). redone_by entry up.kept.first) unread ∙ up.kept.is_register _ has (clean up.kept.opened) in
-          subst (λ (bytes : List ℕ). IsBoardResponse bytes) (sym (asked.gone _ _ _ it.gone))
-          (kept_so (with_journal over_files logs) it.taken it.left value it.between it.later register it.good it.serves)
+          subst (λ (bytes : List ℕ). IsBoardResponse bytes) (sym (asked.gone _ _ _ it.gone.0))
+          (kept_so (desk_keeps (logged_keeper over_files logs)) it.taken it.left value it.between it.later register it.good it.did.serves)
 
       -- the database is closed after it, which sends nothing
       closed_so : (result served closed : Done) (files : Files D) (later new : M) → result ≡ both served closed → ends later files new
@@ -137,18 +142,18 @@ module _ {M D : Type 0} (g : disk.Ghosts D) (clean : IsAlwaysClean g)
       no_visit result fault P is = subst (λ (r : Done). OnOk r P) (sym is) tt
 
       kept : (journal : Option (Bor (List ℕ))) (path : List ℕ) (result : Done) (old new : M)
-          → ServesKept logs net seen args None output output' errors errors' g opens shuts ends journal path result old new
+          → ServesKept net seen args None output output' errors errors' logs g opens shuts ends journal path result old new
           → OnOk result (IsBoardResponse (response new))
       kept None path result old new (inl (fault, is, of_line, shut)) = no_visit result fault _ is
       kept None path result old new (inr visit) =
           let stored = visit.does in
-          closed_so result stored.served visit.closed visit.ended.0 visit.later new stored.result_is visit.ended.2
-          (served_so stored.served visit.middle visit.later visit.before visit.after (knows _ _ _ _ visit.opened) stored.serves)
+          closed_so result stored.told visit.closed visit.ended.0 visit.later new stored.result_is visit.ended.2
+          (served_so stored.told visit.middle visit.later visit.before visit.after (knows _ _ _ _ visit.opened) stored.works)
       kept (Some journal) path result old new (inl (fault, is, of_line, shut)) = no_visit result fault _ is
       kept (Some journal) path result old new (inr visit) =
           let stored = visit.does in
-          closed_so result stored.served visit.closed visit.ended.0 visit.later new stored.result_is visit.ended.2
-          (logged_so journal.now stored.served visit.middle visit.later visit.before visit.after (knows _ _ _ _ visit.opened) stored.serves)
+          closed_so result stored.told visit.closed visit.ended.0 visit.later new stored.result_is visit.ended.2
+          (logged_so journal.now stored.told visit.middle visit.later visit.before visit.after (knows _ _ _ _ visit.opened) stored.works)
 
       -- what goes out is the response to the request for the board
       pub service_given : (result : Done) (old new : M)

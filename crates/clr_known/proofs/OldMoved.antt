@@ -92,6 +92,7 @@ module _ {M D : Type 0} (g : disk.Ghosts D) (clean : IsAlwaysClean g) (opens : O
         middle = visit.middle;
         later = visit.later;
         opened = visit.opened;
+        mode = visit.mode;
         does = moved_tables moves.told visit.closed visit.before visit.after (knows _ _ _ _ visit.opened) (sym moves.result_is ∙ ok) moves.moved;
         ended = visit.ended;
       }

@@ -18,7 +18,7 @@ use crate::files::{JOURNAL, KnownFiles};
 use crate::machine::Known;
 use crate::visits::JonesMachine;
 use clr_args::asked::{
-    BoardArgs, Files, InitArgs, JournalArgs, Offset, OrderArgs, VerifyArgs, WayBackArgs,
+    BoardArgs, Files, InitArgs, JournalArgs, Offset, OrderArgs, StoredArgs, VerifyArgs, WayBackArgs,
 };
 use clr_commands::board::board;
 use clr_commands::init::init;
@@ -26,7 +26,7 @@ use clr_commands::journal::journal;
 use clr_commands::migrate::migrate;
 use clr_commands::order::order;
 use clr_commands::replies::Printed;
-use clr_commands::run::{run_of_database, run_with_journal};
+use clr_commands::run::run_stored;
 use clr_commands::verify::verify;
 use clr_commands::wayback::wayback;
 use clr_edge::fault::Fault;
@@ -101,7 +101,11 @@ fn run_of_jones<R: JonesMachine, I: CountedRead>(
 ) -> Result<Printed, Fault>
     ensures { IfSome (I.remaining input.old) (λ bytes. IsRunOfJones bytes result) }
 {
-    run_of_database(alloc, machine, "jones.db", input)
+    let args = StoredArgs {
+        database: "jones.db",
+        journal: None,
+    };
+    run_stored(alloc, machine, &args, input)
 }
 
 /// The replies to an input, of which each command has its line in a journal first.
@@ -112,7 +116,11 @@ fn logged_run_of_jones<R: JonesMachine, I: CountedRead>(
 ) -> Result<Printed, Fault>
     ensures { IfSome (I.remaining input.old) (λ bytes. IsLoggedRunOfJones bytes result) }
 {
-    run_with_journal(alloc, machine, "jones.db", "journal", input)
+    let args = StoredArgs {
+        database: "jones.db",
+        journal: Some("journal"),
+    };
+    run_stored(alloc, machine, &args, input)
 }
 
 /// The same of the machine in memory.

@@ -1,15 +1,30 @@
-use Rattle.std.proofs.Common.{inr, refl}
+use Rattle.std.proofs.Common.{◌≡◌, ap, subst}
+use Rattle.clr_book.specs.Book.{Shelved}
+use Rattle.clr_rules.specs.Register.{Register}
+use Rattle.clr_commands.specs.Answers.{GivesText, IsMemory}
+use Rattle.clr_commands.specs.Order.{order_asked_for}
+use Rattle.clr_commands.specs.Stored.{IsOfOrder}
+use Rattle.clr_commands.proofs.Databases.{unvisited, visited}
+use Rattle.clr_commands.proofs.Faults.{each_plain, order_plain, passed, taking_up_plain}
 use Rattle.clr_commands.proofs.order.order.Goals as goal
 
--- the database at the path was read, and closed
+-- the order of the register of the database at the path
 pub returns-clause-visit : goal.returns-clause-visit
-returns-clause-visit g c = inr (record {
-  before = c.in_ok-connection.connection;
-  after = c.order_over-printed.result.1;
-  closed = c.close-closed.result;
-  middle = c.stored.new.self;
-  later = c.stored.new.self;
-  opened = c.in_ok-connection.ensures.opens;
-  does = (refl, c.order_over-printed.ensures.printed);
-  ended = c.close-closed.ensures.ends;
-})
+returns-clause-visit g c =
+    let same : c.end-2.result ≡ c.in_ok-desk.desk.store = cc in
+    let register : c.book.result.now.register ≡ c.in_ok-desk.desk.book.register = ap (λ (b : Shelved). b.register) c.book.ensures in
+    visited g.R.Medium.Disk g.R.Databases.opens g.R.Databases.shuts g.R.Databases.ends c.args.args.now.database.now (λ fault. IsOfOrder fault) (λ (Q : Register) known. order_asked_for Q c.args.args.now ≡ known) c.order_of-printed.result c.args.rt.now c.open_desk.new.rt
+    c.close-closed.new.rt c.in_ok-desk.desk c.end-2.result c.close-closed.result c.in_ok-desk.ensures.up same c.close-closed.ensures.ends
+    (subst (λ (Q : Register). GivesText IsMemory (order_asked_for Q c.args.args.now) c.order_of-printed.result) register c.order_of-printed.ensures.answer)
+    c.order_of-printed.ensures.faults
+
+pub returns-clause-faults : goal.returns-clause-faults
+returns-clause-faults g c = each_plain c.order_of-printed.result (λ fault. IsOfOrder fault) order_plain c.order_of-printed.ensures.faults
+
+-- it was not taken up
+pub returns-in_err-desk-clause-visit : goal.returns-in_err-desk-clause-visit
+returns-in_err-desk-clause-visit g c =
+    unvisited g.R.Medium.Disk g.R.Databases.opens g.R.Databases.shuts g.R.Databases.ends c.args.args.now.database.now (λ fault. IsOfOrder fault) (λ (Q : Register) known. order_asked_for Q c.args.args.now ≡ known) _ c.args.rt.now c.open_desk.new.rt _ c.from_residual.ensures.1 c.in_err-desk.ensures.none
+
+pub returns-in_err-desk-clause-faults : goal.returns-in_err-desk-clause-faults
+returns-in_err-desk-clause-faults g c = passed _ _ c.from_residual.ensures.1 (taking_up_plain _ c.in_err-desk.ensures.fault)

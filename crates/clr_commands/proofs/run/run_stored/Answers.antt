@@ -1,14 +1,44 @@
-use Rattle.std.proofs.Common.{ℕ, List, Option, subst, sym}
-use Rattle.std.specs.Borrow.{Bor}
+use Rattle.std.proofs.Common.{refl}
 use Rattle.sqlite.specs.Files.{over_files}
+use Rattle.clr_edge.specs.Keeping.{logged_keeper, plain_keeper}
 use Rattle.clr_edge.specs.TakenUp.{logs}
-use Rattle.clr_edge.specs.Visit.{Comes}
-use Rattle.clr_commands.specs.Run.{RunsOver}
+use Rattle.clr_edge.proofs.Keeping.{not_worked, worked}
+use Rattle.clr_commands.specs.Run.{RunsAlone, RunsDesk, printed_after}
+use Rattle.clr_commands.proofs.Faults.{taking_up_plain}
+use Rattle.clr_commands.proofs.RunAnswers.{FailsAsSubcommand-closed, FailsAsSubcommand-passed, ReadsInput-closed, ReadsInput-other, done_alone, taking_up-no_input}
 use Rattle.clr_commands.proofs.run.run_stored.Goals as goal
 
--- a journal is named
-pub returns-in-Some-clause-visit : goal.returns-in-Some-clause-visit
-returns-in-Some-clause-visit g c =
-    subst (λ (journal : Option (Bor (List ℕ))). Comes g.R.Medium.Disk g.R.Databases.opens g.R.Databases.shuts g.R.Databases.ends
-    c.args.args.now.database.now (RunsOver (logs g.R.Journals g.R.Log.Journal g.R.Time.Clock.shows) over_files journal (g.I.Read.remaining c.args.input.now)) c.run_with_journal.result c.args.rt.now
-    c.run_with_journal.new.rt) (sym c.in-Some.is) c.run_with_journal.ensures.visit
+-- the input was answered over the register of the database at the path
+pub returns-clause-visit : goal.returns-clause-visit
+returns-clause-visit g c =
+    let input = g.I.Read.remaining c.args.input.now in
+    let printed = c.run_opened-printed.result in
+    let by = logs g.R.Journals g.R.Log.Journal g.R.Time.Clock.shows in
+    worked g.R.Medium.Disk g.R.Databases.opens g.R.Databases.shuts g.R.Databases.shuts g.R.Databases.ends c.args.args.now.database.now (Unit {0}) printed_after
+    by (RunsAlone input) c.args.args.now.journal printed _
+    c.args.rt.now c.take_up.new.rt c.take_up.new.rt c.let_go-closed.new.rt c.in_ok-opened.opened c.run_opened-printed.new.opened c.let_go-closed.result
+    c.in_ok-opened.ensures.up (done_alone c.take_up.new.rt (RunsDesk (plain_keeper over_files) input printed)
+    (RunsDesk (logged_keeper over_files by) input printed) c.in_ok-opened.opened c.run_opened-printed.new.opened c.run_opened-printed.ensures.ran) c.let_go-closed.ensures.gone
+    c.let_go-closed.ensures.fault c.printed_after.ensures
+
+pub returns-clause-input : goal.returns-clause-input
+returns-clause-input g c =
+    ReadsInput-closed _ _ _ _ _ c.run_opened-printed.result c.let_go-closed.result _ c.printed_after.ensures c.run_opened-printed.ensures.input
+
+pub returns-clause-faults : goal.returns-clause-faults
+returns-clause-faults g c =
+    FailsAsSubcommand-closed c.run_opened-printed.result c.let_go-closed.result _ c.printed_after.ensures c.let_go-closed.ensures.fault c.run_opened-printed.ensures.faults
+
+-- it was not taken up, and the input is not read then
+pub returns-in_err-opened-clause-visit : goal.returns-in_err-opened-clause-visit
+returns-in_err-opened-clause-visit g c =
+    not_worked g.R.Medium.Disk g.R.Databases.opens g.R.Databases.shuts g.R.Databases.shuts g.R.Databases.ends c.args.args.now.database.now (Unit {0}) printed_after
+    (logs g.R.Journals g.R.Log.Journal g.R.Time.Clock.shows) (RunsAlone (g.I.Read.remaining c.args.input.now)) c.args.args.now.journal _ c.args.rt.now c.take_up.new.rt _
+    c.from_residual.ensures.1 (λ closed. refl) tt (λ shut. shut) c.in_err-opened.ensures.none
+
+pub returns-in_err-opened-clause-input : goal.returns-in_err-opened-clause-input
+returns-in_err-opened-clause-input g c =
+    ReadsInput-other _ _ _ _ _ _ _ (taking_up-no_input _ c.in_err-opened.ensures.fault) c.from_residual.ensures.1 refl
+
+pub returns-in_err-opened-clause-faults : goal.returns-in_err-opened-clause-faults
+returns-in_err-opened-clause-faults g c = FailsAsSubcommand-passed _ _ c.from_residual.ensures.1 (taking_up_plain _ c.in_err-opened.ensures.fault)

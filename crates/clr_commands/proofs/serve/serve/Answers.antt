@@ -1,4 +1,4 @@
-use Rattle.std.proofs.Common.{Err, Ok, refl}
+use Rattle.std.proofs.Common.{Ok}
 use Rattle.clr_commands.proofs.serve.serve.Goals as goal
 
 -- the logins were read, if any are named

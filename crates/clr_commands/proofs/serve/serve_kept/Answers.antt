@@ -1,17 +1,42 @@
-use Rattle.std.proofs.Common.{ℕ, List, Option, subst, sym}
-use Rattle.std.specs.Borrow.{Bor}
+use Rattle.std.proofs.Common.{◌≡◌, refl}
 use Rattle.clr_edge.specs.TakenUp.{logs}
+use Rattle.clr_edge.specs.Visit.{both}
+use Rattle.clr_edge.proofs.Keeping.{not_worked, worked}
 use Rattle.clr_commands.specs.Connections.{seen}
-use Rattle.clr_commands.specs.Serve.{ServesKept}
+use Rattle.clr_commands.specs.Serve.{ServesDesk}
 use Rattle.clr_commands.proofs.serve.serve_kept.Goals as goal
 
--- a journal is named
-pub returns-in-Some : goal.returns-in-Some
-returns-in-Some g c = record {
-  visit = subst (λ (journal : Option (Bor (List ℕ))). ServesKept (logs g.R.Journals g.R.Log.Journal g.R.Time.Clock.shows) g.R.Loopback
-      (seen g.R.Reader.Read.remaining g.R.Reader.CountedRead.failure_count g.R.Writer.CountedWrite.stream) c.args.args.now c.args.logins
-      (g.W.CountedWrite.stream c.args.output.now) (g.W.CountedWrite.stream c.serve_with_journal.new.output)
-      (g.E.CountedWrite.stream c.args.errors.now) (g.E.CountedWrite.stream c.serve_with_journal.new.errors)
-      g.R.Medium.Disk g.R.Databases.opens g.R.Databases.shuts g.R.Databases.ends journal c.args.args.now.database.now
-      c.serve_with_journal.result c.args.rt.now c.serve_with_journal.new.rt) (sym c.in-Some.is) c.serve_with_journal.ensures.visit;
-}
+-- the register was taken up and served
+pub returns : goal.returns
+returns g c =
+    let output = g.W.CountedWrite.stream c.args.output.now in
+    let errors = g.E.CountedWrite.stream c.args.errors.now in
+    let output' = g.W.CountedWrite.stream c.serve_opened-served.new.output in
+    let errors' = g.E.CountedWrite.stream c.serve_opened-served.new.errors in
+    record {
+      visit =
+          worked g.R.Medium.Disk g.R.Databases.opens g.R.Databases.shuts
+          (λ old path fault new. g.R.Databases.shuts old path fault new × (output' ≡ output) × (errors' ≡ errors))
+          g.R.Databases.ends c.args.args.now.database.now ((output' ≡ output) × (errors' ≡ errors)) both (logs g.R.Journals g.R.Log.Journal g.R.Time.Clock.shows)
+          (λ K keeper. ServesDesk g.R.Loopback (seen g.R.Reader.Read.remaining g.R.Reader.CountedRead.failure_count g.R.Writer.CountedWrite.stream)
+          c.args.args.now c.args.logins output output' errors errors' keeper)
+          c.args.args.now.journal c.serve_opened-served.result _ c.args.rt.now c.take_up.new.rt c.serve_opened-served.new.net c.let_go-closed.new.rt
+          c.in_ok-opened.opened c.serve_opened-served.new.opened c.let_go-closed.result c.in_ok-opened.ensures.up c.serve_opened-served.ensures
+          c.let_go-closed.ensures.gone c.let_go-closed.ensures.fault c.both.ensures;
+    }
+
+-- the register was not taken up
+pub returns-in_err-opened : goal.returns-in_err-opened
+returns-in_err-opened g c =
+    let output = g.W.CountedWrite.stream c.args.output.now in
+    let errors = g.E.CountedWrite.stream c.args.errors.now in
+    record {
+      visit =
+          not_worked g.R.Medium.Disk g.R.Databases.opens g.R.Databases.shuts
+          (λ old path fault new. g.R.Databases.shuts old path fault new × (output ≡ output) × (errors ≡ errors))
+          g.R.Databases.ends c.args.args.now.database.now ((output ≡ output) × (errors ≡ errors)) both (logs g.R.Journals g.R.Log.Journal g.R.Time.Clock.shows)
+          (λ K keeper. ServesDesk g.R.Loopback (seen g.R.Reader.Read.remaining g.R.Reader.CountedRead.failure_count g.R.Writer.CountedWrite.stream)
+          c.args.args.now c.args.logins output output errors errors keeper)
+          c.args.args.now.journal _ c.args.rt.now c.take_up.new.rt _ c.from_residual.ensures.1 (λ closed. refl) (refl, refl)
+          (λ shut. (shut, refl, refl)) c.in_err-opened.ensures.none;
+    }

@@ -1,5 +1,6 @@
 use Rattle.std.proofs.Common.{◌≡◌, ◌∙◌, ⊎_elim, ap, inl, inr, subst, sym}
 use Rattle.sqlite.specs.Held.{Held, state}
+use Rattle.std.specs.Prelude.{IsTrue}
 use Rattle.sqlite.specs.State.{HasCleanDisk, Survives}
 use Rattle.clr_rules.specs.Fit.{IsFit}
 use Rattle.clr_rules.specs.Register.{Register}
@@ -91,16 +92,20 @@ returns-in-Err-open-clause-unread g c =
 
 -- the tables are only read
 pub returns-in-Ok-expect_good-clause-read : goal.returns-in-Ok-expect_good-clause-read
-returns-in-Ok-expect_good-clause-read g c = record {
-  has_meta = c.in-Ok.ensures.bare;
-  version = λ clean meta has. c.in-Ok.ensures.version (was_clean _ _ _ c.in-Ok-open.ensures.survives clean) meta has;
-  alone = λ clean meta has. c.in-Ok.ensures.alone (was_clean _ _ _ c.in-Ok-open.ensures.survives clean) meta has;
-  laid_out = λ clean. c.in-Ok.ensures.laid_out (was_clean _ _ _ c.in-Ok-open.ensures.survives clean);
-  same = λ clean shown.
-      c.in-Ok-open.ensures.same clean shown
-      ∙ c.in-Ok.ensures.opened (was_clean _ _ _ c.in-Ok-open.ensures.survives clean) (c.in-Ok-open.ensures.was_open clean);
-  survives = survives_on _ _ _ c.in-Ok.ensures.crash_opened c.in-Ok-open.ensures.survives;
-}
+returns-in-Ok-expect_good-clause-read g c =
+    let same : HasCleanDisk (state g.S.Store c.in-Ok-open.desk.store) → IsTrue (state g.S.Store c.in-Ok-open.desk.store).is_open
+    → (state g.S.Store c.in-Ok-open.desk.store).now ≡ (state g.S.Store c.args.connection).now = λ clean shown.
+    c.in-Ok-open.ensures.same clean shown
+    ∙ c.in-Ok.ensures.opened (was_clean _ _ _ c.in-Ok-open.ensures.survives clean) (c.in-Ok-open.ensures.was_open clean) in
+    record {
+      has_meta = c.in-Ok.ensures.bare;
+      version = λ clean meta has. c.in-Ok.ensures.version (was_clean _ _ _ c.in-Ok-open.ensures.survives clean) meta has;
+      alone = λ clean meta has. c.in-Ok.ensures.alone (was_clean _ _ _ c.in-Ok-open.ensures.survives clean) meta has;
+      laid_out = λ clean. c.in-Ok.ensures.laid_out (was_clean _ _ _ c.in-Ok-open.ensures.survives clean);
+      same = same;
+      committed = λ clean was_open shown auto. (c.in-Ok-open.ensures.saved clean shown).1 ∙ (same clean shown ∙ c.settled.ensures auto was_open);
+      survives = survives_on _ _ _ c.in-Ok.ensures.crash_opened c.in-Ok-open.ensures.survives;
+    }
 
 -- a register that is known is good and staffed
 pub returns-in-Err-expect_good-clause-fault : goal.returns-in-Err-expect_good-clause-fault

@@ -12,11 +12,11 @@ returns-clause-visit g c = inr (record {
   middle = c.stored.new.self;
   later = c.stored.new.self;
   opened = c.in_ok-connection.ensures.opens;
+  mode = c.in_ok-connection.ensures.mode;
   does = (
     refl,
     record {
       told = c.register_moved-moved.result.0;
-      mode = c.in_ok-connection.ensures.mode;
       moved = c.register_moved-moved.ensures.moved;
       unmoved = c.register_moved-moved.ensures.unmoved;
       known = c.register_moved-moved.ensures.known;

@@ -1,15 +1,17 @@
-use Rattle.std.proofs.Common.{refl, subst, sym}
-use Rattle.sqlite.specs.Held.{Held}
+use Rattle.std.proofs.Common.{◌∙◌, refl, subst, sym}
+use Rattle.sqlite.specs.Held.{Held, state}
 use Rattle.clr_load.proofs.Loading.{has_meta}
 use Rattle.clr_store.proofs.Versions.{two_has}
 use Rattle.clr_tables.specs.Tables.{tables_of}
 use Rattle.clr_edge.specs.Database.{IsMoved, IsOfLine}
-use Rattle.clr_edge.proofs.Databases.{IsAsBefore-settled, IsOfLine-of_move}
+use Rattle.clr_edge.proofs.Databases.{IsAsBefore-settled, IsOfLine-of_move, IsSettled}
 use Rattle.clr_edge.proofs.database.register_moved.Goals as goal
 
 -- the store whose tables were moved, whose connection is given back
 pub returns-in-Ok-clause-moved : goal.returns-in-Ok-clause-moved
 returns-in-Ok-clause-moved g c =
+    let is : IsSettled (state g.S.Store c.in-Ok.store) =
+    subst (λ (h : Held g.row.S.Denot). IsSettled (state g.S.Store h)) c.end-connection.ensures.connection c.settled-in-Ok.ensures in
     let moved : IsMoved g.S.Store c.args.connection c.in-Ok.store = record {
       has_meta = c.in-Ok.ensures.bare;
       mode = c.in-Ok.ensures.mode;
@@ -19,9 +21,10 @@ returns-in-Ok-clause-moved g c =
       moved = c.in-Ok.ensures.moved;
       register = c.in-Ok.ensures.register;
       same = c.in-Ok.ensures.opened;
+      committed = λ clean was_open shown auto meta has two. sym (is (c.in-Ok.ensures.mode ∙ auto) shown) ∙ (c.in-Ok.ensures.opened clean shown meta has two ∙ c.settled.ensures auto was_open);
       survives = c.in-Ok.ensures.crash_moved;
     } in
-    subst (λ (after : Held g.row.S.Denot). IsMoved g.S.Store c.args.connection after) (sym c.end.ensures.connection) moved
+    subst (λ (after : Held g.row.S.Denot). IsMoved g.S.Store c.args.connection after) (sym c.end-connection.ensures.connection) moved
 
 pub returns-in-Err-clause-unmoved : goal.returns-in-Err-clause-unmoved
 returns-in-Err-clause-unmoved g c = record {

@@ -12,11 +12,11 @@ returns-clause-visit g c = inr (record {
   middle = c.database.new.self;
   later = c.database.new.self;
   opened = c.in_ok-connection.ensures.makes;
+  mode = c.in_ok-connection.ensures.mode;
   does = (
     refl,
     record {
       told = c.register_made-made.result.0;
-      mode = c.in_ok-connection.ensures.mode;
       made = c.register_made-made.ensures.made;
       unmade = c.register_made-made.ensures.unmade;
       fault = c.register_made-made.ensures.fault;

@@ -15,6 +15,9 @@ returns-in-Ok-clause-led g c =
       faults = c.of.ensures.faults ∙ c.faults-faults.ensures;
     }
 
+pub returns-in-Ok-clause-faults : goal.returns-in-Ok-clause-faults
+returns-in-Ok-clause-faults g c = c.of.ensures.faults ∙ c.faults-faults.ensures ∙ c.in-Ok.ensures.faults
+
 pub returns-in-Ok-clause-says : goal.returns-in-Ok-clause-says
 returns-in-Ok-clause-says g c first lines good has left =
     let store = c.of.ensures.store in

@@ -6,5 +6,4 @@ use Rattle.clr_known.proofs.answers.logged_run_of_jones.Goals as goal
 pub returns : goal.returns
 returns g c = logged_given g.R.Medium.Disk g.met.R.JonesMachine.clean g.R.Databases.opens g.R.Databases.shuts g.R.Databases.ends
     (logs g.R.Journals g.R.Log.Journal g.R.Time.Clock.shows) g.met.R.JonesMachine.asked.logged g.met.R.JonesMachine.knows (codes "jones.db")
-    (codes "journal") (g.I.Read.remaining c.args.input.now) c.run_with_journal.result c.args.machine.now c.run_with_journal.new.rt
-    c.run_with_journal.ensures.visit
+    _ (g.I.Read.remaining c.args.input.now) c.run_stored.result c.args.machine.now c.run_stored.new.rt c.run_stored.ensures.visit
