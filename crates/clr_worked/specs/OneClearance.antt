@@ -12,8 +12,7 @@ use Rattle.clr_examples.specs.Isolation.{register_two}
 use Rattle.clr_examples.specs.Jumpers.{lays}
 use Rattle.clr_examples.specs.Worked.{L3, OPS, S4, Saying, jones_1, jones_works_and_releases}
 use Rattle.clr_examples.specs.Worked.{l2_granted, l2_is_restored, said_at}
-use Rattle.clr_text.specs.CommandText.{word_of}
-use Rattle.clr_text.specs.Kinds.{states_moment}
+use Rattle.clr_text.specs.Kinds.{states_moment, word_of}
 use Rattle.clr_http.specs.Asked.{own_among}
 use Rattle.clr_http.specs.Service.{RespondsAll}
 use Rattle.clr_worked.specs.Sent.{asked_by, can_all_be_posted, requests_of, responses_of}
