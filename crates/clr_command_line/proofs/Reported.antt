@@ -5,7 +5,6 @@ use Rattle.std.specs.Borrow.{Bor}
 use Rattle.std.specs.declared.alloc.Global.{Global}
 use Rattle.std.specs.declared.io.ErrorKind.{ErrorKind}
 use Rattle.std.specs.declared.io.ErrorKind.TheVariants.{OutOfMemory}
-use Rattle.sqlite_disk.specs.declared.Disk as disk
 use Rattle.clr_args.specs.Parsed.{MayAnswer, Parses}
 use Rattle.clr_args.proofs.ParsedWords.{MayAnswer-parsed}
 use Rattle.clr_args.specs.declared.asked.Asked.{Asked}
@@ -14,17 +13,15 @@ use Rattle.clr_args.specs.declared.asked.Files.{Files}
 use Rattle.clr_args.specs.declared.asked.RunArgs.TheVariants as run
 use Rattle.clr_args.specs.declared.parsing.Parsed.{Parsed}
 use Rattle.clr_args.specs.declared.parsing.Parsed.TheVariants as parsed
-use Rattle.clr_edge.specs.TakenUp.{Logs}
-use Rattle.clr_edge.specs.Visit.{Done, Ending, Opening, Shutting}
+use Rattle.clr_edge.specs.Visit.{Done}
 use Rattle.clr_edge.specs.declared.fault.Fault.{Fault}
 use Rattle.clr_edge.specs.declared.fault.Fault.TheVariants.{Memory, Output}
-use Rattle.clr_edge.specs.declared.loopback.Loopback as loopback
-use Rattle.clr_commands.specs.Connections.{ReportsFirst, Seen}
-use Rattle.clr_commands.specs.Paths.{AtPaths}
+use Rattle.clr_commands.specs.Connections.{ReportsFirst}
 use Rattle.clr_commands.specs.Faults.{FailsAsSubcommand, IsOfSubcommand}
 use Rattle.clr_commands.specs.declared.replies.Printed.{Printed}
 use Rattle.clr_commands.proofs.Written.{Writes, serve_written}
 use Rattle.clr_stream.specs.Streams.{Stream}
+use Rattle.clr_command_line.specs.Around.{Around, Steps}
 use Rattle.clr_command_line.specs.CommandLine.{AnswersNone, CarriesOut, DoesParsed, Moment}
 use Rattle.clr_command_line.specs.OwnFiles.{NamesOthers, NamesOwn, OwnsFile, UnlessMemory}
 use Rattle.clr_command_line.specs.Report.{HasServed, IsFaulted, IsReported, Reports, ReportsFault, ReportsRun, ReportsServed, ReportsText}
@@ -131,11 +128,12 @@ own_other owns (asked.Verify args) fault (inr (inl (own, is))) e = cc (sym is �
 own_other owns (asked.Verify args) fault (inr (inr own)) e = file_other owns args.database.now args.files fault own e
 own_other owns what fault (inr own) e = absurd own
 
-module _ {M D L R W I J C : Type 0} (logs : Logs M J C) (g : disk.Ghosts D) (makes opens : Opening M D) (shuts : Shutting M) (ends : Ending M D)
-    (net : loopback.Ghosts M L R W) (seen : Seen R W) (files : AtPaths)
-    (owns spares : List ℕ → List ℕ → Type 0) (remaining : I → Option (List ℕ)) (failures : I → ℕ) where
+module _ {M D L R W I J C : Type 0} (by : Steps M D L R W J C) (around : Around I) where
+  open by use {logs, medium, opens, shuts, ends, net, seen}
+  open around use {files, owns}
+
   carried_out : (what : Asked) (status : ℕ) (before after : Moment M I)
-      → CarriesOut logs g makes opens shuts ends net seen files owns spares remaining failures what status before after
+      → CarriesOut by around what status before after
       → IsReported status before.output after.output before.errors after.errors
   carried_out (asked.Fence args) status before after (answer, does, own, untouched, reports) = reported answer status _ _ _ _ own reports
   carried_out (asked.Check three) status before after (answer, does, own, untouched, reports) = reported answer status _ _ _ _ own reports
@@ -146,14 +144,14 @@ module _ {M D L R W I J C : Type 0} (logs : Logs M J C) (g : disk.Ghosts D) (mak
   carried_out (asked.WayBack args) status before after (answer, does, own, untouched, reports) = reported answer status _ _ _ _ own reports
   carried_out (asked.Serve args) status before after (served, middle, untouched, serves, reports) =
       reported_served args.port args.count served status before.output after.output before.errors middle after.errors
-      (serve_written logs net seen before.output after.output before.errors middle files args g opens shuts ends served
+      (serve_written logs net seen before.output after.output before.errors middle files args medium opens shuts ends served
       before.machine after.machine serves) reports
   carried_out (asked.Journal args) status before after (answer, does, own, untouched, reports) = reported answer status _ _ _ _ own reports
   carried_out (asked.Verify args) status before after (answer, does, own, untouched, reports) = reported answer status _ _ _ _ own reports
   carried_out (asked.Migrate path) status before after (answer, does, own, untouched, reports) = reported answer status _ _ _ _ own reports
 
   pub does : (what : Parsed) (status : ℕ) (before after : Moment M I)
-      → DoesParsed logs g makes opens shuts ends net seen files owns spares remaining failures what status before after
+      → DoesParsed by around what status before after
       → IsReported status before.output after.output before.errors after.errors
   does (parsed.Asked what) status before after (inl (fault, own, untouched, same, line)) =
       reported_fault fault status _ _ _ _ (own_other owns what fault own) same line
@@ -163,7 +161,7 @@ module _ {M D L R W I J C : Type 0} (logs : Logs M J C) (g : disk.Ghosts D) (mak
 
   -- the status is 0 only for words that may have an answer
   pub MayAnswer-does : (words : List (List ℕ)) (what : Parsed) (status : ℕ) (before after : Moment M I) → Parses words what
-      → DoesParsed logs g makes opens shuts ends net seen files owns spares remaining failures what status before after → status ≡ 0 → MayAnswer words
+      → DoesParsed by around what status before after → status ≡ 0 → MayAnswer words
   MayAnswer-does words (parsed.Asked what) status before after is is_done zero =
       MayAnswer-parsed words (parsed.Asked what) is (λ unread. unread)
   MayAnswer-does words (parsed.Help text) status before after is is_done zero =

@@ -1,11 +1,10 @@
 -- What a command line does: what its words ask for is carried out and reported.
-use Rattle.std.specs.Prelude.{◌≡◌, ◌⊎◌, ℕ, List, Option, None, Result, IfErr, IfSome, IsErrOf}
+use Rattle.std.specs.Prelude.{◌≡◌, ◌⊎◌, ℕ, List, None, Result, IfErr, IfSome, IsErrOf}
 use Rattle.std.specs.Prelude.{String, codes, string_bytes}
 use Rattle.std.specs.declared.alloc.Global.{Global}
 use Rattle.std.specs.declared.io.ErrorKind.{ErrorKind}
 use Rattle.std.specs.declared.io.ErrorKind.TheVariants.{OutOfMemory}
 use Rattle.sqlite.specs.Files.{over_files}
-use Rattle.sqlite_disk.specs.declared.Disk as disk
 use Rattle.clr_stream.specs.Streams.{Sends, Stream}
 use Rattle.clr_args.specs.Parsed.{Parses}
 use Rattle.clr_args.specs.declared.asked.Asked.{Asked}
@@ -13,15 +12,11 @@ use Rattle.clr_args.specs.declared.asked.Asked.TheVariants as asked
 use Rattle.clr_args.specs.declared.asked.JournalArgs.{JournalArgs}
 use Rattle.clr_args.specs.declared.parsing.Parsed.{Parsed}
 use Rattle.clr_args.specs.declared.parsing.Parsed.TheVariants as parsed
-use Rattle.clr_edge.specs.TakenUp.{Logs}
-use Rattle.clr_edge.specs.Visit.{Alone, Comes, Done, Ending, MakesRegister, MovesRegister, Opening}
-use Rattle.clr_edge.specs.Visit.{Shutting}
+use Rattle.clr_edge.specs.Visit.{Alone, Comes, Done, MakesRegister, MovesRegister}
 use Rattle.clr_edge.specs.declared.fault.Fault.{Fault}
 use Rattle.clr_edge.specs.declared.fault.Fault.TheVariants.{Journal, Memory}
 use Rattle.clr_edge.specs.declared.fault.JournalFault.TheVariants.{OpenFailed, ReadFailed}
-use Rattle.clr_edge.specs.declared.loopback.Loopback as loopback
 use Rattle.clr_commands.specs.Check.{ChecksAt}
-use Rattle.clr_commands.specs.Connections.{Seen}
 use Rattle.clr_commands.specs.Faults.{FailsAsSubcommand, IsOfSubcommand}
 use Rattle.clr_commands.specs.Fence.{FencesAt}
 use Rattle.clr_commands.specs.Init.{InitsAt}
@@ -34,6 +29,7 @@ use Rattle.clr_commands.specs.Verify.{Verifies, VerifiesAt}
 use Rattle.clr_commands.specs.WayBack.{PrintsWayBack}
 use Rattle.clr_commands.specs.declared.replies.Printed.{Printed}
 use Rattle.clr_commands.specs.Journal.{GivesJournal}
+use Rattle.clr_command_line.specs.Around.{Around, Steps}
 use Rattle.clr_command_line.specs.OwnFiles.{NamesOthers, NamesOwn, UnlessMemory}
 use Rattle.clr_command_line.specs.Report.{Reports, ReportsFault, ReportsRun, ReportsServed}
 use Rattle.clr_command_line.specs.Report.{ReportsText}
@@ -68,13 +64,11 @@ pub record PrintsJournal (files : AtPaths) (args : JournalArgs)
   pub unopened : IsErrOf answer (Journal OpenFailed) → files.fails args.path.now
   pub unread : IsErrOf answer (Journal ReadFailed) → files.fails args.path.now
 
--- A command line runs over: the steps by which a machine opens journals, opens and closes databases
--- and takes connections, and what is seen of a connection; the files at paths; and what standard
--- input shows of itself, what is left to read and how many reads failed.
-module _ {M D L R W I J C : Type 0} (logs : Logs M J C) (g : disk.Ghosts D) (makes opens : Opening M D)
-    (shuts : Shutting M) (ends : Ending M D) (net : loopback.Ghosts M L R W) (seen : Seen R W)
-    (files : AtPaths) (owns spares : List ℕ → List ℕ → Type 0) (remaining : I → Option (List ℕ))
-    (failures : I → ℕ) where
+-- over the steps of a machine, and what is seen of the files at paths and of the input
+module _ {M D L R W I J C : Type 0} (by : Steps M D L R W J C) (around : Around I) where
+  open by use {logs, medium, makes, opens, shuts, ends, net, seen}
+  open around use {files, owns, spares, remaining, failures}
+
   -- what `run` printed is reported, and the input is read for it
   abbrev pub RunComesTo : (Result Printed Fault → M → M → Type 0) → ℕ → Moment M I → Moment M I
       → Type 0
@@ -92,29 +86,29 @@ module _ {M D L R W I J C : Type 0} (logs : Logs M J C) (g : disk.Ghosts D) (mak
   CarriesOut (asked.Check three) status before after = ComesTo
       (λ answer old new. ChecksAt files three answer × (new ≡ old)) status before after
   CarriesOut (asked.Init args) status before after = ComesTo
-      (InitsAt files (λ path register. Comes g makes shuts ends path
+      (InitsAt files (λ path register. Comes medium makes shuts ends path
       (Alone (MakesRegister over_files register))) args) status before after
   CarriesOut (asked.Run args) status before after = RunComesTo
-      (RunsAsked files (RunsKept logs g opens shuts ends (remaining before.input)) args
+      (RunsAsked files (RunsKept logs medium opens shuts ends (remaining before.input)) args
       (remaining before.input)) status before after
   CarriesOut (asked.Order args) status before after = ComesTo
-      (Comes g opens shuts ends args.database.now (PrintsOrder args)) status before after
+      (Comes medium opens shuts ends args.database.now (PrintsOrder args)) status before after
   CarriesOut (asked.Board args) status before after = ComesTo
-      (Comes g opens shuts ends args.database.now (PrintsBoard args)) status before after
+      (Comes medium opens shuts ends args.database.now (PrintsBoard args)) status before after
   CarriesOut (asked.WayBack args) status before after = ComesTo
-      (Comes g opens shuts ends args.database.now (PrintsWayBack args)) status before after
+      (Comes medium opens shuts ends args.database.now (PrintsWayBack args)) status before after
   CarriesOut (asked.Serve args) status before after =
       (served : Done) × (reported : Stream) × (after.input ≡ before.input)
       × ServesAt logs net seen files args before.output after.output before.errors reported
-      g opens shuts ends served before.machine after.machine
+      medium opens shuts ends served before.machine after.machine
       × ReportsServed served status reported after.errors
   CarriesOut (asked.Journal args) status before after = ComesTo
       (λ answer old new. PrintsJournal files args answer × (new ≡ old)) status before after
   CarriesOut (asked.Verify args) status before after = ComesTo
-      (VerifiesAt files args (λ run. Comes g opens shuts ends args.database.now (Verifies run)))
+      (VerifiesAt files args (λ run. Comes medium opens shuts ends args.database.now (Verifies run)))
       status before after
   CarriesOut (asked.Migrate path) status before after = ComesTo
-      (Migrates (Comes g opens shuts ends path.now (Alone (MovesRegister over_files))))
+      (Migrates (Comes medium opens shuts ends path.now (Alone (MovesRegister over_files))))
       status before after
 
   -- a file that is named beside a database is one of its own, or memory ran out: nothing is done

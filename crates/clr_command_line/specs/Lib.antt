@@ -1,3 +1,4 @@
+pub mod Around
 pub mod CommandLine
 pub mod OwnFiles
 pub mod Report

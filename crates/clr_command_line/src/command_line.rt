@@ -5,6 +5,7 @@ ghost use Rattle.clr_args.specs.Parsed.{MayAnswer};
 ghost use Rattle.clr_edge.specs.TakenUp.{logs};
 ghost use Rattle.clr_commands.specs.Connections.{seen};
 ghost use Rattle.clr_commands.specs.Paths.{at_paths};
+ghost use Rattle.clr_command_line.specs.Around.{around, steps};
 ghost use Rattle.clr_command_line.specs.CommandLine.{AnswersNone, AnswersWords, CarriesOut};
 ghost use Rattle.clr_command_line.specs.CommandLine.{DoesParsed, ReportsNoWords, moment};
 ghost use Rattle.clr_command_line.specs.Report.{IsReported};
@@ -55,11 +56,11 @@ where
     W: CountedFlush,
     E: CountedFlush,
     ensures answer { IfOk words.now (λ given. AnswersWords
-        (logs R.Journals R.Log.Journal R.Time.shows)
+        (steps (logs R.Journals R.Log.Journal R.Time.shows)
         R.Medium.Disk R.makes R.opens R.shuts R.ends R.Loopback
-        (seen R.Reader.remaining R.Reader.failure_count R.Writer.stream)
-        (at_paths O.File.remaining O.File.failure_count (O.bytes_at paths.now))
-        (O.owns paths.now) (O.spares paths.now) I.remaining I.failure_count
+        (seen R.Reader.remaining R.Reader.failure_count R.Writer.stream))
+        (around (at_paths O.File.remaining O.File.failure_count (O.bytes_at paths.now))
+        (O.owns paths.now) (O.spares paths.now) I.remaining I.failure_count)
         (map S.text given.items) result
         (moment rt.old input.old (W.stream output.old) (E.stream errors.old))
         (moment rt.new input.new (W.stream output.new) (E.stream errors.new))) }
@@ -94,11 +95,11 @@ where
     W: CountedFlush,
     E: CountedFlush,
     ensures answer { AnswersWords
-        (logs R.Journals R.Log.Journal R.Time.shows)
+        (steps (logs R.Journals R.Log.Journal R.Time.shows)
         R.Medium.Disk R.makes R.opens R.shuts R.ends R.Loopback
-        (seen R.Reader.remaining R.Reader.failure_count R.Writer.stream)
-        (at_paths O.File.remaining O.File.failure_count (O.bytes_at paths.now))
-        (O.owns paths.now) (O.spares paths.now) I.remaining I.failure_count
+        (seen R.Reader.remaining R.Reader.failure_count R.Writer.stream))
+        (around (at_paths O.File.remaining O.File.failure_count (O.bytes_at paths.now))
+        (O.owns paths.now) (O.spares paths.now) I.remaining I.failure_count)
         (map S.text words.now) result
         (moment rt.old input.old (W.stream output.old) (E.stream errors.old))
         (moment rt.new input.new (W.stream output.new) (E.stream errors.new)) }
@@ -128,11 +129,11 @@ where
     W: CountedFlush,
     E: CountedFlush,
     ensures { DoesParsed
-        (logs R.Journals R.Log.Journal R.Time.shows)
+        (steps (logs R.Journals R.Log.Journal R.Time.shows)
         R.Medium.Disk R.makes R.opens R.shuts R.ends R.Loopback
-        (seen R.Reader.remaining R.Reader.failure_count R.Writer.stream)
-        (at_paths O.File.remaining O.File.failure_count (O.bytes_at paths.now))
-        (O.owns paths.now) (O.spares paths.now) I.remaining I.failure_count parsed.now result
+        (seen R.Reader.remaining R.Reader.failure_count R.Writer.stream))
+        (around (at_paths O.File.remaining O.File.failure_count (O.bytes_at paths.now))
+        (O.owns paths.now) (O.spares paths.now) I.remaining I.failure_count) parsed.now result
         (moment rt.old input.old (W.stream output.old) (E.stream errors.old))
         (moment rt.new input.new (W.stream output.new) (E.stream errors.new)) }
 {
@@ -165,11 +166,11 @@ where
     W: CountedFlush,
     E: CountedFlush,
     ensures { CarriesOut
-        (logs R.Journals R.Log.Journal R.Time.shows)
+        (steps (logs R.Journals R.Log.Journal R.Time.shows)
         R.Medium.Disk R.makes R.opens R.shuts R.ends R.Loopback
-        (seen R.Reader.remaining R.Reader.failure_count R.Writer.stream)
-        (at_paths O.File.remaining O.File.failure_count (O.bytes_at paths.now))
-        (O.owns paths.now) (O.spares paths.now) I.remaining I.failure_count asked.now result
+        (seen R.Reader.remaining R.Reader.failure_count R.Writer.stream))
+        (around (at_paths O.File.remaining O.File.failure_count (O.bytes_at paths.now))
+        (O.owns paths.now) (O.spares paths.now) I.remaining I.failure_count) asked.now result
         (moment rt.old input.old (W.stream output.old) (E.stream errors.old))
         (moment rt.new input.new (W.stream output.new) (E.stream errors.new)) }
 {

@@ -1,27 +1,42 @@
 //! The switching order and clearance register of a system operator: the program.
 #![tactic(auto)]
 
-ghost use Rattle.std.specs.Prelude.{◌≡◌, ◌≤◌};
+ghost use Rattle.std.specs.Prelude.{◌≡◌, ◌≤◌, IfErr, IfOk, None, map};
+ghost use Rattle.std.specs.IoError.{error_kind};
 ghost use Rattle.std.specs.Process.{exit_status};
-ghost use Rattle.clr_stream.specs.Streams.{Stream};
+ghost use Rattle.clr_disk.specs.Place.{IsOther, IsOwn};
+ghost use Rattle.clr_edge.specs.TakenUp.{logs};
+ghost use Rattle.clr_commands.specs.Connections.{seen};
+ghost use Rattle.clr_commands.specs.Paths.{at_paths};
+ghost use Rattle.clr_command_line.specs.Around.{around, steps};
+ghost use Rattle.clr_command_line.specs.CommandLine.{AnswersNone, AnswersWords, moment};
 ghost use Rattle.clr_command_line.specs.Report.{IsReported};
 
 mod input;
+mod line;
 
 use crate::input::StandardInput;
-use clr_command_line::command_line::command_line;
-use clr_disk::{Behind, Host, System, Watch};
-use clr_edge::database::Makes;
-use clr_edge::journals::Journals;
+use crate::line::{Answers, CommandLine};
+use clr_append::{Journal, OnDisk};
+use clr_disk::{Behind, Host, System, Timed, Watch, Watched};
+use clr_edge::database::{Databases, Makes};
+use clr_edge::journals::{Journals, Seconds};
 use clr_edge::loopback::Loopback;
 use clr_edge::machine::{DatabaseStart, JournalStart, Machine};
-use clr_edge::paths::Paths;
-use clr_stream::{Counted, CountedFlush, CountedRead};
-use std::alloc::Global;
+use clr_edge::paths::{AtPath, Paths};
+use clr_journaled::Clock as JournalClock;
+use clr_stream::{Counted, CountedFlush, CountedRead, CountedWrite};
+use sqlite_disk::Disk;
+use std::convert::AsStr;
+use std::io::Read;
+use std::net::TcpStream;
 use std::os::fd::AsFd;
 use std::process::ExitCode;
 use std::rt::Clock;
 use std::{env, io};
+
+/// One of the two handles of a connection.
+type Handle<K> = Counted<Timed<TcpStream, K>>;
 
 fn main(rt: HostRuntime) -> ExitCode {
     program(&rt)
@@ -43,79 +58,80 @@ fn program(rt: &HostRuntime) -> ExitCode
     };
     let files: Host<DatabaseStart, JournalStart> = Host::of_files(rt);
     let mut line = CommandLine {
-        paths: Paths::new(&files),
         words: &words,
+        paths: Paths::new(&files),
         input: Behind::new(Counted::new(stdin), &watch),
         output: Behind::new(Counted::new(rt.stdout()), &watch),
         errors: Behind::new(Counted::new(rt.stderr()), &watch),
     };
     let system = Host::new(rt, DatabaseStart, JournalStart);
-    let status = answer(rt.alloc(), system, &watch, &mut line);
+    let mut machine = Machine::watched(rt.alloc(), system, &watch);
+    let status = answer_line(&mut machine, &mut line);
     exit_code(status)
 }
 
-/// A command line that is answered on a machine. It is a trait, so that a machine meets what is asked
-/// of one without the streams: at both together the prover runs out of steps.
-trait Answers {
-    /// What the output has.
-    ghost output: { Self → Stream };
-
-    /// What the error stream has.
-    ghost errors: { Self → Stream };
-
-    /// Answers the words on any machine, and returns the status.
-    fn answer_on<R>(&mut self, machine: &mut R) -> u8
-    where
-        R: Makes + Journals + Loopback + AllocGlobal,
-        ensures status { result ≤ 2 }
-        ensures reported { IsReported result (output self.old) (output self.new)
-            (errors self.old) (errors self.new) };
-}
-
-/// The words of a process, the files that they name, and its streams.
-#[derive(Drop)]
-struct CommandLine<'a, Y, I: Drop, W: Drop, E: Drop> {
-    paths: Paths<'a, Y>,
-    words: &'a io::Result<Vec<String>>,
-    input: I,
-    output: W,
-    errors: E,
-}
-
-impl<'a, Y: System, I: CountedRead + Drop, W: CountedFlush + Drop, E: CountedFlush + Drop> Answers
-    for CommandLine<'a, Y, I, W, E> {
-    ghost output = { λ line. W.stream line.output };
-
-    ghost errors = { λ line. E.stream line.errors };
-
-    fn answer_on<R>(&mut self, machine: &mut R) -> u8
-    where
-        R: Makes + Journals + Loopback + AllocGlobal,
-    {
-        command_line(
-            machine,
-            &self.paths,
-            self.words,
-            &mut self.input,
-            &mut self.output,
-            &mut self.errors,
-        )
-    }
-}
-
-/// Answers a command line on a system that opens databases and listens.
-fn answer<Y: System + Drop, K: Clock, L: Answers>(
-    alloc: Global,
-    system: Y,
-    watch: &Watch<K>,
-    line: &mut L,
+/// Answers the words of a process on a machine, whose system opens databases and listens, with the
+/// files that another value of that system opens. What is asked of the streams is said here, and what
+/// is asked of a machine in `answer`: at the host both together take too much memory.
+fn answer_line<'a, 'm, Y, K, I, W, E>(
+    machine: &mut Machine<'m, Y, K>,
+    line: &mut CommandLine<'a, Paths<'a, Y>, I, W, E>,
 ) -> u8
+where
+    Y: System,
+    K: Clock,
+    I: CountedRead + Drop,
+    W: CountedFlush + Drop,
+    E: CountedFlush + Drop,
     ensures status { result ≤ 2 }
+    ensures answer { IfOk line.old.words.now (λ given. AnswersWords
+        (steps (logs ⟦<Machine<'m, Y, K> as Journals>⟧ ⟦<OnDisk<Y::JournalMedium> as Journal>⟧
+        ⟦<Seconds<Y::Clock> as JournalClock>⟧.shows)
+        ⟦<Watched<'m, Y::Medium, K> as Disk>⟧ ⟦<Machine<'m, Y, K> as Makes>⟧.makes
+        ⟦<Machine<'m, Y, K> as Databases>⟧.opens ⟦<Machine<'m, Y, K> as Databases>⟧.shuts
+        ⟦<Machine<'m, Y, K> as Databases>⟧.ends ⟦<Machine<'m, Y, K> as Loopback>⟧
+        (seen ⟦<Handle<Y::Clock> as Read>⟧.remaining
+        ⟦<Handle<Y::Clock> as CountedRead>⟧.failure_count
+        ⟦<Handle<Y::Clock> as CountedWrite>⟧.stream))
+        (around (at_paths ⟦<AtPath<'a, Y> as Read>⟧.remaining
+        ⟦<AtPath<'a, Y> as CountedRead>⟧.failure_count (λ _. None))
+        (IsOwn Y.is_place) (IsOther Y.is_place Y.lacks_place) I.remaining I.failure_count)
+        (map ⟦<String as AsStr>⟧.text given.items) result
+        (moment machine.old line.old.input (W.stream line.old.output) (E.stream line.old.errors))
+        (moment machine.new line.new.input (W.stream line.new.output)
+        (E.stream line.new.errors))) }
+    ensures no_words { IfErr line.old.words.now (λ cause. AnswersNone (error_kind cause) result
+        (moment machine.old line.old.input (W.stream line.old.output) (E.stream line.old.errors))
+        (moment machine.new line.new.input (W.stream line.new.output)
+        (E.stream line.new.errors))) }
+    ensures reported { IsReported result (W.stream line.old.output) (W.stream line.new.output)
+        (E.stream line.old.errors) (E.stream line.new.errors) }
+{
+    answer(machine, line)
+}
+
+/// Answers words on such a machine.
+fn answer<'m, Y: System, K: Clock, L: Answers>(machine: &mut Machine<'m, Y, K>, line: &mut L) -> u8
+    ensures status { result ≤ 2 }
+    ensures answer { IfOk (L.words line.old) (λ given. AnswersWords
+        (steps (logs ⟦<Machine<'m, Y, K> as Journals>⟧ ⟦<OnDisk<Y::JournalMedium> as Journal>⟧
+        ⟦<Seconds<Y::Clock> as JournalClock>⟧.shows)
+        ⟦<Watched<'m, Y::Medium, K> as Disk>⟧ ⟦<Machine<'m, Y, K> as Makes>⟧.makes
+        ⟦<Machine<'m, Y, K> as Databases>⟧.opens ⟦<Machine<'m, Y, K> as Databases>⟧.shuts
+        ⟦<Machine<'m, Y, K> as Databases>⟧.ends ⟦<Machine<'m, Y, K> as Loopback>⟧
+        (seen ⟦<Handle<Y::Clock> as Read>⟧.remaining
+        ⟦<Handle<Y::Clock> as CountedRead>⟧.failure_count
+        ⟦<Handle<Y::Clock> as CountedWrite>⟧.stream))
+        (L.shows line.old) (map ⟦<String as AsStr>⟧.text given.items) result
+        (moment machine.old (L.input line.old) (L.output line.old) (L.errors line.old))
+        (moment machine.new (L.input line.new) (L.output line.new) (L.errors line.new))) }
+    ensures no_words { IfErr (L.words line.old) (λ cause. AnswersNone (error_kind cause) result
+        (moment machine.old (L.input line.old) (L.output line.old) (L.errors line.old))
+        (moment machine.new (L.input line.new) (L.output line.new) (L.errors line.new))) }
     ensures reported { IsReported result (L.output line.old) (L.output line.new)
         (L.errors line.old) (L.errors line.new) }
 {
-    let mut machine = Machine::watched(alloc, system, watch);
-    line.answer_on(&mut machine)
+    line.answer_on(machine)
 }
 
 /// The status as the system has it.
