@@ -46,25 +46,9 @@ caller_is_known : (R : Register) (q : Command) → refusal_of R q ≡ None → u
 caller_is_known R q none = by q.kind none
   where
     by : (kind : Kind) → first_refusal (checks (known_of R q) R q.caller q.moment kind) ≡ None → unknown_caller R q.caller ≡ None
-    by (kinds.Request s) h = (all_pass (checks (known_of R q) R q.caller q.moment (kinds.Request s)) h).0
-    by (kinds.Order c points tasks) h = (all_pass (checks (known_of R q) R q.caller q.moment (kinds.Order c points tasks)) h).0
-    by (kinds.Instruct c n) h = (all_pass (checks (known_of R q) R q.caller q.moment (kinds.Instruct c n)) h).0
-    by (kinds.Repeat c n text) h = (all_pass (checks (known_of R q) R q.caller q.moment (kinds.Repeat c n text)) h).0
-    by (kinds.Report c n done) h = (all_pass (checks (known_of R q) R q.caller q.moment (kinds.Report c n done)) h).0
-    by (kinds.Grant c) h = (all_pass (checks (known_of R q) R q.caller q.moment (kinds.Grant c)) h).0
-    by (kinds.Test c s dead) h = (all_pass (checks (known_of R q) R q.caller q.moment (kinds.Test c s dead)) h).0
-    by (kinds.Ground c s) h = (all_pass (checks (known_of R q) R q.caller q.moment (kinds.Ground c s)) h).0
-    by (kinds.Unground c s) h = (all_pass (checks (known_of R q) R q.caller q.moment (kinds.Unground c s)) h).0
-    by (kinds.SignOn c crew) h = (all_pass (checks (known_of R q) R q.caller q.moment (kinds.SignOn c crew)) h).0
-    by (kinds.SignOff c crew) h = (all_pass (checks (known_of R q) R q.caller q.moment (kinds.SignOff c crew)) h).0
-    by (kinds.Transfer c to emergency) h = (all_pass (checks (known_of R q) R q.caller q.moment (kinds.Transfer c to emergency)) h).0
-    by (kinds.Release c notified clear) h = (all_pass (checks (known_of R q) R q.caller q.moment (kinds.Release c notified clear)) h).0
-    by (kinds.Cancel c) h = (all_pass (checks (known_of R q) R q.caller q.moment (kinds.Cancel c)) h).0
-    by (kinds.Restore c tasks) h = (all_pass (checks (known_of R q) R q.caller q.moment (kinds.Restore c tasks)) h).0
-    by (kinds.Amend c n) h = (all_pass (checks (known_of R q) R q.caller q.moment (kinds.Amend c n)) h).0
-    by (kinds.Switch tasks) h = (all_pass (checks (known_of R q) R q.caller q.moment (kinds.Switch tasks)) h).0
     by (kinds.Show c) h = (all_pass (checks (known_of R q) R q.caller q.moment (kinds.Show c)) h).0
-    by (kinds.Jumper point from to lockable remote) h = (all_pass (checks (known_of R q) R q.caller q.moment (kinds.Jumper point from to lockable remote)) h).0
+    -- each kind begins with it
+    by kind h = (all_pass (checks (known_of R q) R q.caller q.moment kind) h).0
 
 accepted_is_given : (R : Register) (q : Command) → is_accepted (Answer.reply (answer R q)) ≡ true → is_some (employee R.staff q.caller) ≡ true
 accepted_is_given R q accepted = at (Answer.reply (answer R q)) refl accepted
