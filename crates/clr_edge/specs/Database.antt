@@ -15,7 +15,7 @@ use Rattle.clr_load.specs.Cause.{SqlHasCause, fault_of}
 use Rattle.clr_load.specs.Contract.{IsSaved, old_points}
 use Rattle.clr_load.specs.Stored.{AreTables, HasMeta, HasOldTables, HasTables}
 use Rattle.clr_load.specs.Schema.{no_schema}
-use Rattle.clr_load.specs.Stored.{HasVersion, IsLaidOut, LacksMeta}
+use Rattle.clr_load.specs.Stored.{HasVersion, HasWholeRows, IsLaidOut, LacksMeta}
 use Rattle.clr_load.specs.declared.fault.StoreFault.{StoreFault}
 use Rattle.clr_load.specs.declared.fault.StoreFault.TheVariants.{BadRow, OtherTables, Sql}
 use Rattle.clr_store.specs.Contract.{RefusesOpening, RefusesVersion}
@@ -66,8 +66,9 @@ pub record HasRegister {S : Type 0} (g : Ghosts S) (R : Register) (connection : 
   pub tables : HasTables (state g connection).now (tables_of R)
 
 -- a database of version 2 was read, and not changed: it has the tables of a register and nothing
--- else, and `meta` its one row. They are the same where the disk is clean and the connection open,
--- and so is what was committed last; a crash leaves what it left before
+-- else, and `meta` its one row; so tables are there, unless a row lacks a column. They are the same
+-- where the disk is clean and the connection open, and so is what was committed last; a crash leaves
+-- what it left before
 pub record IsOnlyRead {S : Type 0} (g : Ghosts S) (before after : Held S) : Type 0 where
   pub has_meta : LacksMeta (state g before).now → ⊥
   pub version : HasCleanDisk (state g after) → (meta : List Row)
@@ -75,6 +76,8 @@ pub record IsOnlyRead {S : Type 0} (g : Ghosts S) (before after : Held S) : Type
   pub alone : HasCleanDisk (state g after) → (meta : List Row)
       → HasMeta (state g before).now meta → length meta ≡ 1
   pub laid_out : HasCleanDisk (state g after) → IsLaidOut 2 (state g before).now
+  pub there : HasCleanDisk (state g after) → HasWholeRows (state g before).now
+      → HasVersion 2 (state g before).now
   pub same : HasCleanDisk (state g after) → IsTrue (state g after).is_open
       → (state g after).now ≡ (state g before).now
   pub committed : HasCleanDisk (state g after) → IsTrue (state g before).is_open
@@ -138,7 +141,7 @@ RefusesTables t cause = RefusesOpening t cause
     ⊎ RefusesUnfit t cause
 
 -- the fault that is reported of a database that is not opened. Of tables that are there it is
--- theirs, another version is reported as what it is, and `Sql` has a cause
+-- theirs, another version and other tables are reported as what they are, and `Sql` has a cause
 pub record IsRefused {S : Type 0} (g : Ghosts S) (before : Held S) (told : Fault) (after : Held S)
     : Type 0 where
   pub fault : StoreFault
@@ -147,7 +150,8 @@ pub record IsRefused {S : Type 0} (g : Ghosts S) (before : Held S) (told : Fault
   pub refuses : HasCleanDisk (state g after) → (t : Tables) → HasTables (state g before).now t
       → RefusesTables t fault
   pub version : HasCleanDisk (state g after) → before.in_transaction ≡ false → (meta : List Row)
-      → HasMeta (state g before).now meta → read_version meta ≢ Ok (pos 2)
+      → HasMeta (state g before).now meta
+      → (IsLaidOut 2 (state g before).now → read_version meta ≡ Ok (pos 2) → ⊥)
       → RefusesVersion (read_version meta) fault
       × SqlHasCause (state g before) (state g after) fault
   pub cause : HasCleanDisk (state g after) → before.in_transaction ≡ false → (t : Tables)
@@ -166,6 +170,8 @@ pub record IsMoved {S : Type 0} (g : Ghosts S) (before after : Held S) : Type 0 
       → HasMeta (state g before).now meta → length meta ≡ 1
   pub laid_out : HasCleanDisk (state g after)
       → IsLaidOut 1 (state g before).now ⊎ IsLaidOut 2 (state g before).now
+  pub there : HasCleanDisk (state g after) → HasWholeRows (state g before).now
+      → HasVersion 1 (state g before).now ⊎ HasVersion 2 (state g before).now
   pub moved : HasCleanDisk (state g after) → (t : Tables) → HasOldTables (state g before).now t
       → read_version t.meta ≡ Ok (pos 1)
       → IsTrue (is_ok (old_points t)) × IsSaved (state g after)

@@ -76,7 +76,8 @@ returns-in-Err-open-clause-told g c =
           (c.in-Err-open.ensures.shut clean);
       version = λ clean_back out meta has other.
           let clean = subst (λ h. HasCleanDisk (state g.S.Store h)) c.end.ensures.connection clean_back in
-          absurd (other (c.in-Ok.ensures.version (was_clean _ _ _ c.in-Err-open.ensures.survives_too clean) meta has));
+          let opened = was_clean _ _ _ c.in-Err-open.ensures.survives_too clean in
+          absurd (other (c.in-Ok.ensures.laid_out opened) (c.in-Ok.ensures.version opened meta has));
       cause = λ clean_back out t has.
           let clean = subst (λ h. HasCleanDisk (state g.S.Store h)) c.end.ensures.connection clean_back in
           subst (λ h. SqlHasCause before (state g.S.Store h) fault) (sym c.end.ensures.connection)
@@ -102,6 +103,7 @@ returns-in-Ok-expect_good-clause-read g c =
       version = λ clean meta has. c.in-Ok.ensures.version (was_clean _ _ _ c.in-Ok-open.ensures.survives clean) meta has;
       alone = λ clean meta has. c.in-Ok.ensures.alone (was_clean _ _ _ c.in-Ok-open.ensures.survives clean) meta has;
       laid_out = λ clean. c.in-Ok.ensures.laid_out (was_clean _ _ _ c.in-Ok-open.ensures.survives clean);
+      there = λ clean whole. c.in-Ok.ensures.there (was_clean _ _ _ c.in-Ok-open.ensures.survives clean) whole;
       same = same;
       committed = λ clean was_open shown auto. (c.in-Ok-open.ensures.saved clean shown).1 ∙ (same clean shown ∙ c.settled.ensures auto was_open);
       survives = survives_on _ _ _ c.in-Ok.ensures.crash_opened c.in-Ok-open.ensures.survives;
@@ -136,7 +138,8 @@ returns-in-Err-expect_good-clause-told g c =
           (sym (c.in-Ok.ensures.opened (was_clean _ _ _ c.in-Ok-open.ensures.survives clean) (c.in-Ok-open.ensures.was_open clean))) has))
           c.in-Err-expect_good.ensures.fault;
       version = λ clean out meta has other.
-          absurd (other (c.in-Ok.ensures.version (was_clean _ _ _ c.in-Ok-open.ensures.survives clean) meta has));
+          let opened = was_clean _ _ _ c.in-Ok-open.ensures.survives clean in
+          absurd (other (c.in-Ok.ensures.laid_out opened) (c.in-Ok.ensures.version opened meta has));
       cause = λ clean out t has. SqlHasCause-unfit c.in-Ok-open.desk.book.register c.in-Err-expect_good.cause (state g.S.Store c.args.connection) (state g.S.Store c.in-Ok-open.desk.store) c.in-Err-expect_good.ensures.fault;
     })
 

@@ -18,6 +18,7 @@ returns-in-Ok-clause-moved g c =
       version = c.in-Ok.ensures.version;
       alone = c.in-Ok.ensures.alone;
       laid_out = c.in-Ok.ensures.laid_out;
+      there = c.in-Ok.ensures.there;
       moved = c.in-Ok.ensures.moved;
       register = c.in-Ok.ensures.register;
       same = c.in-Ok.ensures.opened;
