@@ -1,5 +1,5 @@
 -- Why a register is not taken up, and what comes of one that is.
-use Rattle.std.proofs.Common.{◌≡◌, ◌∙◌, ap, inl, inr, sym, ℕ, List, Result, Ok, Err}
+use Rattle.std.proofs.Common.{◌≡◌, ◌∙◌, ap, inl, inr, refl, sym, ℕ, List, Result, Ok, Err}
 use Rattle.std.specs.Borrow.{Bor}
 use Rattle.std.specs.Prelude.{IfErr, IsErrAnd, None, Option, Some}
 use Rattle.sqlite.specs.Files.{over_files}
@@ -10,10 +10,15 @@ use Rattle.clr_load.specs.declared.fault.StoreFault.TheVariants.{Sql}
 use Rattle.clr_desk.specs.declared.commit.Commit as commit
 use Rattle.clr_desk.specs.declared.desk.Desk.{Desk}
 use Rattle.clr_desk.specs.declared.desk_fault.DeskFault.TheVariants as desk
+use Rattle.clr_desk.specs.Faults.{IsOfCommand}
+use Rattle.clr_desk.specs.declared.desk_fault.DeskFault.{DeskFault}
+use Rattle.clr_journaled.specs.declared.fault.OpeningFault.{OpeningFault}
+use Rattle.clr_journaled.specs.declared.fault.OpeningFault.TheVariants as opening
 use Rattle.clr_journaled.specs.declared.journaled.Journaled.{Journaled}
+use Rattle.clr_edge.proofs.Databases.{IsOfLine-of_command}
 use Rattle.clr_edge.specs.Database.{IsOfLine}
 use Rattle.clr_edge.specs.Fault.{of_store}
-use Rattle.clr_edge.specs.Journals.{IsOfTakingUp}
+use Rattle.clr_edge.specs.Journals.{IsOfRedo, IsOfTakingUp, of_opening}
 use Rattle.clr_edge.specs.Keeping.{IsDoneOver, IsGone, IsLetGo, IsNotUp, IsNotUpWith, IsUp, IsUpWith, Keeping, WorksIn, WorksWith, logged, logged_keeper, plain, plain_keeper}
 use Rattle.clr_edge.specs.TakenUp.{Logs}
 use Rattle.clr_edge.specs.Visit.{Comes, Done, Ending, Opening, Over, Shutting}
@@ -27,6 +32,15 @@ of_line fault (inr refused) = inr (desk.Store Sql, refused)
 
 pub of_tables : (cause : StoreFault) (fault : Fault) → fault ≡ of_store cause → IsOfTakingUp fault
 of_tables cause fault is = inr (desk.Store cause, is)
+
+-- of a last line that was not redone
+pub of_redo : (fault : Fault) → IsOfRedo fault → IsOfTakingUp fault
+of_redo fault (inl line) = of_line fault line
+of_redo fault (inr shut) = inl (inr shut)
+
+pub redo_failed : (fault : OpeningFault) → ((cause : DeskFault) → fault ≡ opening.Desk cause → IsOfCommand cause) → IsOfRedo (of_opening fault)
+redo_failed opening.BadLine cause = inr refl
+redo_failed (opening.Desk fault) cause = inl (IsOfLine-of_command fault (cause fault refl))
 
 -- why it is not taken up with a journal, where its database refused it
 pub refused_too : {M D J C : Type 0} (g : disk.Ghosts D) (opens : Opening M D) (shuts : Shutting M) (ends : Ending M D) (path journal : List ℕ) (logs : Logs M J C)

@@ -6,7 +6,7 @@ use Rattle.clr_rules.specs.Register.{Register}
 use Rattle.clr_desk.specs.Kept.{Keeps}
 use Rattle.clr_journaled.specs.declared.journaled.Journaled.{Journaled}
 use Rattle.clr_edge.specs.Database.{IsOnlyRead}
-use Rattle.clr_edge.specs.Journals.{IsKept, IsOfBadLine, IsOfOpening, IsOfTakingUp, IsRedoneOver}
+use Rattle.clr_edge.specs.Journals.{IsKept, IsOfBadLine, IsOfOpening, IsOfRedo, IsRedoneOver}
 use Rattle.clr_edge.specs.Keeping.{IsReadFrom}
 use Rattle.clr_edge.specs.TakenUp.{IsNotTakenUp, IsTakenUp}
 use Rattle.clr_edge.specs.declared.fault.Fault.{Fault}
@@ -35,7 +35,7 @@ module _ {M J C T : Type 0} (g : Ghosts T) (at : journals.Ghosts M J C) (path : 
 
   pub not_up : (middle : M) (journal back : J) (last : Option (List ℕ)) (fault : Fault) (after : Held T)
       → at.opens_journal old path journal last middle → back ≡ journal → at.lets_journal_go middle back new
-      → IsOfTakingUp fault → IsOfBadLine last fault → Keeps (state g opened) R (state g after) R
+      → IsOfRedo fault → IsOfBadLine last fault → Keeps (state g opened) R (state g after) R
       → IsNotTakenUp g at path before fault after old new
   not_up middle journal back last fault after opens same gone of bad keeps = inr (inr (record {
     journal = journal;

@@ -23,7 +23,7 @@ use Rattle.clr_journaled.specs.declared.fault.OpeningFault.{OpeningFault}
 use Rattle.clr_journaled.specs.declared.fault.OpeningFault.TheVariants as opening
 use Rattle.clr_journaled.specs.declared.journaled.Journaled.{Journaled}
 use Rattle.clr_journaled.specs.declared.last.Last.TheVariants.{Settled}
-use Rattle.clr_edge.specs.Database.{HasRegister, IsOnlyRead, ReadsAs}
+use Rattle.clr_edge.specs.Database.{HasRegister, IsOfLine, IsOnlyRead, ReadsAs}
 use Rattle.clr_edge.specs.Fault.{of_desk}
 use Rattle.clr_edge.specs.declared.fault.Fault.{Fault}
 use Rattle.clr_edge.specs.declared.fault.Fault.TheVariants.{Journal, Memory}
@@ -36,6 +36,11 @@ IsOfOpening fault = (fault ≡ Memory) ⊎ (fault ≡ Journal OpenFailed)
 -- the same, or the command of the last line was not carried out
 abbrev pub IsOfTakingUp : Fault → Type 0
 IsOfTakingUp fault = IsOfOpening fault ⊎ ((cause : DeskFault) × (fault ≡ of_desk cause))
+
+-- why the last line of a journal was not redone: it is none of a journal, the database refused or
+-- failed, or memory ran out
+abbrev pub IsOfRedo : Fault → Type 0
+IsOfRedo fault = IsOfLine fault ⊎ (fault ≡ Journal OpenFailed)
 
 -- the fault of a journal that was not opened, and of one whose last line was not taken up
 abbrev pub of_open : OpenFault → Fault

@@ -9,7 +9,7 @@ use Rattle.clr_journal.specs.Line.{Entry}
 use Rattle.clr_journaled.specs.Redo.{redone_by}
 use Rattle.clr_journaled.specs.declared.journaled.Journaled.{Journaled}
 use Rattle.clr_edge.specs.Database.{IsOnlyRead, IsRefused}
-use Rattle.clr_edge.specs.Journals.{GoesOnFrom, IsKept, IsOfBadLine, IsOfOpening, IsOfTakingUp}
+use Rattle.clr_edge.specs.Journals.{GoesOnFrom, IsKept, IsOfBadLine, IsOfOpening, IsOfRedo}
 use Rattle.clr_edge.specs.declared.fault.Fault.{Fault}
 use Rattle.clr_edge.specs.declared.journals.Journals as journals
 
@@ -53,7 +53,7 @@ pub record IsRefusedItsJournal {M J C T : Type 0} (g : Ghosts T) (at : journals.
   pub register : Register
   pub kept : IsKept g before after register
   pub same : register ≡ IsKept.first kept
-  pub of : IsOfTakingUp fault
+  pub of : IsOfRedo fault
   pub bad : IsOfBadLine last fault
 
 -- IT WAS NOT TAKEN UP: its database was refused, and is as it was, and no journal was opened; or the

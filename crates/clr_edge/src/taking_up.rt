@@ -3,7 +3,8 @@ ghost use Rattle.std.specs.Prelude.{◌≡◌, IfErr, IfOk, option_map};
 ghost use Rattle.sqlite.specs.Files.{over_files};
 ghost use Rattle.sqlite.specs.Held.{state};
 ghost use Rattle.clr_desk.specs.Kept.{Keeps};
-ghost use Rattle.clr_edge.specs.Journals.{IsOfBadLine, IsOfTakingUp, IsRedoneOver, of_opening};
+ghost use Rattle.clr_edge.specs.Journals.{IsOfBadLine, IsOfRedo, IsOfTakingUp, IsRedoneOver};
+ghost use Rattle.clr_edge.specs.Journals.{of_opening};
 ghost use Rattle.clr_edge.specs.Database.{IsOfLine};
 ghost use Rattle.clr_edge.specs.Keeping.{IsLetGo, IsNotUp, IsNotUpWith, IsUp, IsUpWith, logged};
 ghost use Rattle.clr_edge.specs.Keeping.{plain};
@@ -145,7 +146,7 @@ fn taken_up<S: Alter + Drop, J: Journal + Drop, C: Clock>(
         (option_map (λ line. line.items) opened.last) clock desk.store desk.book.register
         taken.store taken.book.register) }
     ensures faults { IfOk result (λ taken. taken.faults ≡ desk.faults) }
-    ensures fault { IfErr result (λ back. IsOfTakingUp back.0) }
+    ensures fault { IfErr result (λ back. IsOfRedo back.0) }
     ensures bad { IfErr result (λ back.
         IsOfBadLine (option_map (λ line. line.items) opened.last) back.0) }
     ensures kept { IfErr result (λ back. Keeps (state S.Store desk.store) desk.book.register
@@ -161,8 +162,7 @@ fn taken_up<S: Alter + Drop, J: Journal + Drop, C: Clock>(
 
 /// Why a journal was not taken up.
 fn of_opening(fault: OpeningFault) -> Fault
-    ensures value { result ≡ of_opening fault }
-    ensures taking_up { IsOfTakingUp result }
+    ensures { result ≡ of_opening fault }
 {
     match fault {
         OpeningFault::BadLine => Fault::Journal(JournalFault::OpenFailed),

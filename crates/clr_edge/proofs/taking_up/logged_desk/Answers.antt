@@ -4,7 +4,7 @@ use Rattle.clr_edge.specs.Journals.{IsOfTakingUp}
 use Rattle.clr_edge.specs.Keeping.{IsNotUp, logged}
 use Rattle.clr_edge.specs.TakenUp.{logs}
 use Rattle.clr_edge.proofs.Databases.{IfErr-passed}
-use Rattle.clr_edge.proofs.Keeping.{refused_too}
+use Rattle.clr_edge.proofs.Keeping.{of_redo, refused_too}
 use Rattle.clr_edge.proofs.TakenUp.{not_opened, not_up, takes_up}
 use Rattle.clr_edge.proofs.taking_up.logged_desk.Goals as goal
 
@@ -46,6 +46,9 @@ returns-in-Err-taken_up-clause-none g c =
       );
       ended = c.close-closed-in-Err-taken_up.ensures.ends;
     })
+
+pub returns-in-Err-taken_up-clause-fault : goal.returns-in-Err-taken_up-clause-fault
+returns-in-Err-taken_up-clause-fault g c = of_redo c.in-Err-taken_up.fault c.in-Err-taken_up.ensures.fault
 
 -- the journal was not opened, and the database closed
 pub returns-in-Err-clause-none : goal.returns-in-Err-clause-none
