@@ -1,6 +1,6 @@
 -- What connections carry out, one after the other, is a run.
 use Rattle.std.proofs.Common.{◌≡◌, ◌≤◌, ◌<◌, ◌⊎◌, ◌+◌, ◌∙◌, ℕ, Bool, true, false, zero, suc, List, [], ◌∷◌, Option, None, Some, Result, Ok, Err, ap, arith, inl, inr, length, map, refl, subst, sym}
-use Rattle.std.specs.Prelude.{if◌then◌else◌}
+use Rattle.std.specs.Prelude.{if◌then◌else◌, IfErr, IsErrAnd}
 use Rattle.std.specs.declared.io.ErrorKind.{ErrorKind}
 use Rattle.clr_stream.specs.Streams.{Stream}
 use Rattle.clr_rules.specs.Agreement.{Agree}
@@ -30,7 +30,10 @@ use Rattle.clr_http.proofs.Connections.{wider}
 use Rattle.clr_edge.specs.declared.loopback.Loopback as loopback
 use Rattle.clr_commands.specs.Connections.{Seen, TakesFirst, TakesNext, tries_of}
 use Rattle.clr_commands.specs.declared.serve.Terms.{Terms}
-use Rattle.clr_commands.specs.ConnectionLaws.{CarriesAll, CarriesNext, CarriesOut, ConnectionsHaveRun, EndsEarly, HasReply, RunsGetTheSame}
+use Rattle.clr_commands.specs.ConnectionLaws.{CarriesAll, CarriesNext, CarriesOut, ConnectionsHaveRun, EndsDoubting, EndsEarly, EndsUntaken, HasReply, RunsGetTheSame}
+use Rattle.clr_edge.specs.Visit.{Done}
+use Rattle.clr_edge.specs.declared.fault.Fault.{Fault}
+use Rattle.clr_edge.specs.declared.fault.Fault.TheVariants.{Accept}
 
 -- ---- one connection
 
@@ -105,7 +108,7 @@ module _ {D M L R W : Type 0} (by : registrar.Ghosts D) (net : loopback.Ghosts M
       → TakesFirst by net seen terms listener n k k' errors errors' old new → IsGood (by.keeper k).register → IsGood (by.keeper k').register
   unfolding TakesFirst
   first_good zero k k' errors errors' old new (same, kept, quiet) good = subst (λ (x : D). IsGood (by.keeper x).register) (sym kept) good
-  first_good (suc n) k k' errors errors' old new (middle, between, reported, first, next) good =
+  first_good (suc n) k k' errors errors' old new (middle, between, reported, first, next, certain) good =
       next_good (n + 1) between k' reported errors' middle new next (first_good n k between errors reported old middle first good)
 
   record Carried (n : ℕ) (k k' : D) (errors errors' : Stream) (old new : M) : Type 0 where
@@ -131,7 +134,7 @@ module _ {D M L R W : Type 0} (by : registrar.Ghosts D) (net : loopback.Ghosts M
         each = subst (λ (x : M). CarriesAll by net seen terms listener 1 k l errors last x end later others) same at_stream;
         count = omega (arith, count);
       }
-  first_carries (suc n) m k k' l errors errors' last old new end later others (middle, between, reported, first, next) good rest count =
+  first_carries (suc n) m k k' l errors errors' last old new end later others (middle, between, reported, first, next, certain) good rest count =
       let good_between = first_good n k between errors reported old middle first good in
       let (carried, response, step) = next_carries (n + 1) between k' reported errors' middle new next good_between in
       let number : suc n + 1 ≡ n + 1 + 1 = omega arith in
@@ -158,14 +161,10 @@ module _ {D M L R W : Type 0} (by : registrar.Ghosts D) (net : loopback.Ghosts M
   all_run number k k' errors errors' old new [] (response ∷ others) all = absurd all
   all_run number k k' errors errors' old new (command ∷ later) [] all = absurd all
 
-  -- WHAT THE FIRST CONNECTIONS CARRY OUT IS A RUN
-  connections_have_run : RunsChangeNoReply → RunsTakeNothing → RunsStandAlone → (n : ℕ) (k k' : D) (errors errors' : Stream) (old new : M)
-      → TakesFirst by net seen terms listener n k k' errors errors' old new → IsGood (by.keeper k).register
-      → ConnectionsHaveRun by net seen terms listener n k k' errors errors' old new
-  unfolding CarriesAll
-  connections_have_run same nothing alone n k k' errors errors' old new taken good =
-      let none : CarriesAll by net seen terms listener (n + 1) k' k' errors' errors' new new [] [] = (refl, refl, refl) in
-      let all = first_carries n n k k' k' errors errors' errors' old new new [] [] taken good none (omega arith) in
+  -- WHAT CONNECTIONS CARRY OUT IS A RUN
+  carried_have_run : RunsChangeNoReply → RunsTakeNothing → RunsStandAlone → (n : ℕ) (k k' : D) (errors errors' : Stream) (old new : M)
+      → Carried n k k' errors errors' old new → ConnectionsHaveRun by net seen terms listener n k k' errors errors' old new
+  carried_have_run same nothing alone n k k' errors errors' old new all =
       let here = all_run 1 k k' errors errors' old new all.carried all.responses all.each in
       let told = replies (by.keeper k).register (commands_asked all.carried) in
       let run : IsRun (by.keeper k).register (commands_asked all.carried) told (by.keeper k').register = record { replied = refl; register = here.register } in
@@ -182,6 +181,28 @@ module _ {D M L R W : Type 0} (by : registrar.Ghosts D) (net : loopback.Ghosts M
         safe = runs_are_safe (by.keeper k).register (commands_asked all.carried) told (by.keeper k').register run;
       }
 
+  connections_have_run : RunsChangeNoReply → RunsTakeNothing → RunsStandAlone → (n : ℕ) (k k' : D) (errors errors' : Stream) (old new : M)
+      → TakesFirst by net seen terms listener n k k' errors errors' old new → IsGood (by.keeper k).register
+      → ConnectionsHaveRun by net seen terms listener n k k' errors errors' old new
+  unfolding CarriesAll
+  connections_have_run same nothing alone n k k' errors errors' old new taken good =
+      let none : CarriesAll by net seen terms listener (n + 1) k' k' errors' errors' new new [] [] = (refl, refl, refl) in
+      carried_have_run same nothing alone n k k' errors errors' old new
+      (first_carries n n k k' k' errors errors' errors' old new new [] [] taken good none (omega arith))
+
+  -- with one connection more
+  one_more_has_run : RunsChangeNoReply → RunsTakeNothing → RunsStandAlone → (n : ℕ) (k between k' : D) (errors reported errors' : Stream) (old middle new : M)
+      → TakesFirst by net seen terms listener n k between errors reported old middle
+      → TakesNext by net seen terms listener (n + 1) between k' reported errors' middle new → IsGood (by.keeper k).register
+      → ConnectionsHaveRun by net seen terms listener (n + 1) k k' errors errors' old new
+  unfolding CarriesAll
+  one_more_has_run same nothing alone n k between k' errors reported errors' old middle new taken next good =
+      let (carried, response, step) = next_carries (n + 1) between k' reported errors' middle new next (first_good n k between errors reported old middle taken good) in
+      let last : CarriesAll by net seen terms listener (n + 1) between k' reported errors' middle new (carried ∷ []) (response ∷ []) =
+      (new, k', errors', step, refl, refl, refl) in
+      carried_have_run same nothing alone (n + 1) k k' errors errors' old new
+      (first_carries n (n + 1) k between k' errors reported errors' old middle new (carried ∷ []) (response ∷ []) taken good last (omega arith))
+
   -- and so it is once all were taken
   pub all_have_run : RunsChangeNoReply → RunsTakeNothing → RunsStandAlone → (n count : ℕ) → n ≤ count → count ≤ n → (k k' : D) (errors errors' : Stream)
       (old new : M) → TakesFirst by net seen terms listener n k k' errors errors' old new → IsGood (by.keeper k).register
@@ -195,7 +216,7 @@ module _ {D M L R W : Type 0} (by : registrar.Ghosts D) (net : loopback.Ghosts M
   pub ended_early : RunsChangeNoReply → RunsTakeNothing → RunsStandAlone → (n : ℕ) → n < terms.count → (k between k' : D) (errors reported errors' : Stream)
       (old middle new : M) → TakesFirst by net seen terms listener n k between errors reported old middle
       → (kind : ErrorKind) → net.misses middle listener (tries_of terms.service.desk) kind new → terms.service.desk ≡ true → k' ≡ between → errors' ≡ reported
-      → EndsEarly by net seen terms listener k k' errors errors' old new
+      → EndsUntaken by net seen terms listener k k' errors errors' old new
   ended_early same nothing alone n short k between k' errors reported errors' old middle new taken kind missed desk kept quiet =
       let at_keeper = subst (λ (x : D). TakesFirst by net seen terms listener n k x errors reported old middle) (sym kept) taken in
       let here = subst (λ (x : Stream). TakesFirst by net seen terms listener n k k' errors x old middle) (sym quiet) at_keeper in (
@@ -204,6 +225,26 @@ module _ {D M L R W : Type 0} (by : registrar.Ghosts D) (net : loopback.Ghosts M
         record { middle = middle; taken = here; kind = kind; missed = missed; desk = desk },
         λ good. connections_have_run same nothing alone n k k' errors errors' old middle here good,
       )
+
+  -- and of those that were taken where the last left a change in doubt
+  pub ended_in_doubt : RunsChangeNoReply → RunsTakeNothing → RunsStandAlone → (n : ℕ) → n < terms.count → (k between k' : D) (errors reported errors' : Stream)
+      (old middle new : M) → TakesFirst by net seen terms listener n k between errors reported old middle
+      → TakesNext by net seen terms listener (n + 1) between k' reported errors' middle new → by.doubts k' ≡ true
+      → EndsDoubting by net seen terms listener k k' errors errors' old new
+  ended_in_doubt same nothing alone n short k between k' errors reported errors' old middle new taken last doubt = (
+    n,
+    short,
+    record { between = between; reported = reported; middle = middle; taken = taken; last = last; doubt = doubt },
+    λ good. one_more_has_run same nothing alone n k between k' errors reported errors' old middle new taken last good,
+  )
+
+-- a server that could not take its next connection
+pub ends_untaken : {D M L R W : Type 0} (by : registrar.Ghosts D) (net : loopback.Ghosts M L R W) (seen : Seen R W) (terms : Terms) (listener : L)
+    (k k' : D) (errors errors' : Stream) (old new : M) (fault : Fault) (result : Done) → fault ≡ Accept → IsErrAnd result (λ cause. cause ≡ fault)
+    → EndsUntaken by net seen terms listener k k' errors errors' old new
+    → IfErr result (λ cause. EndsEarly by net seen terms listener cause k k' errors errors' old new)
+ends_untaken by net seen terms listener k k' errors errors' old new fault (Ok value) accept is ended = tt
+ends_untaken by net seen terms listener k k' errors errors' old new fault (Err cause) accept is ended = inl (is ∙ accept, ended)
 
 -- ---- two runs
 

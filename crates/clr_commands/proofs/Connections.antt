@@ -1,6 +1,6 @@
 -- The connections of a port, one by one, and the register that they lead to.
 use Rattle.std.proofs.Common.{◌≡◌, ◌⊎◌, ◌+◌, ◌∙◌, ℕ, Bool, false, true, zero, suc, List, [], Option, None, Some, Result, Ok, Err, ap, arith, inl, inr, refl, subst, sym}
-use Rattle.std.specs.Prelude.{◌<◌, ◌≢◌, IfErr, IsErrAnd, OnErr, OnOk}
+use Rattle.std.specs.Prelude.{◌<◌, IfErr, IsErrAnd, OnErr, OnOk}
 use Rattle.std.specs.Io.KnownBytes.{Appends}
 use Rattle.std.specs.declared.io.ErrorKind.{ErrorKind}
 use Rattle.clr_stream.specs.Streams.{AppendsFront, IsCut, Sends, Stream, WentOut}
@@ -19,11 +19,11 @@ use Rattle.clr_result.specs.Results.{◌>>=◌}
 use Rattle.clr_edge.specs.Logins.{known_logins}
 use Rattle.clr_edge.specs.Visit.{Done}
 use Rattle.clr_edge.specs.declared.fault.Fault.{Fault}
-use Rattle.clr_edge.specs.declared.fault.Fault.TheVariants.{Accept, Output}
+use Rattle.clr_edge.specs.declared.fault.Fault.TheVariants.{Output}
 use Rattle.clr_edge.specs.Loopback.{StandsOn}
 use Rattle.clr_edge.specs.declared.loopback.Loopback as loopback
 use Rattle.clr_commands.specs.Connections.{MissesLast, ReportsConnection, Seen, TakesFirst, TakesNext, accept_fault, connection_line, tries_of}
-use Rattle.clr_commands.specs.ConnectionLaws.{ConnectionsHaveRun, EndsEarly}
+use Rattle.clr_commands.specs.ConnectionLaws.{ConnectionsHaveRun, EndsEarly, is_early}
 use Rattle.clr_commands.specs.Logins.{terms_of, terms_with}
 use Rattle.clr_commands.specs.Serve.{ServesKeeper, ServesOn, serving_line}
 use Rattle.clr_commands.specs.declared.serve.Terms.{Terms}
@@ -46,20 +46,20 @@ module _ {D M L R W : Type 0} (by : registrar.Ghosts D) (net : loopback.Ghosts M
 
   taken_after : (n : ℕ) (k between k' : D) (errors reported errors' : Stream) (old middle new : M)
       → TakesFirst by net seen terms listener n k between errors reported old middle
-      → TakesNext by net seen terms listener (n + 1) between k' reported errors' middle new
+      → TakesNext by net seen terms listener (n + 1) between k' reported errors' middle new → by.doubts k' ≡ false
       → TakesFirst by net seen terms listener (suc n) k k' errors errors' old new
   unfolding TakesFirst
-  taken_after n k between k' errors reported errors' old middle new first next = (middle, between, reported, first, next)
+  taken_after n k between k' errors reported errors' old middle new first next certain = (middle, between, reported, first, next, certain)
 
   -- one connection more
   pub next_taken : (n : ℕ) (k between k' : D) (errors reported errors' : Stream) (old middle new : M)
       → TakesFirst by net seen terms listener n k between errors reported old middle
-      → TakesNext by net seen terms listener (n + 1) between k' reported errors' middle new
+      → TakesNext by net seen terms listener (n + 1) between k' reported errors' middle new → by.doubts k' ≡ false
       → TakesFirst by net seen terms listener (n + 1) k k' errors errors' old new
-  next_taken n k between k' errors reported errors' old middle new first next =
+  next_taken n k between k' errors reported errors' old middle new first next certain =
       let P : ℕ → Type 0 = λ m. TakesFirst by net seen terms listener m k k' errors errors' old new in
       let e : suc n ≡ n + 1 = omega arith in
-      subst P e (taken_after n k between k' errors reported errors' old middle new first next)
+      subst P e (taken_after n k between k' errors reported errors' old middle new first next certain)
 
   next_follows : (number : ℕ) (k k' : D) (errors errors' : Stream) (old new : M)
       → TakesNext by net seen terms listener number k k' errors errors' old new → IsGood (by.keeper k).register → ComesWithin 1 (by.keeper k).register (by.keeper k').register
@@ -75,7 +75,7 @@ module _ {D M L R W : Type 0} (by : registrar.Ghosts D) (net : loopback.Ghosts M
   unfolding TakesFirst
   first_within zero k k' errors errors' old new (same, kept, quiet) good =
       none_within 0 (by.keeper k).register (by.keeper k').register (ap (λ (it : D). (by.keeper it).register) kept)
-  first_within (suc n) k k' errors errors' old new (middle, between, reported, first, next) good =
+  first_within (suc n) k k' errors errors' old new (middle, between, reported, first, next, certain) good =
       let far = first_within n k between errors reported old middle first good in
       comes_further n (suc n) (by.keeper k).register (by.keeper between).register (by.keeper k').register far
       (next_follows (n + 1) between k' reported errors' middle new next (within_good n (by.keeper k).register (by.keeper between).register far good))
@@ -90,9 +90,14 @@ server_within by net seen terms output output' errors errors' k k' (Ok value) ol
     first_within by net seen terms listener terms.count k k' errors errors' middle new taken good
 server_within {D = D} by net seen terms output output' errors errors' k k' (Err fault) old new (inl (kept, quiet, rest)) good =
     none_within terms.count (by.keeper k).register (by.keeper k').register (ap (λ (it : D). (by.keeper it).register) kept)
-server_within by net seen terms output output' errors errors' k k' (Err fault) old new (inr (is, listener, middle, stands, went, (n, short, it, run))) good =
+server_within by net seen terms output output' errors errors' k k' (Err fault) old new (inr (listener, middle, stands, went, inl (is, (n, short, it, run)))) good =
     more_within n terms.count (by.keeper k).register (by.keeper k').register short
     (first_within by net seen terms listener n k k' errors errors' middle it.middle it.taken good)
+server_within by net seen terms output output' errors errors' k k' (Err fault) old new (inr (listener, middle, stands, went, inr (is, (n, short, it, run)))) good =
+    let far = first_within by net seen terms listener n k it.between errors it.reported middle it.middle it.taken good in
+    comes_further n terms.count (by.keeper k).register (by.keeper it.between).register (by.keeper k').register far
+    (next_follows by net seen terms listener (n + 1) it.between k' it.reported errors' it.middle new it.last (within_good n (by.keeper k).register (by.keeper it.between).register far good))
+    (omega (arith, short))
 
 -- and so does one that is asked for, whose logins the staff may lack
 pub asked_within : {D M L R W : Type 0} (by : registrar.Ghosts D) (net : loopback.Ghosts M L R W) (seen : Seen R W) (args : ServeArgs) (logins : Option (List LoginRow))
@@ -124,12 +129,12 @@ pub server_ended : {D M L R W : Type 0} (by : registrar.Ghosts D) (net : loopbac
     (k k' : D) (result : Done) (listener : L) (old middle new : M) → StandsOn net.stands old terms.port listener middle → WentOut output output' (serving_line terms.port)
     → OnOk result (TakesFirst by net seen terms listener terms.count k k' errors errors' middle new)
     → OnOk result (IsGood (by.keeper k).register → ConnectionsHaveRun by net seen terms listener terms.count k k' errors errors' middle new)
-    → OnErr result (EndsEarly by net seen terms listener k k' errors errors' middle new) → IfErr result (λ fault. fault ≡ Accept)
+    → IfErr result (λ fault. EndsEarly by net seen terms listener fault k k' errors errors' middle new)
     → ServesKeeper by net seen output output' errors errors' terms k k' result old new
-server_ended by net seen terms output output' errors errors' k k' (Ok value) listener old middle new stands went taken run ended fault =
+server_ended by net seen terms output output' errors errors' k k' (Ok value) listener old middle new stands went taken run ended =
     (listener, middle, stands, went, taken, run)
-server_ended by net seen terms output output' errors errors' k k' (Err cause) listener old middle new stands went taken run ended fault =
-    inr (fault, listener, middle, stands, went, ended)
+server_ended by net seen terms output output' errors errors' k k' (Err cause) listener old middle new stands went taken run ended =
+    inr (listener, middle, stands, went, ended)
 
 -- a connection that could not be taken
 pub missed_next : {D M L R W : Type 0} (by : registrar.Ghosts D) (net : loopback.Ghosts M L R W) (seen : Seen R W) (terms : Terms) (listener : L)
@@ -147,14 +152,9 @@ missed_last misses is_desk listener k e e' old new kind (Ok value) missed ended 
 missed_last misses is_desk listener k e e' old new kind (Err fault) missed (desk, quiet) = (kind, missed, desk, refl, quiet)
 
 -- any other fault comes before the first connection
-pub accept_only : (result : Done) (Same : Type 0) → IfErr result (λ fault. fault ≡ Accept) → IfErr result (λ fault. fault ≢ Accept → Same)
-accept_only (Ok value) Same is = tt
-accept_only (Err fault) Same is = λ other. absurd (other is)
-
--- what holds of a fault that is passed on
-pub OnErr-any : {T P : Type 0} (result : Result T Fault) → P → OnErr result P
-OnErr-any (Ok value) is = tt
-OnErr-any (Err fault) is = is
+pub early_only : (result : Done) (Same : Type 0) → IfErr result (λ fault. is_early fault ≡ true) → IfErr result (λ fault. is_early fault ≡ false → Same)
+early_only (Ok value) Same is = tt
+early_only (Err fault) Same is = λ other. cc (sym is ∙ other)
 
 -- a connection that failed is reported
 pub failed_reported : (number : ℕ) (served : Result Served HttpFault) (fault : HttpFault) (errors errors' : Stream) → served ≡ Err fault

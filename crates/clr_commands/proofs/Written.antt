@@ -55,11 +55,16 @@ module _ {D M L R W : Type 0} (by : registrar.Ghosts D) (net : loopback.Ghosts M
       → TakesFirst by net seen terms listener n k k' errors errors' old new → ReportsFirst n errors errors'
   unfolding TakesFirst ReportsFirst
   first_reported zero k k' errors errors' old new (same, kept, quiet) = quiet
-  first_reported (suc n) k k' errors errors' old new (middle, between, reported, first, next) = (
+  first_reported (suc n) k k' errors errors' old new (middle, between, reported, first, next, certain) = (
     reported,
     first_reported n k between errors reported old middle first,
     next_reported (n + 1) between k' reported errors' middle new next,
   )
+
+one_more_reported : (n : ℕ) (errors reported errors' : Stream) → ReportsFirst n errors reported
+    → (served : Result Served HttpFault) × ReportsConnection (n + 1) served reported errors' → ReportsFirst (suc n) errors errors'
+unfolding ReportsFirst
+one_more_reported n errors reported errors' first next = (reported, first, next)
 
 -- which faults are not of the output
 line_other : (fault : Fault) → IsOfLine fault → fault ≢ Output
@@ -128,8 +133,16 @@ module _ {D M L R W : Type 0} (by : registrar.Ghosts D) (net : loopback.Ghosts M
   keeper_written terms k k' fault old new (inl (kept, quiet, inl ((address, kind, local, is, refuses), same))) =
       inl (other_as fault (listen_fault kind) is (listen_other kind), same, quiet)
   keeper_written terms k k' fault old new (inl (kept, quiet, inr (listener, stands, is_output, cut))) = inr (inl (is_output, cut, quiet))
-  keeper_written terms k k' fault old new (inr (is, listener, middle, stands, went, (n, short, it, run))) =
+  keeper_written terms k k' fault old new (inr (listener, middle, stands, went, inl (is, (n, short, it, run)))) =
       inr (inr (λ e. cc (sym is ∙ e), went, (n, first_reported by net seen terms listener n k k' errors errors' middle it.middle it.taken)))
+  keeper_written terms k k' fault old new (inr (listener, middle, stands, went, inr (is, (n, short, it, run)))) =
+      inr (inr (
+        λ e. cc (sym is ∙ e),
+        went,
+        suc n,
+        one_more_reported n errors it.reported errors' (first_reported by net seen terms listener n k it.between errors it.reported middle it.middle it.taken)
+        (next_reported by net seen terms listener (n + 1) it.between k' it.reported errors' it.middle new it.last),
+      ))
 
   terms_written : (terms : Terms) (k k' : D) (served closed : Done) (old new : M)
       → ServesKeeper by net seen output output' errors errors' terms k k' served old new

@@ -1,6 +1,6 @@
 -- THE HEADLINE OF A PORT: the commands that its connections carry out, one after the other, are a
 -- run, and its replies are their responses.
-use Rattle.std.specs.Prelude.{◌≡◌, ◌<◌, ◌⊎◌, ℕ, ◌+◌, Bool, List, [], ◌∷◌, length}
+use Rattle.std.specs.Prelude.{◌≡◌, ◌<◌, ◌⊎◌, ℕ, ◌+◌, Bool, false, true, List, [], ◌∷◌, length}
 use Rattle.std.specs.Prelude.{Option, None, Some, Result}
 use Rattle.clr_stream.specs.Streams.{Stream}
 use Rattle.clr_rules.specs.Agreement.{Agree}
@@ -25,8 +25,17 @@ use Rattle.clr_http.specs.declared.registrar.Registrar as registrar
 use Rattle.clr_http.specs.declared.serve.HttpFault.{HttpFault}
 use Rattle.clr_http.specs.declared.serve.Served.{Served}
 use Rattle.clr_edge.specs.declared.loopback.Loopback as loopback
-use Rattle.clr_commands.specs.Connections.{Answers, EndsAfter, Misses, Seen}
+use Rattle.clr_edge.specs.declared.fault.Fault.{Fault}
+use Rattle.clr_edge.specs.declared.fault.Fault.TheVariants.{Accept, Journal}
+use Rattle.clr_edge.specs.declared.fault.JournalFault.TheVariants.{InDoubt}
+use Rattle.clr_commands.specs.Connections.{Answers, EndsAfter, EndsInDoubt, Misses, Seen}
 use Rattle.clr_commands.specs.declared.serve.Terms.{Terms}
+
+-- whether a server that ended with this fault had served connections
+abbrev pub is_early : Fault → Bool
+is_early Accept = true
+is_early (Journal InDoubt) = true
+is_early fault = false
 
 -- the response to a command has its reply
 abbrev pub HasReply : Register → Option Command → List ℕ → Type 0
@@ -89,11 +98,23 @@ module _ {D M L R W : Type 0} (by : registrar.Ghosts D) (net : loopback.Ghosts M
     pub safe : CrewsWorkSafely (by.keeper d).register (commands_asked carried)
         (by.keeper d').register
 
-  -- A SERVER OF A DESK ENDED before its last connection: those that were taken have run
-  abbrev pub EndsEarly : D → D → Stream → Stream → M → M → Type 0
-  EndsEarly d d' errors errors' old new = (n : ℕ) × (n < terms.count)
+  -- A SERVER OF A DESK MISSED ITS NEXT CONNECTION: those that were taken have run
+  abbrev pub EndsUntaken : D → D → Stream → Stream → M → M → Type 0
+  EndsUntaken d d' errors errors' old new = (n : ℕ) × (n < terms.count)
       × (it : EndsAfter by net seen terms listener n d d' errors errors' old new)
       × (IsGood (by.keeper d).register → ConnectionsHaveRun n d d' errors errors' old it.middle)
+
+  -- A SERVER IS IN DOUBT of its last change: its connections have run, this one too
+  abbrev pub EndsDoubting : D → D → Stream → Stream → M → M → Type 0
+  EndsDoubting d d' errors errors' old new = (n : ℕ) × (n < terms.count)
+      × EndsInDoubt by net seen terms listener n d d' errors errors' old new
+      × (IsGood (by.keeper d).register → ConnectionsHaveRun (n + 1) d d' errors errors' old new)
+
+  -- A SERVER ENDED EARLY, with this fault
+  abbrev pub EndsEarly : Fault → D → D → Stream → Stream → M → M → Type 0
+  EndsEarly fault d d' errors errors' old new =
+      ((fault ≡ Accept) × EndsUntaken d d' errors errors' old new)
+      ⊎ ((fault ≡ Journal InDoubt) × EndsDoubting d d' errors errors' old new)
 
 -- TWO RUNS THAT SHOW A CLEARANCE THE SAME, of connections of ports or of requests in memory: the
 -- responses to its own requests are the same bytes, and the registers that are left agree again

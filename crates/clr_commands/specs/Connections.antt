@@ -102,13 +102,14 @@ module _ {D M L R W : Type 0} (by : registrar.Ghosts D) (net : loopback.Ghosts M
   TakesNext number d d' errors errors' old new =
       Answers number d d' errors errors' old new ⊎ Misses number d d' errors errors' old new
 
-  -- THE FIRST CONNECTIONS, one after the other
+  -- THE FIRST CONNECTIONS, one after the other. None of them left it in doubt whether a change was
+  -- kept
   unfoldable pub TakesFirst : ℕ → D → D → Stream → Stream → M → M → Type 0
   TakesFirst zero d d' errors errors' old new = (new ≡ old) × (d' ≡ d) × (errors' ≡ errors)
   TakesFirst (suc n) d d' errors errors' old new =
       (middle : M) × (between : D) × (reported : Stream)
       × TakesFirst n d between errors reported old middle
-      × TakesNext (n + 1) between d' reported errors' middle new
+      × TakesNext (n + 1) between d' reported errors' middle new × (by.doubts d' ≡ false)
 
   -- A SERVER OF A DESK ENDED after this number of connections: the next could not be taken
   pub record EndsAfter (n : ℕ) (d d' : D) (errors errors' : Stream) (old new : M) : Type 0 where
@@ -117,3 +118,13 @@ module _ {D M L R W : Type 0} (by : registrar.Ghosts D) (net : loopback.Ghosts M
     pub kind : ErrorKind
     pub missed : net.misses middle listener (tries_of terms.service.desk) kind new
     pub desk : terms.service.desk ≡ true
+
+  -- A SERVER ENDED IN DOUBT, after one connection more than this number: whether a change of it was
+  -- kept is not known before the register is opened again
+  pub record EndsInDoubt (n : ℕ) (d d' : D) (errors errors' : Stream) (old new : M) : Type 0 where
+    pub between : D
+    pub reported : Stream
+    pub middle : M
+    pub taken : TakesFirst n d between errors reported old middle
+    pub last : TakesNext (n + 1) between d' reported errors' middle new
+    pub doubt : by.doubts d' ≡ true

@@ -11,4 +11,5 @@ desk_keeps by = record {
   leads_to = LeadsTo by.kept by.takes by.hears;
   hears = DeskHears by.takes by.hears;
   takes = DeskTakes by.takes by.hears;
+  doubts = λ d. by.doubts d.store;
 }

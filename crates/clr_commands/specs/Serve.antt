@@ -1,7 +1,7 @@
 -- What `serve` does: it reads the logins that are named, opens a database, listens on a port, answers
 -- the connections that come from the register that the database has, and closes it.
 use Rattle.std.specs.Prelude.{◌≡◌, ◌⊎◌, ℕ, List, [], ◌∷◌, ◌++◌, codes, decimal}
-use Rattle.std.specs.Prelude.{◌≢◌, IfErr, Option, Result, Ok, Err}
+use Rattle.std.specs.Prelude.{false, IfErr, Option, Result, Ok, Err}
 use Rattle.std.specs.Borrow.{Bor}
 use Rattle.sqlite.specs.Files.{over_files}
 use Rattle.sqlite_disk.specs.declared.Disk as disk
@@ -20,10 +20,10 @@ use Rattle.clr_edge.specs.Loopback.{RefusesOn, StandsOn}
 use Rattle.clr_edge.specs.TakenUp.{Logs}
 use Rattle.clr_edge.specs.Visit.{Comes, Done, Ending, Opening, Shutting, both}
 use Rattle.clr_edge.specs.declared.fault.Fault.{Fault}
-use Rattle.clr_edge.specs.declared.fault.Fault.TheVariants.{Accept, Output}
+use Rattle.clr_edge.specs.declared.fault.Fault.TheVariants.{Output}
 use Rattle.clr_edge.specs.declared.loopback.Loopback as loopback
 use Rattle.clr_commands.specs.Connections.{Seen, TakesFirst}
-use Rattle.clr_commands.specs.ConnectionLaws.{ConnectionsHaveRun, EndsEarly}
+use Rattle.clr_commands.specs.ConnectionLaws.{ConnectionsHaveRun, EndsEarly, is_early}
 use Rattle.clr_commands.specs.Desks.{desk_keeps}
 use Rattle.clr_commands.specs.Logins.{NamesLogins, terms_of}
 use Rattle.clr_commands.specs.Paths.{AtPaths}
@@ -45,7 +45,7 @@ module _ {D M L R W : Type 0} (by : registrar.Ghosts D) (net : loopback.Ghosts M
     (seen : Seen R W) (output output' errors errors' : Stream) where
   -- A SERVER ON TERMS over one who keeps a register: it listened on the port, said so, and took that
   -- number of connections, which from a good register are a run; or it did not begin, and then the
-  -- register is as it was, and all that is kept beside it; or that of a desk ended before the last
+  -- register is as it was, and all that is kept beside it; or it ended early
   abbrev pub ServesKeeper : Terms → D → D → Done → M → M → Type 0
   ServesKeeper terms d d' (Ok value) old new =
       (listener : L) × (middle : M) × StandsOn net.stands old terms.port listener middle
@@ -58,10 +58,10 @@ module _ {D M L R W : Type 0} (by : registrar.Ghosts D) (net : loopback.Ghosts M
       × ((RefusesOn net.refuses old terms.port fault new × (output' ≡ output))
       ⊎ ((listener : L) × StandsOn net.stands old terms.port listener new × (fault ≡ Output)
       × IsCut output output' (serving_line terms.port))))
-      ⊎ ((fault ≡ Accept) × (listener : L) × (middle : M)
+      ⊎ ((listener : L) × (middle : M)
       × StandsOn net.stands old terms.port listener middle
       × WentOut output output' (serving_line terms.port)
-      × EndsEarly by net seen terms listener d d' errors errors' middle new)
+      × EndsEarly by net seen terms listener fault d d' errors errors' middle new)
 
   -- the same, unless there are no such terms: the staff lacks an employee whom a login names
   abbrev pub ServesOn : Result Terms Fault → D → D → Done → M → M → Type 0
@@ -80,7 +80,7 @@ module _ {M L R W : Type 0} (net : loopback.Ghosts M L R W) (seen : Seen R W) (a
     pub goes_on : IsGood taken.book.register
         → ComesWithin args.count taken.book.register left.book.register
     pub led : LeadsTo keeper.kept keeper.takes keeper.hears taken left
-    pub unserved : IfErr served (λ fault. fault ≢ Accept → left ≡ taken)
+    pub unserved : IfErr served (λ fault. is_early fault ≡ false → left ≡ taken)
 
   -- what is done over the database at a path, with a journal or without one; where that was not
   -- opened, or the register not taken up, nothing went out

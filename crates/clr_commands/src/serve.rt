@@ -1,5 +1,5 @@
 //! The subcommand `serve`: the register of a database, answered over HTTP.
-ghost use Rattle.std.specs.Prelude.{◌≡◌, ◌≢◌, Err, IfErr, OnErr, OnOk, false, true};
+ghost use Rattle.std.specs.Prelude.{◌≡◌, Err, IfErr, OnErr, OnOk, false, true};
 ghost use Rattle.std.specs.IoError.{error_kind};
 ghost use Rattle.clr_edge.specs.Keeping.{IsDoneOver};
 ghost use Rattle.clr_edge.specs.TakenUp.{logs};
@@ -9,7 +9,7 @@ ghost use Rattle.clr_http.specs.Served.{may_be_unread};
 ghost use Rattle.clr_commands.specs.Connections.{MissesLast, ReportsConnection, Serves};
 ghost use Rattle.clr_commands.specs.Connections.{TakesFirst, TakesNext};
 ghost use Rattle.clr_commands.specs.Connections.{accept_fault, seen, tries_of};
-ghost use Rattle.clr_commands.specs.ConnectionLaws.{ConnectionsHaveRun, EndsEarly};
+ghost use Rattle.clr_commands.specs.ConnectionLaws.{ConnectionsHaveRun, EndsEarly, is_early};
 ghost use Rattle.clr_commands.specs.Logins.{AreLoginsAt, NamesLogins, terms_of, terms_with};
 ghost use Rattle.clr_commands.specs.Paths.{at_paths};
 ghost use Rattle.clr_commands.specs.Serve.{ServesAt, ServesDesk, ServesKeeper, ServesKept};
@@ -19,7 +19,7 @@ use crate::serve_line::{connection_line, serving_line};
 use clr_args::asked::ServeArgs;
 use clr_desk::{Commit, Desk};
 use clr_edge::database::Databases;
-use clr_edge::fault::Fault;
+use clr_edge::fault::{Fault, JournalFault};
 use clr_edge::files::logins_from;
 use clr_edge::journals::Journals;
 use clr_edge::logins::known_logins;
@@ -57,7 +57,9 @@ pub struct Terms {
 /// faults of the database are those of `run`. `UnknownEmployee` where the register has no such
 /// employee, `Listen` where the port cannot be had, `Output` where the line cannot be written. A
 /// connection that fails is reported, and ends nothing; but a desk's that cannot be taken, though it
-/// is asked for eight times in a row, ends the server with `Accept`.
+/// is asked for eight times in a row, ends the server with `Accept`. With a journal, one after which
+/// it is not known if a change was kept ends it with `Journal(InDoubt)`, once its response is sent:
+/// the next opening decides.
 pub fn serve<
     'a,
     R: Databases + Journals + Loopback,
@@ -235,7 +237,7 @@ fn serve_on<D: Registrar, L: Loopback, W: CountedFlush, E: CountedFlush>(
         (seen L.Reader.remaining L.Reader.failure_count L.Writer.stream)
         (W.stream output.old) (W.stream output.new) (E.stream errors.old) (E.stream errors.new)
         terms desk.old desk.new result net.old net.new }
-    ensures unserved { IfErr result (λ fault. fault ≢ Fault.Accept → desk.new ≡ desk.old) }
+    ensures unserved { IfErr result (λ fault. is_early fault ≡ false → desk.new ≡ desk.old) }
     ensures led { D.leads_to desk.old desk.new }
 {
     match terms {
@@ -258,7 +260,7 @@ pub fn serve_desk<D: Registrar, L: Loopback, W: CountedFlush, E: CountedFlush>(
         (seen L.Reader.remaining L.Reader.failure_count L.Writer.stream)
         (W.stream output.old) (W.stream output.new) (E.stream errors.old) (E.stream errors.new)
         terms.now desk.old desk.new result net.old net.new }
-    ensures unserved { IfErr result (λ fault. fault ≢ Fault.Accept → desk.new ≡ desk.old) }
+    ensures unserved { IfErr result (λ fault. is_early fault ≡ false → desk.new ≡ desk.old) }
     ensures led { D.leads_to desk.old desk.new }
 {
     let listener = listen(net, terms.port)?;
@@ -269,7 +271,8 @@ pub fn serve_desk<D: Registrar, L: Loopback, W: CountedFlush, E: CountedFlush>(
 
 /// Serves as many connections as the terms say, one after the other. One that fails is reported, and
 /// the next is served. The commands that they carry out from a good register are a run. `Accept`
-/// where a desk's next connection could not be taken.
+/// where a desk's next connection could not be taken, `Journal(InDoubt)` after a response where it
+/// is not known if a change was kept.
 pub fn serve_connections<D: Registrar, L: Loopback, E: CountedFlush>(
     alloc: Global,
     net: &mut L,
@@ -287,15 +290,18 @@ pub fn serve_connections<D: Registrar, L: Loopback, E: CountedFlush>(
         (seen L.Reader.remaining L.Reader.failure_count L.Writer.stream) terms.now listener.now
         terms.now.count desk.old desk.new (E.stream errors.old) (E.stream errors.new)
         net.old net.new) }
-    ensures ended { OnErr result (EndsEarly D.Registrar L.Loopback
+    ensures ended { IfErr result (λ fault. EndsEarly D.Registrar L.Loopback
         (seen L.Reader.remaining L.Reader.failure_count L.Writer.stream) terms.now listener.now
-        desk.old desk.new (E.stream errors.old) (E.stream errors.new) net.old net.new) }
-    ensures fault { IfErr result (λ fault. fault ≡ Fault.Accept) }
+        fault desk.old desk.new (E.stream errors.old) (E.stream errors.new) net.old net.new) }
+    ensures fault { IfErr result (λ fault. is_early fault ≡ true) }
     ensures led { D.leads_to desk.old desk.new }
 {
     headline_holds_of_runs();
     for done in 0..terms.count {
         serve_next(alloc, net, listener, desk, terms, done + 1, errors)?;
+        if desk.is_in_doubt() {
+            return Err(Fault::Journal(JournalFault::InDoubt));
+        }
     }
     Ok(())
 }

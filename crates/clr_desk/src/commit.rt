@@ -1,5 +1,5 @@
 //! What keeps the changes of a desk: a store, or nothing.
-ghost use Rattle.std.specs.Prelude.{◌≡◌, ℕ, IfErr, IsTrue, List, Option, Result, true};
+ghost use Rattle.std.specs.Prelude.{◌≡◌, ℕ, Bool, IfErr, IsTrue, List, Option, Result, false, true};
 ghost use Rattle.sqlite.specs.Held.{state};
 ghost use Rattle.sqlite.specs.State.{State};
 ghost use Rattle.sqlite.specs.Tree.{Trees};
@@ -32,6 +32,14 @@ pub trait Commit: Drop {
     /// Which state the login of the next command leads to. Only the calls of `hear` are of this
     /// relation.
     ghost hears: { Self → Option (List ℕ) → Self → Type 0 };
+
+    /// Whether it is not known if the last change was kept.
+    ghost doubts: { Self → Bool };
+
+    /// Whether it is not known if the last change was kept: only opening the register again decides
+    /// that, and no change is kept before.
+    fn is_in_doubt(&self) -> bool
+        ensures { result ≡ doubts self.now };
 
     /// Hears at which login the next command is given, if at one. What is kept stays as it is.
     fn hear(&mut self, login: Option<Text>)
@@ -69,7 +77,13 @@ impl<S: Alter + Drop> Commit for Store<S> {
 
     ghost hears = { HearsNothing };
 
+    ghost doubts = { λ _. false };
+
     ghost settled = { λ store trees here left. S.Store.settled store.store trees here left };
+
+    fn is_in_doubt(&self) -> bool {
+        false
+    }
 
     fn hear(&mut self, login: Option<Text>) {}
 
@@ -101,7 +115,13 @@ impl Commit for Unkept {
 
     ghost hears = { HearsNothing };
 
+    ghost doubts = { λ _. false };
+
     ghost settled = { λ _ trees here left. left };
+
+    fn is_in_doubt(&self) -> bool {
+        false
+    }
 
     fn hear(&mut self, login: Option<Text>) {}
 

@@ -232,6 +232,14 @@ impl<K: Commit> Desk<K> {
         self.faults
     }
 
+    /// Whether it is not known if the last change was kept: only opening the register again decides
+    /// that.
+    pub fn is_in_doubt(&self) -> bool
+        ensures { result ≡ K.doubts self.now.store }
+    {
+        self.store.is_in_doubt()
+    }
+
     /// Says at which login the next command is given, if at one.
     pub fn hear(&mut self, login: Option<Text>)
         ensures book { self.new.book ≡ self.old.book }

@@ -107,6 +107,7 @@ journal_fault_name journal.TooLong = codes "TooLong"
 journal_fault_name (journal.BadLine place) = codes "BadLine"
 journal_fault_name journal.WriteFailed = codes "WriteFailed"
 journal_fault_name journal.SameFile = codes "SameFile"
+journal_fault_name journal.InDoubt = codes "InDoubt"
 
 abbrev pub verify_fault_name : VerifyFault → List ℕ
 verify_fault_name (verify.Reply number) = codes "Reply"

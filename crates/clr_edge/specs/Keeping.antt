@@ -15,7 +15,7 @@ use Rattle.clr_desk.specs.Faults.{FailsAsStore}
 use Rattle.clr_desk.specs.Taking.{HearsNothing, PassesOver}
 use Rattle.clr_desk.specs.declared.commit.Commit as commit
 use Rattle.clr_desk.specs.declared.desk.Desk.{Desk}
-use Rattle.clr_journaled.specs.Journaling.{FailsToo, HearsLogin, IsDurable, Journals}
+use Rattle.clr_journaled.specs.Journaling.{FailsToo, HearsLogin, IsDurable, Journals, is_doubtful}
 use Rattle.clr_journaled.specs.declared.journaled.Journaled.{Journaled}
 use Rattle.clr_edge.specs.Database.{HasRegister, IsOfLine, IsOnlyRead, IsRefused, ReadsAs}
 use Rattle.clr_edge.specs.TakenUp.{IsNotTakenUp, IsTakenUp, Logs}
@@ -68,7 +68,13 @@ pub record Keeping (M T K : Type 0) : Type 1 where
 -- in the database alone
 abbrev pub plain_keeper : {T : Type 0} → Ghosts T → commit.Ghosts (Held T)
 plain_keeper g =
-    record { kept = state g; fails = FailsAsStore; takes = PassesOver; hears = HearsNothing }
+    record {
+      kept = state g;
+      fails = FailsAsStore;
+      takes = PassesOver;
+      hears = HearsNothing;
+      doubts = λ _. false;
+    }
 
 abbrev pub plain : {M T : Type 0} → Ghosts T → Keeping M T (Held T)
 plain g = record {
@@ -88,6 +94,7 @@ logged_keeper {M} {J} {C} {T} g logs = record {
   fails = FailsToo FailsAsStore;
   takes = Journals PassesOver logs.shows logs.log.text (IsDurable logs.log.text logs.log.may_leave);
   hears = HearsLogin;
+  doubts = λ (it : Journaled (Held T) J C). is_doubtful it.last;
 }
 
 -- the one at a path, whose last line is redone

@@ -69,6 +69,8 @@ pub enum JournalFault {
     WriteFailed,
     /// Its path leads to a file of the database.
     SameFile,
+    /// It is not known if the last change was kept. Opening the register again decides that.
+    InDoubt,
 }
 
 /// Why a database is not what the run of a journal leaves.
@@ -352,6 +354,7 @@ fn journal_fault_name(fault: JournalFault) -> &'static str
         JournalFault::BadLine(_) => "BadLine",
         JournalFault::WriteFailed => "WriteFailed",
         JournalFault::SameFile => "SameFile",
+        JournalFault::InDoubt => "InDoubt",
     }
 }
 
@@ -364,7 +367,8 @@ fn journal_fault_detail(fault: JournalFault) -> Detail
         | JournalFault::ReadFailed
         | JournalFault::TooLong
         | JournalFault::WriteFailed
-        | JournalFault::SameFile => Detail::Nothing,
+        | JournalFault::SameFile
+        | JournalFault::InDoubt => Detail::Nothing,
     }
 }
 

@@ -21,12 +21,18 @@ impl<K: Commit> Registrar for Desk<K> {
 
     ghost takes = { DeskTakes K.takes K.hears };
 
+    ghost doubts = { λ d. K.doubts d.store };
+
     ghost stays = { λ one. leads_itself K.kept K.takes K.hears one };
 
     ghost goes_on = { λ before between behind. leads_on K.kept K.takes K.hears before between behind };
 
     fn faults(&self) -> u64 {
         self.faults()
+    }
+
+    fn is_in_doubt(&self) -> bool {
+        self.is_in_doubt()
     }
 
     fn hear(&mut self, login: Option<Text>) {

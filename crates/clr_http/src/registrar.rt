@@ -1,5 +1,5 @@
 //! Who keeps the register that is served.
-ghost use Rattle.std.specs.Prelude.{◌≡◌, ℕ, IfOk, IfSome, List, None, OnSome, Option};
+ghost use Rattle.std.specs.Prelude.{◌≡◌, ℕ, Bool, IfOk, IfSome, List, None, OnSome, Option};
 ghost use Rattle.std.specs.Prelude.{option_map, pos};
 ghost use Rattle.std.specs.Prelude.{string_bytes};
 ghost use Rattle.clr_rules.specs.Answer.{Answer, answer};
@@ -32,6 +32,14 @@ pub trait Registrar {
 
     /// What it is to take a command, with its reply, if it got one.
     ghost takes: { Self → Command → Option Reply → Self → Type 0 };
+
+    /// Whether it is not known if the change of the last command was kept.
+    ghost doubts: { Self → Bool };
+
+    /// Whether it is not known if the change of the last command was kept: only opening the register
+    /// again decides that.
+    fn is_in_doubt(&self) -> bool
+        ensures { result ≡ doubts self.now };
 
     /// How many commands were not answered, since the store or memory refused. The count stays at
     /// 2^64 - 1.

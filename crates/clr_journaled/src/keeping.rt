@@ -1,6 +1,7 @@
 //! A keeper with a journal keeps changes.
 ghost use Rattle.std.specs.Prelude.{◌≡◌, ◌⊎◌};
-ghost use Rattle.clr_journaled.specs.Journaling.{FailsToo, HearsLogin, IsDurable, Journals, left_by};
+ghost use Rattle.clr_journaled.specs.Journaling.{FailsToo, HearsLogin, IsDurable, Journals};
+ghost use Rattle.clr_journaled.specs.Journaling.{is_doubtful, left_by};
 
 use crate::clock::Clock;
 use crate::journaled::Journaled;
@@ -20,7 +21,16 @@ impl<K: Commit, J: Journal + Drop, C: Clock> Commit for Journaled<K, J, C> {
 
     ghost hears = { HearsLogin };
 
+    ghost doubts = { λ it. is_doubtful it.last };
+
     ghost settled = { λ it trees here left. K.settled it.keeper trees here left };
+
+    fn is_in_doubt(&self) -> bool {
+        match self.last {
+            Last::Doubtful => true,
+            Last::Settled | Last::Owed => false,
+        }
+    }
 
     fn hear(&mut self, login: Option<Text>) {
         self.login = login;

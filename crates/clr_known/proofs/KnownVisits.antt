@@ -88,7 +88,7 @@ module _ {M D : Type 0} (g : disk.Ghosts D) (clean : IsAlwaysClean g)
       taken : (port : ℕ) (k k' : X) (l : L) (old new : M) → (by.keeper k).register ≡ jones_register → IsGood (by.keeper k).register
           → TakesFirst by net seen (once_at port) l 1 k k' fresh fresh old new → IsBoardResponse (response new)
       unfolding TakesFirst
-      taken port k k' l old new register good (middle, between, reported, first, next) =
+      taken port k k' l old new register good (middle, between, reported, first, next, certain) =
           answered port between k' l reported middle new (ap (λ (x : X). (by.keeper x).register) first.1 ∙ register)
           (subst (λ (x : X). IsGood (by.keeper x).register) (sym first.1) good) first.2 next
 

@@ -1,6 +1,8 @@
 //! One connection whose client is hostile or whose device fails: requests that are cut short, the
 //! longest heads, readers and writers that fail at each call in turn, and a keeper that answers no
 //! command.
+ghost use Rattle.std.specs.Prelude.{false};
+
 use crate::at_desk::{AtDesk, at_new_desk};
 use crate::fakes::{FailsAt, Narrow};
 use crate::worked::{REQUEST, RESPONSE};
@@ -412,12 +414,18 @@ impl<D: Registrar + Drop> Registrar for Unanswering<D> {
 
     ghost takes = { λ _ _ _ _. Unit {0} };
 
+    ghost doubts = { λ _. false };
+
     ghost stays = { λ _. tt };
 
     ghost goes_on = { λ _ _ _ _ _. tt };
 
     fn faults(&self) -> u64 {
         self.faults
+    }
+
+    fn is_in_doubt(&self) -> bool {
+        false
     }
 
     fn hear(&mut self, _login: Option<Text>) {}

@@ -1,6 +1,6 @@
-use Rattle.std.proofs.Common.{ap}
-use Rattle.clr_commands.proofs.ConnectionRuns.{all_have_run, ended_early}
-use Rattle.clr_commands.proofs.Connections.{OnErr-any, first_taken, next_taken}
+use Rattle.std.proofs.Common.{ap, rules}
+use Rattle.clr_commands.proofs.ConnectionRuns.{all_have_run, ended_early, ended_in_doubt, ends_untaken}
+use Rattle.clr_commands.proofs.Connections.{first_taken, next_taken}
 use Rattle.clr_commands.proofs.serve.serve_connections.Goals as goal
 
 pub loop-done-init : goal.loop-done-init
@@ -11,7 +11,7 @@ loop-done-init g c = record {
 
 pub loop-done-preserved : goal.loop-done-preserved
 loop-done-preserved g c = record {
-  taken = next_taken _ _ _ _ _ c.loop-done.done _ _ _ _ _ _ _ _ _ c.loop-done.invariant.taken c.in_ok-serve_next.ensures.taken;
+  taken = next_taken _ _ _ _ _ c.loop-done.done _ _ _ _ _ _ _ _ _ c.loop-done.invariant.taken c.in_ok-serve_next.ensures.taken (search rules);
   led = g.met.D.Registrar.goes_on _ _ _ c.loop-done.invariant.led c.serve_next.ensures.led;
 }
 
@@ -24,7 +24,7 @@ returns-clause-run g c good =
 pub returns-in_err-serve_next-clause-ended : goal.returns-in_err-serve_next-clause-ended
 returns-in_err-serve_next-clause-ended g c =
     let (kind, missed, desk, same, quiet) = c.in_err-serve_next.ensures.missed in
-    OnErr-any c.from_residual.result
+    ends_untaken _ _ _ _ _ _ _ _ _ _ _ c.in_err-serve_next.field-0.0 c.from_residual.result c.in_err-serve_next.ensures.fault c.from_residual.ensures.1
     (ended_early _ _ _ _ _ c.headline_holds_of_runs.ensures.replies c.headline_holds_of_runs.ensures.nothing c.headline_holds_of_runs.ensures.alone
     c.loop-done.done c.loop-done-test.true _ _ _ _ _ _ _ _ _ c.loop-done.invariant.taken kind missed desk same (ap g.E.CountedWrite.stream quiet))
 

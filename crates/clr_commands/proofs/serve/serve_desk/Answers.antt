@@ -1,5 +1,5 @@
 use Rattle.std.proofs.Common.{rules}
-use Rattle.clr_commands.proofs.Connections.{accept_only, server_cut, server_ended, went_as}
+use Rattle.clr_commands.proofs.Connections.{early_only, server_cut, server_ended, went_as}
 use Rattle.clr_commands.proofs.serve.serve_desk.Goals as goal
 
 -- the port was listened on, its line went out, and its connections were taken
@@ -7,11 +7,11 @@ pub returns-clause-served : goal.returns-clause-served
 returns-clause-served g c =
     server_ended _ _ _ _ _ _ _ _ _ _ _ c.in_ok-listener.listener _ c.listen.new.net _ c.in_ok-listener.ensures.stands
     (went_as _ _ _ _ _ (search rules) c.in_ok-write_out.ensures.whole)
-    c.serve_connections.ensures.taken c.serve_connections.ensures.run c.serve_connections.ensures.ended c.serve_connections.ensures.fault
+    c.serve_connections.ensures.taken c.serve_connections.ensures.run c.serve_connections.ensures.ended
 
--- only where none could be taken is the desk not as it was
+-- only where connections were served is the desk not as it was
 pub returns-clause-unserved : goal.returns-clause-unserved
-returns-clause-unserved g c = accept_only c.serve_connections.result _ c.serve_connections.ensures.fault
+returns-clause-unserved g c = early_only c.serve_connections.result _ c.serve_connections.ensures.fault
 
 -- its line could not be written
 pub returns-in_err-write_out-clause-served : goal.returns-in_err-write_out-clause-served
