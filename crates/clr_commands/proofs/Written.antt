@@ -141,7 +141,7 @@ module _ {D M L R W : Type 0} (by : registrar.Ghosts D) (net : loopback.Ghosts M
         went,
         suc n,
         one_more_reported n errors it.reported errors' (first_reported by net seen terms listener n k it.between errors it.reported middle it.middle it.taken)
-        (next_reported by net seen terms listener (n + 1) it.between k' it.reported errors' it.middle new it.last),
+            (next_reported by net seen terms listener (n + 1) it.between k' it.reported errors' it.middle new it.last),
       ))
 
   terms_written : (terms : Terms) (k k' : D) (served closed : Done) (old new : M)
