@@ -167,7 +167,9 @@ fn with_both<Y: System>(
 
 /// A connection by its two handles.
 fn connection_of<K: Clock>(half: Half<K>, writer: TcpStream) -> Connection<Handle<K>, Handle<K>>
+    ensures read { (counted_inner result.reader).stream ≡ half.reader }
     ensures reader { (counted_inner result.reader).limit ≡ half.limits.reader }
+    ensures written { (counted_inner result.writer).stream ≡ writer }
     ensures writer { (counted_inner result.writer).limit ≡ half.limits.writer }
 {
     let Half { reader, limits } = half;
