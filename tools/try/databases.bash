@@ -89,12 +89,14 @@ all_refuse Sql 'a database with a table of somebody else'
 write_to "$place/room.db" 'CREATE TABLE meta (name TEXT PRIMARY KEY, value INTEGER)'
 all_refuse 'BadRow meta' 'a database with another meta'
 
-# written FAULT TITLE STATEMENT..: the register with an order, to which somebody else has written this.
+# written FAULT TITLE STATEMENT..: the register with an order, to which somebody else has written this. `migrate` refuses
+# other tables too.
 written() {
   local fault=$1 title=$2
   shift 2
   cp "$work/ordered.db" "$place/room.db"
   write_to "$place/room.db" "$@"
+  [ "$fault" != OtherTables ] || keeps_file "$fault" "$title" migrate "$place/room.db"
   all_refuse "$fault" "$title"
 }
 huge="CAST(replace(hex(zeroblob(1000000)), '00', 'A') AS TEXT)"
