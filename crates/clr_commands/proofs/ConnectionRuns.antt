@@ -199,7 +199,7 @@ module _ {D M L R W : Type 0} (by : registrar.Ghosts D) (net : loopback.Ghosts M
   one_more_has_run same nothing alone n k between k' errors reported errors' old middle new taken next good =
       let (carried, response, step) = next_carries (n + 1) between k' reported errors' middle new next (first_good n k between errors reported old middle taken good) in
       let last : CarriesAll by net seen terms listener (n + 1) between k' reported errors' middle new (carried ∷ []) (response ∷ []) =
-      (new, k', errors', step, refl, refl, refl) in
+      (new, k', errors', step, (refl, refl, refl)) in
       carried_have_run same nothing alone (n + 1) k k' errors errors' old new
       (first_carries n (n + 1) k between k' errors reported errors' old middle new (carried ∷ []) (response ∷ []) taken good last (omega arith))
 

@@ -24,7 +24,7 @@ use Rattle.clr_desk.specs.declared.desk_fault.DeskFault.{DeskFault}
 use Rattle.clr_desk.specs.declared.desk_fault.DeskFault.TheVariants as desk
 use Rattle.clr_edge.specs.Database.{IsOfLine}
 use Rattle.clr_edge.specs.Fault.{of_desk, of_store}
-use Rattle.clr_edge.specs.Journals.{IsOfTakingUp}
+use Rattle.clr_edge.specs.Journals.{IsOfRedo}
 use Rattle.clr_edge.specs.Keeping.{Keeping, Works, WorksIn, logged, plain}
 use Rattle.clr_edge.specs.TakenUp.{IsNotTakenUp, Logs}
 use Rattle.clr_edge.specs.Logins.{is_employee, unless_unknown}
@@ -82,22 +82,16 @@ listen_other _ e = cc e
 other_as : (fault found : Fault) → fault ≡ found → found ≢ Output → fault ≢ Output
 other_as fault found is other e = other (sym is ∙ e)
 
-desk_other : (cause : DeskFault) → of_desk cause ≢ Output
-desk_other desk.NoMemory e = cc e
-desk_other desk.Journal e = cc e
-desk_other (desk.Store cause) e = store_other cause e
-
-taking_up_other : (fault : Fault) → IsOfTakingUp fault → fault ≢ Output
-taking_up_other fault (inl (inl memory)) e = cc (sym memory ∙ e)
-taking_up_other fault (inl (inr shut)) e = cc (sym shut ∙ e)
-taking_up_other fault (inr (cause, is)) e = other_as fault _ is (desk_other cause) e
+redo_other : (fault : Fault) → IsOfRedo fault → fault ≢ Output
+redo_other fault (inl line) e = line_other fault line e
+redo_other fault (inr shut) e = cc (sym shut ∙ e)
 
 not_taken_other : {M J C T : Type 0} (g : Ghosts T) (at : journals.Ghosts M J C) (path : List ℕ) (old new : M) (before after : Held T) (fault : Fault)
     → IsNotTakenUp g at path before fault after old new → fault ≢ Output
 not_taken_other g at path old new before after fault (inl (refused, survives, same)) e = other_as fault _ refused.told_is (store_other refused.fault) e
 not_taken_other g at path old new before after fault (inr (inl (inl memory, read, shuts))) e = cc (sym memory ∙ e)
 not_taken_other g at path old new before after fault (inr (inl (inr shut, read, shuts))) e = cc (sym shut ∙ e)
-not_taken_other g at path old new before after fault (inr (inr refused)) e = taking_up_other fault refused.of e
+not_taken_other g at path old new before after fault (inr (inr refused)) e = redo_other fault refused.of e
 
 closed_other : {D : Type 0} (g : disk.Ghosts D) (c : Held (FileStore D g)) (last : FileStore D g) (files : Files D) (closed : Done)
     → Copies g c last files closed → IfErr closed (λ fault. fault ≢ Output)
@@ -139,9 +133,11 @@ module _ {D M L R W : Type 0} (by : registrar.Ghosts D) (net : loopback.Ghosts M
       inr (inr (
         λ e. cc (sym is ∙ e),
         went,
-        suc n,
-        one_more_reported n errors it.reported errors' (first_reported by net seen terms listener n k it.between errors it.reported middle it.middle it.taken)
-            (next_reported by net seen terms listener (n + 1) it.between k' it.reported errors' it.middle new it.last),
+        (
+          suc n,
+          one_more_reported n errors it.reported errors' (first_reported by net seen terms listener n k it.between errors it.reported middle it.middle it.taken)
+              (next_reported by net seen terms listener (n + 1) it.between k' it.reported errors' it.middle new it.last),
+        ),
       ))
 
   terms_written : (terms : Terms) (k k' : D) (served closed : Done) (old new : M)

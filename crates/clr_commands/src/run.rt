@@ -90,9 +90,23 @@ fn run_opened<K: Commit, J: Journal + Drop, C: Clock, I: CountedRead>(
     ensures faults { FailsAsSubcommand result }
 {
     match opened {
-        Opened::Plain(desk) => run_over(alloc, desk, input),
-        Opened::Logged(desk) => run_over(alloc, desk, input),
+        Opened::Plain(desk) => run_taken_up(alloc, desk, input),
+        Opened::Logged(desk) => run_taken_up(alloc, desk, input),
     }
+}
+
+/// The same over a desk.
+fn run_taken_up<K: Commit, I: CountedRead>(
+    alloc: Global,
+    desk: &mut Desk<K>,
+    input: &mut I,
+) -> Result<Printed, Fault>
+    ensures ran { RunsDesk K.Commit (I.remaining input.old) result desk.old desk.new }
+    ensures input { ReadsInput (I.remaining input.old) (I.failure_count input.old)
+        (I.failure_count input.new) input.old input.new result }
+    ensures faults { FailsAsSubcommand result }
+{
+    run_over(alloc, desk, input)
 }
 
 /// What was printed, with the fault of closing its database, if there was no other.

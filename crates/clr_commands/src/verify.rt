@@ -38,8 +38,22 @@ pub fn verify<'a, R: Databases, O: Opens<'a>>(
     ensures faults { IfErr result IsOfSubcommand }
 {
     let rerun = run_of_journal(alloc, paths, args)?;
-    let desk = open_desk(alloc, rt, args.database)?;
-    let printed = verified(alloc, &rerun, desk.book());
+    verify_register(alloc, rt, &rerun, args.database)
+}
+
+/// The register of the database at a path, compared with that of a run.
+fn verify_register<R: Databases>(
+    alloc: Global,
+    rt: &mut R,
+    rerun: &Rerun,
+    path: &str,
+) -> Result<String, Fault>
+    ensures visit { Comes R.Medium.Disk R.opens R.shuts R.ends path.now (Verifies rerun.now) result
+        rt.old rt.new }
+    ensures faults { IfErr result IsOfSubcommand }
+{
+    let desk = open_desk(alloc, rt, path)?;
+    let printed = verified(alloc, rerun, desk.book());
     let _closed = close(rt, desk.end().end());
     printed
 }

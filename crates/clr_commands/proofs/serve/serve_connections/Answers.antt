@@ -1,4 +1,4 @@
-use Rattle.std.proofs.Common.{ap, rules}
+use Rattle.std.proofs.Common.{◌∙◌, ap, inr, refl, rules, sym}
 use Rattle.clr_commands.proofs.ConnectionRuns.{all_have_run, ended_early, ended_in_doubt, ends_untaken}
 use Rattle.clr_commands.proofs.Connections.{first_taken, next_taken}
 use Rattle.clr_commands.proofs.serve.serve_connections.Goals as goal
@@ -30,3 +30,11 @@ returns-in_err-serve_next-clause-ended g c =
 
 pub returns-in_err-serve_next-clause-led : goal.returns-in_err-serve_next-clause-led
 returns-in_err-serve_next-clause-led g c = g.met.D.Registrar.goes_on _ _ _ c.loop-done.invariant.led c.serve_next.ensures.led
+
+-- it is not known whether a change of the last connection was kept
+pub returns-then-is_in_doubt-clause-ended : goal.returns-then-is_in_doubt-clause-ended
+returns-then-is_in_doubt-clause-ended g c = inr (
+  refl,
+  ended_in_doubt _ _ _ _ _ c.headline_holds_of_runs.ensures.replies c.headline_holds_of_runs.ensures.nothing c.headline_holds_of_runs.ensures.alone
+      c.loop-done.done c.loop-done-test.true _ _ _ _ _ _ _ _ _ c.loop-done.invariant.taken c.in_ok-serve_next.ensures.taken (sym c.is_in_doubt.ensures ∙ c.if-is_in_doubt.true),
+)

@@ -34,8 +34,3 @@ returns-in_err-desk-clause-visit g c =
 
 pub returns-in_err-desk-clause-faults : goal.returns-in_err-desk-clause-faults
 returns-in_err-desk-clause-faults g c = passed _ _ c.from_residual.ensures.1 (taking_up_plain _ c.in_err-desk.ensures.fault)
-
--- a register that was taken up is good
-pub wayback_of-requires : goal.wayback_of-requires
-wayback_of-requires g c =
-    subst (λ (b : Shelved). IsGood b.register) (sym c.parted-book.ensures.book) c.in_ok-desk.ensures.up.good
