@@ -169,7 +169,7 @@ then_reaches g a b c F G H x r first second =
 pub added_more : (news rows : List Row) (k : ℕ) (row : Row) → k < length news → row ≡ get_or news k row → added (take (k + 1) news) rows ≡ row ∷ added (take k news) rows
 added_more news rows k row within is = fold_more (λ had row. row ∷ had) rows news k row within ∙ ap (λ r. r ∷ added (take k news) rows) (sym is)
 
-added_same : (news rows : List Row) → IsPermutation (news ++ rows) (added news rows)
+pub added_same : (news rows : List Row) → IsPermutation (news ++ rows) (added news rows)
 added_same [] rows = IsPermutation-refl _
 added_same (row ∷ news) rows = IsPermutation-trans _ _ _ (IsPermutation-sym _ _ (IsPermutation-middle news row rows)) (added_same news (row ∷ rows))
 
@@ -247,7 +247,7 @@ text_order a b = then_equal (value_cmp (Text a) (Text b)) ∙ value_cmp-Text a b
     then_equal Equal = refl
     then_equal Greater = refl
 
-named_order : {A : Type 0} (key : A → List ℕ) (row : A → Row) → ((x : A) → take 1 (row x) ≡ Text (key x) ∷ []) → (xs : List A)
+pub named_order : {A : Type 0} (key : A → List ℕ) (row : A → Row) → ((x : A) → take 1 (row x) ≡ Text (key x) ∷ []) → (xs : List A)
     → in_key_order row_cmp (take 1) (map row xs) ≡ in_key_order name_cmp key xs
 named_order key row first [] = refl
 named_order key row first (x ∷ xs) = λ i. above xs i && named_order key row first xs i

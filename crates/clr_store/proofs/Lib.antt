@@ -13,3 +13,4 @@ pub mod Moving
 mod There
 mod Rising
 pub mod TakenSteps
+pub mod Renewing

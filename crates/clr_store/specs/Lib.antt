@@ -3,3 +3,4 @@ pub mod Contract
 pub mod Moving
 pub mod There
 pub mod StepsTaken
+pub mod Renewed

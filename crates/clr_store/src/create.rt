@@ -80,7 +80,7 @@ fn add_section<S: Alter>(
     insert_row(tx, TableName::Section, &row)
 }
 
-fn add_sections<S: Alter>(
+pub(crate) fn add_sections<S: Alter>(
     tx: &mut Transaction<'_, S>,
     sections: &[SectionRow],
 ) -> Result<(), StoreFault>
@@ -128,7 +128,10 @@ fn add_employee<S: Alter>(
     insert_row(tx, TableName::Staff, &row)
 }
 
-fn add_staff<S: Alter>(tx: &mut Transaction<'_, S>, staff: &[StaffRow]) -> Result<(), StoreFault>
+pub(crate) fn add_staff<S: Alter>(
+    tx: &mut Transaction<'_, S>,
+    staff: &[StaffRow],
+) -> Result<(), StoreFault>
     ensures { Does S.Store tx.old tx.new
         (with_rows TableName.Staff (added (map staff_row staff.now))) result }
 {

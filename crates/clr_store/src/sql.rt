@@ -1,6 +1,7 @@
 //! The statements that write the tables of a register, as texts.
 ghost use Rattle.std.specs.Prelude.{◌≡◌};
 ghost use Rattle.clr_load.specs.Sql.{create_sql, delete_sql, insert_sql, replace_sql};
+ghost use Rattle.clr_store.specs.Renewed.{clear_sql};
 
 use clr_tables::TableName;
 
@@ -96,5 +97,21 @@ pub(crate) fn replace_sql(table: TableName) -> &'static str
         TableName::NetworkPoint => "UPDATE network_point SET name = ?1, from_end = ?2, \
              to_end = ?3, lockable = ?4, remote = ?5, position = ?6, hand_requester = ?7, \
              hand_number = ?8, jumper = ?9 WHERE name = ?1",
+    }
+}
+
+/// Deletes all rows.
+pub(crate) fn clear_sql(table: TableName) -> &'static str
+    ensures { result.now ≡ clear_sql table }
+{
+    match table {
+        TableName::Meta => "DELETE FROM meta",
+        TableName::Section => "DELETE FROM section",
+        TableName::Point => "DELETE FROM point",
+        TableName::Staff => "DELETE FROM staff",
+        TableName::Clearance => "DELETE FROM clearance",
+        TableName::Step => "DELETE FROM step",
+        TableName::Hold => "DELETE FROM hold",
+        TableName::NetworkPoint => "DELETE FROM network_point",
     }
 }

@@ -11,7 +11,7 @@ ghost use Rattle.clr_load.specs.declared.layout.Layout.TheVariants.{AsMade};
 ghost use Rattle.clr_load.specs.Schema.{columns_in, keys_in};
 ghost use Rattle.clr_load.specs.Stored.{fits_columns, has_key};
 
-use crate::sql::{delete_sql, insert_sql, replace_sql};
+use crate::sql::{clear_sql, delete_sql, insert_sql, replace_sql};
 use clr_load::StoreFault;
 use clr_tables::TableName;
 use sqlite::types::ValueRef;
@@ -61,6 +61,18 @@ pub(crate) fn delete_row<S: Alter>(
         (with_rows table (without_table_row (keys_in table) (bound key.now))) result }
 {
     tx.execute(delete_sql(table), key)?;
+    Ok(())
+}
+
+/// Deletes all rows.
+pub(crate) fn clear_table<S: Alter>(
+    tx: &mut Transaction<'_, S>,
+    table: TableName,
+) -> Result<(), StoreFault>
+    requires { has_table AsMade table ≡ true }
+    ensures { Does S.Store tx.old tx.new (with_rows table (λ _. [])) result }
+{
+    tx.execute(clear_sql(table), &[])?;
     Ok(())
 }
 

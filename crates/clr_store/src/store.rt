@@ -22,15 +22,17 @@ ghost use Rattle.clr_load.specs.declared.fault.StoreFault.TheVariants.{OtherTabl
 ghost use Rattle.clr_store.specs.Contract.{AreEdited, IsOfOpening, MakesEdits, RefusesOpening};
 ghost use Rattle.clr_store.specs.Contract.{RefusesVersion};
 ghost use Rattle.clr_store.specs.Moving.{IsOfMove, LeavesMoved, RefusesMove, RefusesToMove};
+ghost use Rattle.clr_store.specs.Renewed.{AreRenewed, AreStatesOf, RenewsTables};
 ghost use Rattle.clr_store.specs.StepsTaken.{AreWithoutSteps, TakesSteps};
 
 use crate::create::make_register;
 use crate::edits::make_all;
 use crate::migrate::move_tables;
+use crate::renew::renew;
 use crate::steps::take_steps;
 use clr_load::{Fill, Loaded, Rows, StoreFault, expect_version, load_into, load_rows};
 use clr_net::Network;
-use clr_rules::{Change, Hold, Record, StepKey, StepRow};
+use clr_rules::{Change, Hold, PointState, Record, StepKey, StepRow};
 use clr_staff::Staff;
 use sqlite::{Alter, Connection};
 use std::marker::Model;
@@ -415,5 +417,37 @@ impl<S: Alter + Drop> Store<S> {
             (AreWithoutSteps (state S.Store self.old).now keys.now) }
     {
         take_steps(&mut self.connection, keys)
+    }
+
+    /// Puts a network, a staff and the states of the network's points in place of those that the
+    /// tables have, in one transaction. Clearances, steps and holds stay.
+    ///
+    /// `Sql` where the database refuses or fails, `NoMemory` where memory runs out. On a fault the
+    /// tables stay as they were.
+    pub fn update(
+        &mut self,
+        network: &Network,
+        staff: &Staff,
+        states: &[PointState],
+    ) -> Result<(), StoreFault>
+        requires { AreStatesOf network.now.points states.now }
+        ensures renewed { HasCleanDisk (state S.Store self.new)
+            → OnOk result (RenewsTables (state S.Store self.old).now network.now staff.now
+            states.now (state S.Store self.new).now) }
+        ensures saved { HasCleanDisk (state S.Store self.new)
+            → OnOk result (IsSaved (state S.Store self.new)) }
+        ensures still_saved { HasCleanDisk (state S.Store self.new)
+            → IsTrue (state S.Store self.new).is_open
+            → OnErr result (IsSaved (state S.Store self.new)) }
+        ensures fault { IfErr result IsOfDatabase }
+        ensures none { HasCleanDisk (state S.Store self.new)
+            → IsTrue (state S.Store self.new).is_open → OnErr result
+            ((state S.Store self.new).now ≡ (state S.Store self.old).now) }
+        ensures was_open { HasCleanDisk (state S.Store self.new)
+            → IsTrue (state S.Store self.new).is_open → IsTrue (state S.Store self.old).is_open }
+        ensures crash { Survives (state S.Store self.old) (state S.Store self.new)
+            (AreRenewed (state S.Store self.old).now network.now staff.now states.now) }
+    {
+        renew(&mut self.connection, network, staff, states)
     }
 }

@@ -1,5 +1,5 @@
 //! What is written in the columns of a row.
-ghost use Rattle.std.specs.Prelude.{◌≡◌, ◌<◌, ◌^◌, true};
+ghost use Rattle.std.specs.Prelude.{◌≡◌, ◌<◌, ◌^◌, Some, true};
 ghost use Rattle.sqlite.specs.Values.{bound};
 ghost use Rattle.sqlite.specs.declared.types.Value.TheVariants.{Text};
 ghost use Rattle.sqlite_value.specs.Value.{owned};
@@ -77,6 +77,33 @@ pub(crate) fn point_values(point: &PointRow, position: Position) -> [ValueRef<'_
         position_value(position),
         ValueRef::Null,
         ValueRef::Null,
+        flag_value(point.jumper),
+    ]
+}
+
+/// The columns of a point in a position, in the hand of this clearance.
+pub(crate) fn handed_values<'a>(
+    point: &'a PointRow,
+    position: Position,
+    requester: &'a Name,
+    number: u16,
+) -> [ValueRef<'a>; 9]
+    ensures row { bound result ≡ jumper_row point.now (record {
+      point = point.now.name;
+      position = position;
+      hand = Some (record { requester = requester.now; number = number });
+    }) }
+    ensures fits { fits_columns (columns_in NetworkPoint) (bound result) ≡ true }
+{
+    [
+        name_value(&point.name),
+        name_value(&point.from_end),
+        name_value(&point.to_end),
+        flag_value(point.lockable),
+        flag_value(point.remote),
+        position_value(position),
+        name_value(requester),
+        number_value(u64::from(number)),
         flag_value(point.jumper),
     ]
 }

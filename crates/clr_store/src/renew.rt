@@ -1,0 +1,155 @@
+//! Network, staff and states of points replaced in the tables, in one transaction.
+ghost use Rattle.std.specs.Prelude.{IfErr, ◌≡◌, ◌∷◌, [], false, true, IsTrue, OnErr, OnOk, map};
+ghost use Rattle.sqlite.specs.Held.{state};
+ghost use Rattle.sqlite.specs.State.{HasCleanDisk, Survives};
+ghost use Rattle.clr_net.specs.Name.{name_cmp};
+ghost use Rattle.clr_rules.specs.States.{state_key};
+ghost use Rattle.clr_shelf.specs.Rows.{in_key_order};
+ghost use Rattle.clr_tables.specs.Tables.{jumper_row, section_row, staff_row};
+ghost use Rattle.clr_load.specs.Contract.{IsSaved};
+ghost use Rattle.clr_load.specs.Fault.{IsOfDatabase};
+ghost use Rattle.clr_load.specs.Layout.{has_table};
+ghost use Rattle.clr_load.specs.declared.layout.Layout.TheVariants.{AsMade};
+ghost use Rattle.clr_store.specs.Change.{Does, added, with_rows};
+ghost use Rattle.clr_store.specs.Renewed.{AreRenewed, AreStatesOf, RenewsTables, rows_in_state};
+ghost use Rattle.clr_store.specs.Renewed.{rows_renewed, with_only};
+
+use crate::create::{add_sections, add_staff};
+use crate::statements::{clear_table, insert_row};
+use crate::values::{handed_values, point_values};
+use clr_load::StoreFault;
+use clr_net::{Network, PointRow, SectionRow};
+use clr_rules::PointState;
+use clr_staff::{Staff, StaffRow};
+use clr_tables::TableName;
+use sqlite::{Alter, Connection, Transaction};
+
+/// Replaces network, staff and states in one transaction, or leaves the tables as they are.
+pub(crate) fn renew<S: Alter>(
+    conn: &mut Connection<S>,
+    network: &Network,
+    staff: &Staff,
+    states: &[PointState],
+) -> Result<(), StoreFault>
+    requires { AreStatesOf network.now.points states.now }
+    ensures mode { conn.old.in_transaction ≡ false → conn.new.in_transaction ≡ false }
+    ensures renewed { HasCleanDisk (state S.Store conn.new) → OnOk result
+        (RenewsTables (state S.Store conn.old).now network.now staff.now states.now
+        (state S.Store conn.new).now) }
+    ensures saved { HasCleanDisk (state S.Store conn.new) → OnOk result
+        (IsSaved (state S.Store conn.new)) }
+    ensures still_saved { conn.old.in_transaction ≡ false → HasCleanDisk (state S.Store conn.new)
+        → IsTrue (state S.Store conn.new).is_open → OnErr result
+        (IsSaved (state S.Store conn.new)) }
+    ensures fault { IfErr result IsOfDatabase }
+    ensures none { HasCleanDisk (state S.Store conn.new) → IsTrue (state S.Store conn.new).is_open
+        → OnErr result ((state S.Store conn.new).now ≡ (state S.Store conn.old).now) }
+    ensures was_open { HasCleanDisk (state S.Store conn.new)
+        → IsTrue (state S.Store conn.new).is_open → IsTrue (state S.Store conn.old).is_open }
+    ensures crash { Survives (state S.Store conn.old) (state S.Store conn.new)
+        (AreRenewed (state S.Store conn.old).now network.now staff.now states.now) }
+{
+    if !conn.is_autocommit() {
+        return Err(StoreFault::Sql);
+    }
+    let sections = network.sections();
+    let points = network.points();
+    let employees = staff.rows();
+    let mut tx = conn.transaction();
+    replace_rows(&mut tx, sections, points, states, employees)?;
+    tx.commit()?;
+    Ok(())
+}
+
+/// Replaces the rows of sections, points and staff.
+fn replace_rows<S: Alter>(
+    tx: &mut Transaction<'_, S>,
+    sections: &[SectionRow],
+    points: &[PointRow],
+    states: &[PointState],
+    staff: &[StaffRow],
+) -> Result<(), StoreFault>
+    requires states { AreStatesOf points.now states.now }
+    requires ordered { in_key_order name_cmp state_key states.now ≡ true }
+    ensures { Does S.Store tx.old tx.new
+        (rows_renewed sections.now points.now states.now staff.now) result }
+{
+    replace_sections(tx, sections)?;
+    replace_points(tx, points, states)?;
+    replace_staff(tx, staff)
+}
+
+fn replace_sections<S: Alter>(
+    tx: &mut Transaction<'_, S>,
+    sections: &[SectionRow],
+) -> Result<(), StoreFault>
+    ensures { Does S.Store tx.old tx.new
+        (with_only TableName.Section (map section_row sections.now)) result }
+{
+    clear_table(tx, TableName::Section)?;
+    add_sections(tx, sections)
+}
+
+fn replace_points<S: Alter>(
+    tx: &mut Transaction<'_, S>,
+    points: &[PointRow],
+    states: &[PointState],
+) -> Result<(), StoreFault>
+    requires states { AreStatesOf points.now states.now }
+    requires ordered { in_key_order name_cmp state_key states.now ≡ true }
+    ensures { Does S.Store tx.old tx.new
+        (with_only TableName.NetworkPoint (rows_in_state states.now points.now)) result }
+{
+    clear_table(tx, TableName::NetworkPoint)?;
+    add_points(tx, points, states)
+}
+
+fn replace_staff<S: Alter>(
+    tx: &mut Transaction<'_, S>,
+    staff: &[StaffRow],
+) -> Result<(), StoreFault>
+    ensures { Does S.Store tx.old tx.new
+        (with_only TableName.Staff (map staff_row staff.now)) result }
+{
+    clear_table(tx, TableName::Staff)?;
+    add_staff(tx, staff)
+}
+
+/// Adds points, each with its state.
+fn add_points<S: Alter>(
+    tx: &mut Transaction<'_, S>,
+    points: &[PointRow],
+    states: &[PointState],
+) -> Result<(), StoreFault>
+    requires states { AreStatesOf points.now states.now }
+    requires ordered { in_key_order name_cmp state_key states.now ≡ true }
+    ensures { Does S.Store tx.old tx.new
+        (with_rows TableName.NetworkPoint (added (rows_in_state states.now points.now))) result }
+{
+    for (place, point) in points.iter().enumerate() {
+        add_point(tx, point, &states[place])?;
+    }
+    Ok(())
+}
+
+/// Adds a point with its state.
+fn add_point<S: Alter>(
+    tx: &mut Transaction<'_, S>,
+    point: &PointRow,
+    state: &PointState,
+) -> Result<(), StoreFault>
+    ensures { Does S.Store tx.old tx.new (with_rows TableName.NetworkPoint
+        (λ rows. jumper_row point.now state.now ∷ rows)) result }
+{
+    match state.hand {
+        Some(id) => {
+            let requester = id.requester();
+            let row = handed_values(point, state.position, &requester, id.number());
+            insert_row(tx, TableName::NetworkPoint, &row)
+        }
+        None => {
+            let row = point_values(point, state.position);
+            insert_row(tx, TableName::NetworkPoint, &row)
+        }
+    }
+}
