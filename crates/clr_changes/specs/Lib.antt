@@ -6,3 +6,5 @@ pub mod Shown
 pub mod Needs
 pub mod Parts
 pub mod Outcome
+pub mod Lines
+pub mod Told

@@ -9,14 +9,18 @@ mod needs;
 mod obstacles;
 mod outcome;
 mod phases;
+mod print;
 mod rows;
 mod staffing;
 mod states;
 mod staying;
+mod told;
 mod touched;
 mod update;
 
 pub use changes::Changes;
 pub use clr_update::Obstacle;
 pub use outcome::{After, Outcome, outcome_of};
+pub use print::print_changes;
+pub use told::{Told, told_of};
 pub use update::Update;
