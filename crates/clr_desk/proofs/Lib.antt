@@ -15,3 +15,4 @@ pub mod Givings
 pub mod NearRuns
 pub mod KeptNowhere
 pub mod Archived
+pub mod Updated

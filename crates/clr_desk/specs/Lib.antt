@@ -15,4 +15,5 @@ pub mod Carrying
 pub mod Kept
 pub mod Given
 pub mod Archiving
+pub mod Updating
 pub mod NearRun

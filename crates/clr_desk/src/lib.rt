@@ -14,6 +14,7 @@ mod opening;
 mod run;
 mod typed;
 mod typed_shelf;
+mod updating;
 
 pub use book::DeskBook;
 pub use commit::{Commit, Unkept};
