@@ -57,7 +57,7 @@ returns-in_ok-update-in-Accepted-clause-updated g c clean has =
     subst (HasTables (state g.S.Store c.update.new.self).now)
     (ap (λ (states : List PointState). tables_renewed after.network after.staff states (tables_of R)) c.deref.ensures.value
     ∙ tables_after R u after is.1 ∙ ap tables_of (is_updated R u is.0))
-    (c.in_ok-update.ensures.renewed clean (tables_of R) has)
+    (c.in_ok-update-in-Accepted.ensures.renewed clean (tables_of R) has)
 
 pub returns-in_ok-update-in-Accepted-clause-crash : goal.returns-in_ok-update-in-Accepted-clause-crash
 returns-in_ok-update-in-Accepted-clause-crash g c =
