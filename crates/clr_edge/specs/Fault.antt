@@ -23,6 +23,8 @@ use Rattle.clr_load.specs.declared.fault.StoreFault.{StoreFault}
 use Rattle.clr_load.specs.declared.fault.StoreFault.TheVariants as store
 use Rattle.clr_desk.specs.declared.desk_fault.DeskFault.{DeskFault}
 use Rattle.clr_desk.specs.declared.desk_fault.DeskFault.TheVariants as desk
+use Rattle.clr_update.specs.declared.obstacle.Obstacle.{Obstacle}
+use Rattle.clr_update.specs.declared.obstacle.Obstacle.TheVariants as in_way
 use Rattle.clr_edge.specs.declared.fault.ImportFile.{ImportFile}
 use Rattle.clr_edge.specs.declared.fault.ImportFile.TheVariants.{Sections, Points, Staff, Logins}
 use Rattle.clr_edge.specs.declared.fault.InputFault.{InputFault}
@@ -57,6 +59,7 @@ subject_of (fault.Input cause) = codes "input"
 subject_of (fault.Store cause) = codes "store"
 subject_of (fault.Journal cause) = codes "journal"
 subject_of (fault.Verify cause) = codes "verify"
+subject_of (fault.Update obstacle) = codes "update"
 subject_of fault.NoSuch = codes "clearance"
 subject_of fault.NoWay = codes "clearance"
 subject_of fault.Output = codes "output"
@@ -113,6 +116,21 @@ abbrev pub verify_fault_name : VerifyFault → List ℕ
 verify_fault_name (verify.Reply number) = codes "Reply"
 verify_fault_name (verify.Differs found) = codes "Differs"
 
+-- the clause by which an update is refused
+abbrev pub obstacle_name : Obstacle → List ℕ
+obstacle_name (in_way.NoJumper name) = codes "NoJumper"
+obstacle_name (in_way.JumperName name) = codes "JumperName"
+obstacle_name in_way.TooLarge = codes "TooLarge"
+obstacle_name (in_way.Section name c) = codes "Section"
+obstacle_name (in_way.Point name c) = codes "Point"
+obstacle_name (in_way.Step name c) = codes "Step"
+obstacle_name (in_way.Work name c) = codes "Work"
+obstacle_name (in_way.Holder name c) = codes "Holder"
+obstacle_name (in_way.Reader name c) = codes "Reader"
+obstacle_name (in_way.Requester name c) = codes "Requester"
+obstacle_name in_way.NoOperator = codes "NoOperator"
+obstacle_name in_way.NoField = codes "NoField"
+
 abbrev pub store_fault_name : StoreFault → List ℕ
 store_fault_name store.Sql = codes "Sql"
 store_fault_name (store.WrongVersion n) = codes "WrongVersion"
@@ -134,6 +152,7 @@ name_of (fault.Input cause) = input_fault_name cause
 name_of (fault.Store cause) = store_fault_name cause
 name_of (fault.Journal cause) = journal_fault_name cause
 name_of (fault.Verify cause) = verify_fault_name cause
+name_of (fault.Update obstacle) = obstacle_name obstacle
 name_of fault.NoSuch = codes "NoSuch"
 name_of fault.NoWay = codes "NoWay"
 name_of fault.Output = codes "WriteFailed"
@@ -178,6 +197,21 @@ abbrev pub verify_fault_detail : VerifyFault → Detail
 verify_fault_detail (verify.Reply number) = detail.Number number
 verify_fault_detail (verify.Differs found) = detail.Differs found
 
+-- the row that is in the way, and the clearance that needs it
+abbrev pub obstacle_detail : Obstacle → Detail
+obstacle_detail (in_way.NoJumper name) = detail.Named name
+obstacle_detail (in_way.JumperName name) = detail.Named name
+obstacle_detail in_way.TooLarge = detail.Nothing
+obstacle_detail (in_way.Section name c) = detail.NeededBy name c
+obstacle_detail (in_way.Point name c) = detail.NeededBy name c
+obstacle_detail (in_way.Step name c) = detail.NeededBy name c
+obstacle_detail (in_way.Work name c) = detail.NeededBy name c
+obstacle_detail (in_way.Holder name c) = detail.NeededBy name c
+obstacle_detail (in_way.Reader name c) = detail.NeededBy name c
+obstacle_detail (in_way.Requester name c) = detail.NeededBy name c
+obstacle_detail in_way.NoOperator = detail.Nothing
+obstacle_detail in_way.NoField = detail.Nothing
+
 -- where a fault is, or what it names
 abbrev pub detail_of : Fault → Detail
 detail_of (fault.File file cause) = file_fault_detail cause
@@ -188,6 +222,7 @@ detail_of (fault.Name cause) = name_fault_detail cause
 detail_of (fault.Store cause) = store_fault_detail cause
 detail_of (fault.Journal cause) = journal_fault_detail cause
 detail_of (fault.Verify cause) = verify_fault_detail cause
+detail_of (fault.Update obstacle) = obstacle_detail obstacle
 detail_of (fault.UnknownSection section) = detail.Named section
 detail_of (fault.UnknownPoint point) = detail.Named point
 detail_of cause = detail.Nothing
@@ -224,6 +259,7 @@ detail_text (detail.Named found) = codes " " ++ found
 detail_text (detail.Version n) = codes " " ++ signed_decimal n
 detail_text (detail.Table name) = codes " " ++ table_text name
 detail_text (detail.Number number) = codes " " ++ decimal number
+detail_text (detail.NeededBy name c) = (codes " " ++ name) ++ (codes " by" ++ (codes " " ++ id_text c))
 detail_text (detail.Differs found) = (codes " " ++ table_text (table_of found)) ++ key_text found
 
 abbrev pub fault_line : Fault → List ℕ

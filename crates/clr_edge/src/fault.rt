@@ -4,6 +4,7 @@ ghost use Rattle.clr_edge.specs.Fault.{file_fault_detail, file_fault_name, file_
 ghost use Rattle.clr_edge.specs.Fault.{input_fault_name, journal_fault_detail, journal_fault_name};
 ghost use Rattle.clr_edge.specs.Fault.{name_fault_detail, name_fault_name, verify_fault_detail};
 ghost use Rattle.clr_edge.specs.Fault.{network_fault_detail, network_fault_name};
+ghost use Rattle.clr_edge.specs.Fault.{obstacle_detail, obstacle_name};
 ghost use Rattle.clr_edge.specs.Fault.{staff_fault_detail, staff_fault_name, store_fault_detail};
 ghost use Rattle.clr_edge.specs.Fault.{store_fault_name, verify_fault_name};
 
@@ -11,9 +12,11 @@ use clr_csv::CsvFault;
 use clr_desk::DeskFault;
 use clr_load::StoreFault;
 use clr_net::{Name, NameFault, NetFault};
+use clr_rules::ClearanceId;
 use clr_staff::StaffFault;
 use clr_stream::ReadFault;
 use clr_tables::TableName;
+use clr_update::Obstacle;
 use clr_verify::Difference;
 use std::alloc::{AllocError, AllocFailed};
 
@@ -110,6 +113,8 @@ pub enum Fault {
     Journal(JournalFault),
     /// The database is not what the run of a journal leaves.
     Verify(VerifyFault),
+    /// It is in the way of an update of network and staff.
+    Update(Obstacle),
     /// An argument names no clearance, or none that has steps in the round that is named.
     NoSuch,
     /// The clearance cannot be given back before the staff has a field employee, since a step of it
@@ -257,6 +262,8 @@ pub enum Detail {
     Number(u64),
     /// The table and the key of the first row that differs.
     Differs(Difference),
+    /// A row, and the clearance that needs it as it is.
+    NeededBy(Name, ClearanceId),
 }
 
 impl Fault {
@@ -278,6 +285,7 @@ impl Fault {
             Fault::Store(_) => "store",
             Fault::Journal(_) => "journal",
             Fault::Verify(_) => "verify",
+            Fault::Update(_) => "update",
             Fault::NoSuch | Fault::NoWay => "clearance",
             Fault::Output => "output",
             Fault::Listen | Fault::Accept => "listen",
@@ -303,6 +311,7 @@ impl Fault {
             Fault::Store(fault) => store_fault_name(fault),
             Fault::Journal(fault) => journal_fault_name(fault),
             Fault::Verify(fault) => verify_fault_name(fault),
+            Fault::Update(obstacle) => obstacle_name(obstacle),
             Fault::NoSuch => "NoSuch",
             Fault::NoWay => "NoWay",
             Fault::Output => "WriteFailed",
@@ -328,6 +337,7 @@ impl Fault {
             Fault::Store(fault) => store_fault_detail(fault),
             Fault::Journal(fault) => journal_fault_detail(fault),
             Fault::Verify(fault) => verify_fault_detail(fault),
+            Fault::Update(obstacle) => obstacle_detail(obstacle),
             Fault::UnknownSection(name) | Fault::UnknownPoint(name) => Detail::Named(name),
         }
     }
@@ -388,6 +398,42 @@ fn verify_fault_detail(fault: VerifyFault) -> Detail
     match fault {
         VerifyFault::Reply(number) => Detail::Number(number),
         VerifyFault::Differs(found) => Detail::Differs(found),
+    }
+}
+
+fn obstacle_name(obstacle: Obstacle) -> &'static str
+    ensures text { result.now ≡ obstacle_name obstacle }
+    ensures short { length result.now ≤ 17 }
+{
+    match obstacle {
+        Obstacle::NoJumper(_) => "NoJumper",
+        Obstacle::JumperName(_) => "JumperName",
+        Obstacle::TooLarge => "TooLarge",
+        Obstacle::Section(..) => "Section",
+        Obstacle::Point(..) => "Point",
+        Obstacle::Step(..) => "Step",
+        Obstacle::Work(..) => "Work",
+        Obstacle::Holder(..) => "Holder",
+        Obstacle::Reader(..) => "Reader",
+        Obstacle::Requester(..) => "Requester",
+        Obstacle::NoOperator => "NoOperator",
+        Obstacle::NoField => "NoField",
+    }
+}
+
+fn obstacle_detail(obstacle: Obstacle) -> Detail
+    ensures { result ≡ obstacle_detail obstacle }
+{
+    match obstacle {
+        Obstacle::NoJumper(name) | Obstacle::JumperName(name) => Detail::Named(name),
+        Obstacle::Section(name, id)
+        | Obstacle::Point(name, id)
+        | Obstacle::Step(name, id)
+        | Obstacle::Work(name, id)
+        | Obstacle::Holder(name, id)
+        | Obstacle::Reader(name, id)
+        | Obstacle::Requester(name, id) => Detail::NeededBy(name, id),
+        Obstacle::TooLarge | Obstacle::NoOperator | Obstacle::NoField => Detail::Nothing,
     }
 }
 

@@ -59,6 +59,7 @@ fn push_detail(line: &mut Line, detail: Detail)
         }
         Detail::Number(number) => push_count(line, number),
         Detail::Differs(found) => push_difference(line, &found),
+        Detail::NeededBy(name, id) => push_needed(line, name, id),
     }
 }
 
@@ -125,6 +126,18 @@ fn push_hold(line: &mut Line, key: Hold)
     line.push_str(kind_word(key.kind));
     push_name(line, key.place);
     push_id(line, key.id);
+}
+
+/// Adds a row, and the clearance that needs it.
+fn push_needed(line: &mut Line, name: Name, id: ClearanceId)
+    requires { array_string_len line.old + 90 ≤ 144 }
+    ensures text { line.new.bytes ≡ line.old.bytes
+        ++ ((codes " " ++ name) ++ (codes " by" ++ (codes " " ++ id_text id))) }
+    ensures short { array_string_len line.new ≤ array_string_len line.old + 90 }
+{
+    push_name(line, name);
+    line.push_str(" by");
+    push_id(line, id);
 }
 
 /// The word of a kind of hold.
