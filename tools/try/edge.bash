@@ -42,7 +42,7 @@ printf '%s\n' '{"by":"JONES","clearance":"JONES/1","do":"show"}' '{' >"$work/ask
 with_input "$work/asks" leaves try 'a run that changes nothing' 0 '~"reply":"shown"' '' run --db "$edge/room.db"
 leaves try 'a register made over it' 1 '' "$no_store" init "${three[@]}" --db "$edge/room.db"
 leaves try 'a move of it' 0 "version 2$feed" '' migrate "$edge/room.db"
-leaves try 'a port that cannot be had' 2 '' '~65536' serve "$edge/room.db" --port 65536 --count 1
+leaves try 'a port that cannot be opened' 2 '' '~65536' serve "$edge/room.db" --port 65536 --count 1
 
 # unread COMMAND..: COMMAND, whose runs of the program have a directory for standard input.
 unread() {

@@ -5,7 +5,7 @@ export const NEWEST = "journal";
 const PARTS = "journals/", PART = /^journal-2[0-9TZ:-]+$/;
 
 // { bytes, from, size } of a range: its bytes, where they begin, and the size of the whole; `from` is null where there are no
-// more. { status } where the file is not to be had: 0 without an answer.
+// more. { status } where the file cannot be read: 0 without an answer.
 export async function bytesOf(file, range) {
   const answer = await fetch(file, { headers: { Range: `bytes=${range}` }, cache: "no-store" }).catch(() => null);
   if (answer?.status === 416) return { bytes: new Uint8Array(), from: null, size: Number(/\/(\d+)$/.exec(answer.headers.get("Content-Range") ?? "")?.[1] ?? 0) };
