@@ -2,7 +2,6 @@
 use Rattle.std.proofs.Common.{◌≡◌, Option, None, Some, Err, ok_or, refl}
 use Rattle.std.specs.Result.{result_ok}
 use Rattle.clr_rules.specs.Id.{Id}
-use Rattle.clr_edge.specs.declared.fault.Fault.{Fault}
 use Rattle.clr_edge.specs.declared.fault.Fault.TheVariants.{NoSuch}
 use Rattle.clr_commands.specs.Journal.{some_or_none}
 

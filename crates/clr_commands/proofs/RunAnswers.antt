@@ -1,10 +1,7 @@
 -- What a run over a register answers.
-use Rattle.std.proofs.Common.{◌≡◌, ◌∙◌, ◌⊎◌, ap, inl, inr, refl, subst, sym, ℕ, List, Option, Result, Ok, Err}
+use Rattle.std.proofs.Common.{◌≡◌, ◌∙◌, ap, inl, inr, refl, subst, sym, ℕ, List, Option, Result, Ok, Err}
 use Rattle.std.specs.Prelude.{Some, None, IfErr, IfSome, IsErrAnd, IsErrOf, option_map}
 use Rattle.clr_stream.specs.Failures.{Rose}
-use Rattle.clr_rules.specs.Good.{IsGood}
-use Rattle.clr_rules.specs.Staffed.{IsStaffed}
-use Rattle.clr_rules.specs.Register.{Register}
 use Rattle.clr_desk.specs.Taking.{Taking}
 use Rattle.clr_desk.specs.declared.desk.Desk.{Desk}
 use Rattle.clr_journaled.specs.declared.journaled.Journaled.{Journaled}
@@ -28,7 +25,7 @@ use Rattle.clr_commands.specs.Answers.{Answers, IsMemory}
 use Rattle.clr_commands.specs.Faults.{FailsAsSubcommand, IsOfSubcommand}
 use Rattle.clr_commands.specs.Import.{FileRows}
 use Rattle.clr_commands.specs.Replies.{PrintsAnswers, answers, asked_lines, readings_of}
-use Rattle.clr_commands.specs.Run.{IsOfInput, IsOpeningOf, IsRunOf, ReadsInput, RunsOnDesk, ended_by, printed_after, rows_fault}
+use Rattle.clr_commands.specs.Run.{IsOpeningOf, IsRunOf, ReadsInput, RunsOnDesk, ended_by, printed_after, rows_fault}
 use Rattle.clr_commands.specs.declared.replies.Printed.{Printed}
 use Rattle.clr_commands.proofs.Faults.{answers_plain, input_plain, line_plain}
 

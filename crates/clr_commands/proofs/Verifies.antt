@@ -1,5 +1,5 @@
 -- What comes of a journal that is run again over the opening register of rows.
-use Rattle.std.proofs.Common.{◌≡◌, ◌≢◌, ◌∙◌, ◌⊎◌, ap, refl, inl, inr, length, nat_lt, subst, sym, ℕ, Bool, true, false, List, Result, Ok, Err, if◌then◌else◌}
+use Rattle.std.proofs.Common.{◌≡◌, ◌≢◌, ◌∙◌, ◌⊎◌, ap, refl, inl, inr, length, nat_lt, subst, sym, ℕ, Bool, false, List, Result, Ok, Err, if◌then◌else◌}
 use Rattle.std.specs.Prelude.{IfSome, IsErrAnd, IsErrOf, None, Option, Some, Vec}
 use Rattle.std.specs.declared.alloc.Global.{Global}
 use Rattle.clr_edge.specs.declared.fault.Fault.{Fault}
@@ -11,7 +11,7 @@ use Rattle.clr_commands.specs.Files.{GivesBytes, lines_of, lines_or_fault}
 use Rattle.clr_journal.specs.Journals.{read_journal}
 use Rattle.clr_journal.specs.Line.{Entry}
 use Rattle.clr_journal.specs.declared.fault.JournalFault.{JournalFault}
-use Rattle.clr_journal.specs.declared.fault.JournalFault.TheVariants.{BadLine, NoMemory}
+use Rattle.clr_journal.specs.declared.fault.JournalFault.TheVariants.{BadLine}
 use Rattle.clr_verify.proofs.Flat.{exact}
 use Rattle.clr_rules.specs.Register.{Register}
 use Rattle.clr_tables.specs.Tables.{tables_of}

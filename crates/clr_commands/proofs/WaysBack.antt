@@ -1,5 +1,5 @@
 -- The way back of the clearance that a word names, as it is answered and as it comes to.
-use Rattle.std.proofs.Common.{◌≡◌, Option, Some, None, Ok, Err, List, ℕ, refl, subst}
+use Rattle.std.proofs.Common.{◌≡◌, Option, Some, None, Ok, Err, List, ℕ, subst}
 use Rattle.std.specs.Prelude.{Result, String}
 use Rattle.std.specs.declared.alloc.Global.{Global}
 use Rattle.clr_rules.specs.Id.{Id}

@@ -20,10 +20,8 @@ use Rattle.clr_logins.specs.declared.logins.LoginRow.{LoginRow}
 use Rattle.clr_args.specs.declared.asked.ServeArgs.{ServeArgs}
 use Rattle.clr_load.specs.declared.fault.StoreFault.{StoreFault}
 use Rattle.clr_load.specs.declared.fault.StoreFault.TheVariants as store
-use Rattle.clr_desk.specs.declared.desk_fault.DeskFault.{DeskFault}
-use Rattle.clr_desk.specs.declared.desk_fault.DeskFault.TheVariants as desk
 use Rattle.clr_edge.specs.Database.{IsOfLine}
-use Rattle.clr_edge.specs.Fault.{of_desk, of_store}
+use Rattle.clr_edge.specs.Fault.{of_store}
 use Rattle.clr_edge.specs.Journals.{IsOfRedo}
 use Rattle.clr_edge.specs.Keeping.{Keeping, Works, WorksIn, logged, plain}
 use Rattle.clr_edge.specs.TakenUp.{IsNotTakenUp, Logs}

@@ -1,4 +1,4 @@
-use Rattle.std.proofs.Common.{◌≡◌, ◌∙◌, ap, sym, option_map}
+use Rattle.std.proofs.Common.{◌∙◌, ap, sym, option_map}
 use Rattle.std.specs.Result.{result_ok}
 use Rattle.clr_rules.specs.IdText.{read_id}
 use Rattle.clr_commands.specs.Journal.{wanted_clearance}

@@ -1,6 +1,5 @@
 use Rattle.std.proofs.Common.{◌≡◌, ap, subst, sym}
 use Rattle.clr_book.specs.Book.{Shelved}
-use Rattle.clr_rules.specs.Good.{IsGood}
 use Rattle.clr_rules.specs.IdText.{read_id}
 use Rattle.clr_rules.specs.Register.{Register}
 use Rattle.clr_rules.specs.Staffed.{IsStaffed}
