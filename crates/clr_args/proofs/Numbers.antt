@@ -7,7 +7,7 @@ use lib.Dec.{T}
 use Rattle.clap.specs.ValueTests.{is_signed_in, is_unsigned_in}
 use Rattle.clap.specs.declared.builder.value_parser.ValueParser.TheVariants as vp
 use Rattle.clap.proofs.ValueTestLemmas.{Accepts-accepts, accepts-Accepts}
-use Rattle.clr_args.specs.ArgumentWords.{number_in, offset_in}
+use Rattle.clr_args.specs.ArgumentWords.{moment_in, number_in, offset_in}
 
 passed : (b : Bool) → T b → b ≡ true
 passed true t = refl
@@ -72,4 +72,30 @@ number_in-unread most word unread = by_test (is_unsigned_in 1 most word) refl
     by_test true test =
         let is = accepts-Accepts false (vp.Unsigned 1 most) word test in
         absurd (unread is.0 is.2 is.3)
+    by_test false test = refl
+
+-- a moment that was read of a word
+pub moment_in-read : (seconds : ℕ) (word : List ℕ) → IsNumeral 10 (without_leading_plus word)
+    → seconds ≡ digits_value 10 (without_leading_plus word) → seconds ≤ 4102444799 → seconds ≡ moment_in (Some word)
+moment_in-read seconds word numeral same high =
+    let test : is_unsigned_in 0 4102444799 word ≡ true =
+    Accepts-accepts false (vp.Unsigned 0 4102444799) word (
+      numeral,
+      let P : ℕ → Type 0 = λ n. n < 2 ^ 64 in subst P same (omega (arith, high)),
+      omega arith,
+      let P : ℕ → Type 0 = λ n. n ≤ 4102444799 in subst P same high,
+    ) in
+    rw test same
+
+-- a word of which none is read within the range
+pub moment_in-unread : (word : List ℕ)
+    → (IsNumeral 10 (without_leading_plus word) → digits_value 10 (without_leading_plus word) ≤ 4102444799 → ⊥)
+    → 0 ≡ moment_in (Some word)
+moment_in-unread word unread = by_test (is_unsigned_in 0 4102444799 word) refl
+  where
+    by_test : (b : Bool) → is_unsigned_in 0 4102444799 word ≡ b
+        → 0 ≡ (if b then digits_value 10 (without_leading_plus word) else 0)
+    by_test true test =
+        let is = accepts-Accepts false (vp.Unsigned 0 4102444799) word test in
+        absurd (unread is.0 is.3)
     by_test false test = refl

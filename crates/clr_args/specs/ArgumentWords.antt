@@ -29,6 +29,13 @@ number_in most None = 1
 number_in most (Some word) = if is_unsigned_in 1 most word
     then digits_value 10 (without_leading_plus word) else 1
 
+-- the moment that the word of `--before` says; 0 where it is not given, or says none from 0 to the
+-- last one
+abbrev pub moment_in : Option (List ℕ) → ℕ
+moment_in None = 0
+moment_in (Some word) = if is_unsigned_in 0 4102444799 word
+    then digits_value 10 (without_leading_plus word) else 0
+
 -- the seconds that the word of `--deadline` says, where it is given
 abbrev pub deadline_in : Option (List ℕ) → Option ℕ
 deadline_in = option_map (λ word. number_in 600 (Some word))

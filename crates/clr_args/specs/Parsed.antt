@@ -5,9 +5,10 @@ use Rattle.std.specs.Prelude.{codes, map, option_map, string_bytes}
 use Rattle.clap.specs.Words.{IsAmong, Kinds, Row, Text, fault_of, first_of, subcommand_of}
 use Rattle.clap.specs.declared.error.kind.ErrorKind.{ErrorKind}
 use Rattle.clap.specs.declared.error.kind.ErrorKind.TheVariants.{DisplayHelp, DisplayVersion}
-use Rattle.clr_args.specs.ArgumentWords.{deadline_in, flag_in, number_in, offset_in, word_in}
-use Rattle.clr_args.specs.ArgumentWords.{words_in}
+use Rattle.clr_args.specs.ArgumentWords.{deadline_in, flag_in, moment_in, number_in}
+use Rattle.clr_args.specs.ArgumentWords.{offset_in, word_in, words_in}
 use Rattle.clr_args.specs.Syntax.{gridclear}
+use Rattle.clr_args.specs.declared.asked.ArchiveArgs.{ArchiveArgs}
 use Rattle.clr_args.specs.declared.asked.Asked.{Asked}
 use Rattle.clr_args.specs.declared.asked.Asked.TheVariants as asked
 use Rattle.clr_args.specs.declared.asked.BoardArgs.{BoardArgs}
@@ -115,6 +116,10 @@ pub record AsksVerify (rows : List Row) (args : VerifyArgs) : Type 0 where
   pub journal : args.journal.now ≡ word_in rows (codes "JOURNAL")
   pub files : AsksFiles rows args.files
 
+pub record AsksArchive (rows : List Row) (args : ArchiveArgs) : Type 0 where
+  pub database : args.database.now ≡ word_in rows (codes "DB")
+  pub before : args.before ≡ moment_in (first_of (codes "before") rows)
+
 -- THE SUBCOMMAND of this name is asked for, on the words that its arguments were given
 abbrev pub Asks : Text → List Row → Asked → Type 0
 Asks name rows (asked.Fence args) = (name ≡ codes "fence") × AsksFence rows args
@@ -127,6 +132,7 @@ Asks name rows (asked.WayBack args) = (name ≡ codes "wayback") × AsksWayBack 
 Asks name rows (asked.Serve args) = (name ≡ codes "serve") × AsksServe rows args
 Asks name rows (asked.Journal args) = (name ≡ codes "journal") × AsksJournal rows args
 Asks name rows (asked.Verify args) = (name ≡ codes "verify") × AsksVerify rows args
+Asks name rows (asked.Archive args) = (name ≡ codes "archive") × AsksArchive rows args
 Asks name rows (asked.Migrate path) = (name ≡ codes "migrate")
     × (path.now ≡ word_in rows (codes "DB"))
 
@@ -142,6 +148,7 @@ pub record IsNoSubcommand (name : Text) : Type 0 where
   pub serve : name ≢ codes "serve"
   pub journal : name ≢ codes "journal"
   pub verify : name ≢ codes "verify"
+  pub archive : name ≢ codes "archive"
   pub migrate : name ≢ codes "migrate"
 
 -- ---- what words come to

@@ -30,6 +30,11 @@ abbrev pub offset_rule : Rule
 offset_rule = record (option_rule (codes "offset"))
     { parser = Some (Signed (neg_ℤ (pos 720)) (pos 840)) }
 
+-- `--before MOMENT`, from 0 to 4102444799, which has to be given
+abbrev pub before_rule : Rule
+before_rule = record (option_rule (codes "before"))
+    { required = true; parser = Some (Unsigned 0 4102444799) }
+
 -- an option with a number from 1 to a greatest one
 abbrev pub at_most_rule : List ℕ → ℕ → Rule
 at_most_rule id most = record (option_rule id) { parser = Some (Unsigned 1 most) }
@@ -112,6 +117,10 @@ verify =
     (with_rule (new_app (codes "verify")) (required_rule (codes "DB")))
     (required_rule (codes "JOURNAL")))) (required_rule (codes "STAFF"))
 
+-- `archive DB --before MOMENT`
+abbrev pub archive : App
+archive = with_rule (with_rule (new_app (codes "archive")) (required_rule (codes "DB"))) before_rule
+
 -- `migrate DB`
 abbrev pub migrate : App
 migrate = with_rule (new_app (codes "migrate")) (required_rule (codes "DB"))
@@ -129,5 +138,5 @@ abbrev pub gridclear : App
 gridclear =
     with_subcommand (with_subcommand (with_subcommand (with_subcommand (with_subcommand
     (with_subcommand (with_subcommand (with_subcommand (with_subcommand (with_subcommand
-    (with_subcommand top fence.top) check.top) init.top) run.top) order.top) board.top) wayback.top)
-    serve.top) journal.top) verify.top) migrate.top
+    (with_subcommand (with_subcommand top fence.top) check.top) init.top) run.top) order.top) board.top) wayback.top)
+    serve.top) journal.top) verify.top) archive.top) migrate.top

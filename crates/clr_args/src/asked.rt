@@ -1,5 +1,5 @@
 //! What a command line asks for: one variant a subcommand, with the values of its arguments.
-ghost use Rattle.std.specs.Prelude.{◌≤ℤ◌, neg_ℤ, pos};
+ghost use Rattle.std.specs.Prelude.{◌≤◌, ◌≤ℤ◌, neg_ℤ, pos};
 
 /// What a command line asks for.
 #[derive(Drop)]
@@ -24,6 +24,8 @@ pub enum Asked<'a> {
     Journal(JournalArgs<'a>),
     /// A register, compared with a run of its journal.
     Verify(VerifyArgs<'a>),
+    /// The steps of records that were closed before a moment, printed and then removed.
+    Archive(ArchiveArgs<'a>),
     /// The tables of the register at this path, brought to the version that is read.
     Migrate(&'a str),
 }
@@ -143,6 +145,16 @@ pub struct VerifyArgs<'a> {
     pub journal: &'a str,
     /// The files that it began with.
     pub files: Files<'a>,
+}
+
+/// What `archive` is asked for.
+#[derive(Clone, Copy)]
+pub struct ArchiveArgs<'a> {
+    /// The path of the database.
+    pub database: &'a str,
+    /// The moment, in seconds since 1970-01-01T00:00:00Z.
+    pub before: u64,
+    ghost last: { before ≤ 4102444799 },
 }
 
 /// Minutes east of Greenwich, where a clock is.

@@ -1,18 +1,19 @@
 //! What the words of a command line come to: what they ask for, help, or why they do not parse.
 ghost use Rattle.std.specs.Prelude.{◌≡◌, ◌≢◌, IfOk, MatchOption, codes, map};
 ghost use Rattle.clap.specs.Words.{first_of, found_of, kind_of, rows_of};
-ghost use Rattle.clr_args.specs.Parsed.{AsksBoard, AsksFence, AsksFiles, AsksInit, AsksJournal};
-ghost use Rattle.clr_args.specs.Parsed.{AsksOrder, AsksRun, AsksServe, AsksVerify, AsksWayBack};
+ghost use Rattle.clr_args.specs.Parsed.{AsksArchive, AsksBoard, AsksFence, AsksFiles, AsksInit};
+ghost use Rattle.clr_args.specs.Parsed.{AsksJournal, AsksOrder, AsksRun, AsksServe, AsksVerify};
+ghost use Rattle.clr_args.specs.Parsed.{AsksWayBack};
 ghost use Rattle.clr_args.specs.Parsed.{IsNoRun, IsNoServe, IsParsedAs, IsSaid, IsUnreadAs, Parses};
 ghost use Rattle.clr_args.specs.Parsed.{run_usage};
 
 use crate::asked::{
-    Asked, BoardArgs, FenceArgs, Files, InitArgs, JournalArgs, OrderArgs, RunArgs, ServeArgs,
-    StoredArgs, VerifyArgs, WayBackArgs,
+    ArchiveArgs, Asked, BoardArgs, FenceArgs, Files, InitArgs, JournalArgs, OrderArgs, RunArgs,
+    ServeArgs, StoredArgs, VerifyArgs, WayBackArgs,
 };
 use crate::syntax;
 use crate::words::{
-    count_of, deadline_of, flag_of, offset_of, option_of, port_of, word_of, words_of,
+    count_of, deadline_of, flag_of, moment_of, offset_of, option_of, port_of, word_of, words_of,
 };
 use clap::ArgMatches;
 use clap::error::ErrorKind;
@@ -99,6 +100,7 @@ fn asked<'a>(alloc: Global, name: &str, matches: &ArgMatches<'a>) -> Result<Pars
         },
         "journal" => Ok(Parsed::Asked(Asked::Journal(journal_args(matches)))),
         "verify" => Ok(Parsed::Asked(Asked::Verify(verify_args(matches)))),
+        "archive" => Ok(Parsed::Asked(Asked::Archive(archive_args(matches)))),
         "migrate" => Ok(Parsed::Asked(Asked::Migrate(word_of(matches, "DB")))),
         _ => {
             let text = format!(in alloc; "error: there is no subcommand {name}\n")?;
@@ -256,5 +258,15 @@ fn verify_args<'a>(matches: &ArgMatches<'a>) -> VerifyArgs<'a>
         database: word_of(matches, "DB"),
         journal: word_of(matches, "JOURNAL"),
         files: three_files(matches),
+    }
+}
+
+/// What `archive DB --before MOMENT` asks for.
+fn archive_args<'a>(matches: &ArgMatches<'a>) -> ArchiveArgs<'a>
+    ensures { AsksArchive (rows_of (found_of matches.now)) result }
+{
+    ArchiveArgs {
+        database: word_of(matches, "DB"),
+        before: moment_of(matches),
     }
 }

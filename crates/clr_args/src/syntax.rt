@@ -51,8 +51,10 @@ pub fn command<'a>(alloc: Global) -> Result<Command<'a>, AllocError>
     let with_journal = with_serve.subcommand(journal)?;
     let verify = subcommands::verify(alloc)?;
     let with_verify = with_journal.subcommand(verify)?;
+    let archive = subcommands::archive(alloc)?;
+    let with_archive = with_verify.subcommand(archive)?;
     let migrate = subcommands::migrate(alloc)?;
-    let command = with_verify.subcommand(migrate)?;
+    let command = with_archive.subcommand(migrate)?;
     Ok(command)
 }
 

@@ -1,8 +1,9 @@
 //! The words that a command line gave to its arguments.
-ghost use Rattle.std.specs.Prelude.{◌≡◌, ◌≤ℤ◌, IfOk, Some, codes, map, neg_ℤ, option_map, pos};
+ghost use Rattle.std.specs.Prelude.{◌≡◌, ◌≤◌, ◌≤ℤ◌, IfOk, Some, codes, map, neg_ℤ};
+ghost use Rattle.std.specs.Prelude.{option_map, pos};
 ghost use Rattle.clap.specs.Words.{first_of, found_of, rows_of};
-ghost use Rattle.clr_args.specs.ArgumentWords.{deadline_in, flag_in, number_in, offset_in};
-ghost use Rattle.clr_args.specs.ArgumentWords.{word_in, words_in};
+ghost use Rattle.clr_args.specs.ArgumentWords.{deadline_in, flag_in, moment_in, number_in};
+ghost use Rattle.clr_args.specs.ArgumentWords.{offset_in, word_in, words_in};
 
 use crate::asked::Offset;
 use clap::ArgMatches;
@@ -123,6 +124,30 @@ fn seconds_in(word: &str) -> u16
     match word.parse::<u16>() {
         Ok(seconds) if 1 <= seconds && seconds <= 600 => seconds,
         _ => 1,
+    }
+}
+
+/// The moment of `--before`, in seconds since 1970-01-01T00:00:00Z. clap lets no words pass without
+/// one, nor any other than from 0 to 4102444799.
+pub fn moment_of(matches: &ArgMatches<'_>) -> u64
+    ensures range { result ≤ 4102444799 }
+    ensures value { result
+        ≡ moment_in (first_of (codes "before") (rows_of (found_of matches.now))) }
+{
+    match option_of(matches, "before") {
+        Some(word) => moment_said(word),
+        None => 0,
+    }
+}
+
+/// The moment that a word says, where it is within clap's range; otherwise 0.
+fn moment_said(word: &str) -> u64
+    ensures range { result ≤ 4102444799 }
+    ensures value { result ≡ moment_in (Some word.now) }
+{
+    match word.parse::<u64>() {
+        Ok(seconds) if seconds <= 4_102_444_799 => seconds,
+        _ => 0,
     }
 }
 

@@ -1,8 +1,9 @@
 //! The kinds of argument that the subcommands share.
 ghost use Rattle.std.specs.Prelude.{◌≡◌, codes, false};
 ghost use Rattle.clap.specs.Words.{rule_of};
-ghost use Rattle.clr_args.specs.Syntax.{at_most_rule, flag_rule, number_rule, offset_rule};
-ghost use Rattle.clr_args.specs.Syntax.{option_rule, optional_rule, repeated_rule, required_rule};
+ghost use Rattle.clr_args.specs.Syntax.{at_most_rule, before_rule, flag_rule, number_rule};
+ghost use Rattle.clr_args.specs.Syntax.{offset_rule, option_rule, optional_rule, repeated_rule};
+ghost use Rattle.clr_args.specs.Syntax.{required_rule};
 
 use clap::builder::ValueParser;
 use clap::{Arg, ArgAction};
@@ -81,4 +82,19 @@ pub fn offset<'a>(alloc: Global) -> Arg<'a>
         "Minutes east of Greenwich, where the clock stands",
     )
     .value_parser(ValueParser::signed(-720, 840))
+}
+
+/// `--before MOMENT`, from 0 to 4102444799, which has to be given.
+pub fn moment_before<'a>(alloc: Global) -> Arg<'a>
+    ensures rule { rule_of result ≡ before_rule }
+    ensures local { result.global ≡ false }
+{
+    option(
+        alloc,
+        "before",
+        "MOMENT",
+        "The moment, in seconds since 1970-01-01T00:00:00Z, at most 4102444799",
+    )
+    .required(true)
+    .value_parser(ValueParser::unsigned(0, 4_102_444_799))
 }

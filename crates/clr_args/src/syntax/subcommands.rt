@@ -1,10 +1,12 @@
 //! The words of each subcommand.
 ghost use Rattle.std.specs.Prelude.{◌≡◌, IfOk};
 ghost use Rattle.clap.specs.Words.{app_of};
-ghost use Rattle.clr_args.specs.Syntax.{board, check, fence, init, journal, migrate, order};
-ghost use Rattle.clr_args.specs.Syntax.{plain_serve, run, serve, verify, wayback};
+ghost use Rattle.clr_args.specs.Syntax.{archive, board, check, fence, init, journal, migrate};
+ghost use Rattle.clr_args.specs.Syntax.{order, plain_serve, run, serve, verify, wayback};
 
-use super::arguments::{at_most, flag, number, offset, option, optional, repeated, required};
+use super::arguments::{
+    at_most, flag, moment_before, number, offset, option, optional, repeated, required,
+};
 use clap::Command;
 use std::alloc::{AllocError, Global};
 
@@ -184,6 +186,17 @@ pub fn verify<'a>(alloc: Global) -> Result<Command<'a>, AllocError>
         .arg(required(alloc, "SECTIONS", "The file of sections"))?
         .arg(required(alloc, "POINTS", "The file of switching points"))?
         .arg(required(alloc, "STAFF", "The file of the staff"))?;
+    Ok(command)
+}
+
+/// `archive DB --before MOMENT`
+pub fn archive<'a>(alloc: Global) -> Result<Command<'a>, AllocError>
+    ensures { IfOk result (λ c. app_of c ≡ archive) }
+{
+    let command = Command::new(alloc, "archive")
+        .about("Prints the steps of records that were closed before a moment, then removes them")
+        .arg(required(alloc, "DB", "The database of the register"))?
+        .arg(moment_before(alloc))?;
     Ok(command)
 }
 
