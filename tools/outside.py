@@ -123,6 +123,13 @@ class Bench:
         return done
 
 
+def to_archive(bench, shift):
+    """The words of an archive of all that is closed, and a folder with the register after the whole shift."""
+    folder = bench.new(shift.opening)
+    bench.run(folder, ["run", "--db", "room.db"], shift.lines)
+    return ["archive", "room.db", "--before", "4102444799"], folder
+
+
 def whole_lines(folder):
     """The lines of the journal in a folder that a line feed ends; none where there is no journal."""
     path = os.path.join(folder, "journal")
