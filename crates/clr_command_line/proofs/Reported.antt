@@ -19,6 +19,7 @@ use Rattle.clr_edge.specs.declared.fault.Fault.TheVariants.{Memory, Output}
 use Rattle.clr_commands.specs.Connections.{ReportsFirst}
 use Rattle.clr_commands.specs.Faults.{FailsAsSubcommand, IsOfSubcommand}
 use Rattle.clr_commands.specs.declared.replies.Printed.{Printed}
+use Rattle.clr_commands.proofs.Archived.{HasWritten, archive_written}
 use Rattle.clr_commands.proofs.Written.{Writes, serve_written}
 use Rattle.clr_stream.specs.Streams.{Stream}
 use Rattle.clr_command_line.specs.Around.{Around, Steps}
@@ -99,6 +100,22 @@ reported_served port count (Err fault) status output output' errors middle error
   unread = λ two. absurd (omega (arith, one, two));
 }
 
+-- an archive
+reported_archive : (archived : Done) (status : ℕ) (output output' errors errors' : Stream) → HasWritten output output' archived
+    → ReportsServed archived status errors errors' → IsReported status output output' errors errors'
+reported_archive (Ok value) status output output' errors errors' (text, went) (zero, same) = record {
+  statuses = omega (arith, zero);
+  answered = λ _. (went.1, inl same);
+  faulted = λ one. absurd (omega (arith, zero, one));
+  unread = λ two. absurd (omega (arith, zero, two));
+}
+reported_archive (Err fault) status output output' errors errors' wrote (one, line) = record {
+  statuses = omega (arith, one);
+  answered = λ zero. absurd (omega (arith, zero, one));
+  faulted = λ _. (fault, errors, line, inl (refl, wrote));
+  unread = λ two. absurd (omega (arith, one, two));
+}
+
 unread : (status : ℕ) (output output' errors errors' : Stream) → status ≡ 2 → output' ≡ output → IsReported status output output' errors errors'
 unread status output output' errors errors' two same = record {
   statuses = omega (arith, two);
@@ -148,6 +165,9 @@ module _ {M D L R W I J C : Type 0} (by : Steps M D L R W J C) (around : Around 
       before.machine after.machine serves) reports
   carried_out (asked.Journal args) status before after (answer, does, own, untouched, reports) = reported answer status _ _ _ _ own reports
   carried_out (asked.Verify args) status before after (answer, does, own, untouched, reports) = reported answer status _ _ _ _ own reports
+  carried_out (asked.Archive args) status before after (archived, untouched, archives, reports) =
+      reported_archive archived status _ _ _ _
+      (archive_written before.output after.output medium opens shuts ends args archived before.machine after.machine archives) reports
   carried_out (asked.Migrate path) status before after (answer, does, own, untouched, reports) = reported answer status _ _ _ _ own reports
 
   pub does : (what : Parsed) (status : ℕ) (before after : Moment M I)

@@ -16,6 +16,7 @@ use Rattle.clr_edge.specs.Visit.{Alone, Comes, Done, MakesRegister, MovesRegiste
 use Rattle.clr_edge.specs.declared.fault.Fault.{Fault}
 use Rattle.clr_edge.specs.declared.fault.Fault.TheVariants.{Journal, Memory}
 use Rattle.clr_edge.specs.declared.fault.JournalFault.TheVariants.{OpenFailed, ReadFailed}
+use Rattle.clr_commands.specs.Archive.{ArchivesAt}
 use Rattle.clr_commands.specs.Check.{ChecksAt}
 use Rattle.clr_commands.specs.Faults.{FailsAsSubcommand, IsOfSubcommand}
 use Rattle.clr_commands.specs.Fence.{FencesAt}
@@ -79,7 +80,8 @@ module _ {M D L R W I J C : Type 0} (by : Steps M D L R W J C) (around : Around 
       × ReportsRun answer status before.output after.output before.errors after.errors
 
   -- WHAT IS ASKED FOR IS CARRIED OUT, and reported: each subcommand makes its own visit of a
-  -- database, and one that names none leaves the machine as it was. A server writes as it goes.
+  -- database, and one that names none leaves the machine as it was. A server and an archive write
+  -- as they go.
   abbrev pub CarriesOut : Asked → ℕ → Moment M I → Moment M I → Type 0
   CarriesOut (asked.Fence args) status before after = ComesTo
       (λ answer old new. FencesAt files args answer × (new ≡ old)) status before after
@@ -107,6 +109,11 @@ module _ {M D L R W I J C : Type 0} (by : Steps M D L R W J C) (around : Around 
   CarriesOut (asked.Verify args) status before after = ComesTo
       (VerifiesAt files args (λ run. Comes medium opens shuts ends args.database.now (Verifies run)))
       status before after
+  CarriesOut (asked.Archive args) status before after =
+      (archived : Done) × (after.input ≡ before.input)
+      × ArchivesAt medium opens shuts ends args before.output after.output archived before.machine
+      after.machine
+      × ReportsServed archived status before.errors after.errors
   CarriesOut (asked.Migrate path) status before after = ComesTo
       (Migrates (Comes medium opens shuts ends path.now (Alone (MovesRegister over_files))))
       status before after

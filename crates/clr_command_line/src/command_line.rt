@@ -14,6 +14,7 @@ use crate::own_files::expect_others;
 use crate::report::{report, report_fault, report_run, report_served, report_text};
 use clr_args::asked::Asked;
 use clr_args::parsing::{Parsed, parse};
+use clr_commands::archive::archive;
 use clr_commands::board::board;
 use clr_commands::check::check;
 use clr_commands::fence::fence;
@@ -189,6 +190,7 @@ where
         }
         Asked::Journal(args) => report(journal(alloc, paths, args), output, errors),
         Asked::Verify(args) => report(verify(alloc, rt, paths, args), output, errors),
+        Asked::Archive(args) => report_served(archive(alloc, rt, args, output), errors),
         Asked::Migrate(path) => report(migrate(alloc, rt, *path), output, errors),
     }
 }

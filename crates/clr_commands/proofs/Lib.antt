@@ -1,4 +1,7 @@
 pub mod AnsweredLines
+pub mod ArchiveLines
+pub mod Archived
+pub mod Taken
 pub mod Connections
 pub mod ConnectionRuns
 pub mod Databases

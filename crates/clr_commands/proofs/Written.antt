@@ -65,11 +65,11 @@ unfolding ReportsFirst
 one_more_reported n errors reported errors' first next = (reported, first, next)
 
 -- which faults are not of the output
-line_other : (fault : Fault) → IsOfLine fault → fault ≢ Output
+pub line_other : (fault : Fault) → IsOfLine fault → fault ≢ Output
 line_other fault (inl memory) e = cc (sym memory ∙ e)
 line_other fault (inr refused) e = cc (sym refused ∙ e)
 
-store_other : (cause : StoreFault) → of_store cause ≢ Output
+pub store_other : (cause : StoreFault) → of_store cause ≢ Output
 store_other store.NoMemory e = cc e
 store_other _ e = cc e
 
@@ -77,7 +77,7 @@ listen_other : (kind : ErrorKind) → listen_fault kind ≢ Output
 listen_other OutOfMemory e = cc e
 listen_other _ e = cc e
 
-other_as : (fault found : Fault) → fault ≡ found → found ≢ Output → fault ≢ Output
+pub other_as : (fault found : Fault) → fault ≡ found → found ≢ Output → fault ≢ Output
 other_as fault found is other e = other (sym is ∙ e)
 
 redo_other : (fault : Fault) → IsOfRedo fault → fault ≢ Output

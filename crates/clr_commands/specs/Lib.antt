@@ -1,4 +1,6 @@
 pub mod Answers
+pub mod Archive
+pub mod ArchiveText
 pub mod Check
 pub mod ConnectionLaws
 pub mod Connections

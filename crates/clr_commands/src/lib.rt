@@ -1,6 +1,8 @@
 //! What each subcommand results in, over files, databases and input.
 #![tactic(auto)]
 
+pub mod archive;
+pub mod archive_text;
 pub mod board;
 pub mod check;
 pub mod fence;

@@ -34,6 +34,9 @@ returns-in-Verify g c = rw c.in-Verify.is (c.verify.result, c.verify.ensures.vis
 pub returns-in-Migrate : goal.returns-in-Migrate
 returns-in-Migrate g c = rw c.in-Migrate.is (c.migrate.result, c.migrate.ensures.visit, c.migrate.ensures.faults, refl, c.report-in-Migrate.ensures)
 
+pub returns-in-Archive : goal.returns-in-Archive
+returns-in-Archive g c = rw c.in-Archive.is (c.archive.result, refl, c.archive.ensures.visit, c.report_served-in-Archive.ensures)
+
 pub returns-in-Journal : goal.returns-in-Journal
 returns-in-Journal g c = rw c.in-Journal.is (
   c.journal.result,
