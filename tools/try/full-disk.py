@@ -138,7 +138,7 @@ def in_namespace():
     apart = ["unshare", "-Urm"]
     tried = shutil.which("unshare") and subprocess.run([*apart, "true"], capture_output=True, check=False)
     if not tried or tried.returncode:
-        print("left out: a disk that is full: a namespace of its own is not to be had\nall looks were made")
+        print("left out: a disk that is full: a namespace of its own is not to be made\nall looks were made")
         return
     words = [*apart, sys.executable, "-B", __file__]
     sys.exit(subprocess.run(words, env={**os.environ, "IN_NAMESPACE": "1"}, check=False).returncode)
