@@ -116,6 +116,7 @@ no_reader-from_rows (Input cause) sections points work cut told =
 no_reader-from_rows (found.Store cause) sections points work cut told = refl
 no_reader-from_rows (found.Journal cause) sections points work cut told = refl
 no_reader-from_rows (found.Verify cause) sections points work cut told = refl
+no_reader-from_rows (found.Update obstacle) sections points work cut told = refl
 no_reader-from_rows found.NoSuch sections points work cut told = refl
 no_reader-from_rows found.NoWay sections points work cut told = refl
 no_reader-from_rows found.Output sections points work cut told = refl
