@@ -1,6 +1,7 @@
 -- What `migrate`, `run` and `init` answer of a machine of which this much is known.
 use Rattle.std.proofs.Common.{◌≡◌, ◌∙◌, ℕ, ap, inl, inr, refl, subst, sym, List, Option, Some, Result, Ok, Err}
 use Rattle.std.specs.Borrow.{Bor}
+use Rattle.std.specs.Fmt.{digits}
 use Rattle.std.specs.Prelude.{◌⊎◌, IfErr, IfOk, IfSome, IsErrAnd, None, OnOk, String, string_bytes}
 use Rattle.std.specs.declared.alloc.Global.{Global}
 use Rattle.sqlite.specs.Files.{over_files}
@@ -15,6 +16,8 @@ use Rattle.clr_rules.specs.Register.{Register, opening}
 use Rattle.clr_examples.specs.Worked.{worked_net, worked_opening}
 use Rattle.clr_desk.specs.Faults.{FailsAsStore}
 use Rattle.clr_load.specs.Stored.{HasTables}
+use Rattle.clr_load.specs.declared.fault.StoreFault.{StoreFault}
+use Rattle.clr_load.specs.declared.fault.StoreFault.TheVariants as store
 use Rattle.clr_tables.specs.Tables.{tables_of}
 use Rattle.clr_edge.proofs.Databases.{line_of_error}
 use Rattle.clr_csv.specs.declared.fault.CsvFault.{CsvFault}
@@ -22,7 +25,9 @@ use Rattle.clr_result.specs.Results.{◌>>=◌}
 use Rattle.clr_edge.specs.Answers.{After}
 use Rattle.clr_edge.specs.Files.{told_of}
 use Rattle.clr_edge.specs.declared.fault.ImportFile.TheVariants.{Points, Sections, Staff}
-use Rattle.clr_edge.specs.Database.{HasRegister, IsMade, IsOfLine}
+use Rattle.clr_edge.specs.Database.{HasRegister, IsMade, IsOfLine, IsOfStore}
+use Rattle.clr_edge.specs.Fault.{of_store}
+use Rattle.clr_edge.specs.Journals.{IsOfRedo}
 use Rattle.clr_edge.specs.Keeping.{IsNotRead, Works, logged, logged_keeper, plain, plain_keeper}
 use Rattle.clr_edge.specs.TakenUp.{IsNotTakenUp, Logs}
 use Rattle.clr_journal.specs.Line.{Entry}
@@ -31,13 +36,15 @@ use Rattle.clr_journaled.specs.Redo.{IsRead, redone_by}
 use Rattle.clr_journaled.specs.declared.journaled.Journaled.{Journaled}
 use Rattle.clr_edge.specs.Visit.{Alone, Comes, Done, Ending, IsLeft, MakesRegister, MovesRegister, Opening, Over, Shutting, Visits, both}
 use Rattle.clr_edge.specs.declared.fault.Fault.{Fault}
-use Rattle.clr_edge.specs.declared.fault.Fault.TheVariants.{Memory}
+use Rattle.clr_edge.specs.declared.fault.Fault.TheVariants.{Journal, Memory}
+use Rattle.clr_edge.specs.declared.fault.JournalFault.TheVariants.{OpenFailed}
+use Rattle.clr_edge.specs.declared.journals.Journals as journals
 use Rattle.clr_commands.specs.Answers.{Gives}
 use Rattle.clr_commands.specs.Import.{AreRead, Contents, FileRows, IsUnreadFile, rows_of}
 use Rattle.clr_commands.specs.Init.{Stores, counts_of}
 use Rattle.clr_commands.specs.Migrate.{Migrates, PrintsMoved}
 use Rattle.clr_commands.specs.Replies.{AnswersInput}
-use Rattle.clr_commands.specs.Run.{IsOpeningOf, RunsAlone, RunsOver, printed_after, rows_fault}
+use Rattle.clr_commands.specs.Run.{IsOfInput, IsOpeningOf, RunsAlone, RunsOver, printed_after}
 use Rattle.clr_commands.specs.declared.replies.Printed.{Printed}
 use Rattle.clr_known.specs.Known.{IsAlwaysClean, IsLoggedRunOfJones, IsRunOfJones, IsVersionTwo, KnowsJones, StoresWorked}
 use Rattle.clr_known.specs.Known.{jones_register, point_file, section_file, staff_file, worked_counts}
@@ -60,17 +67,13 @@ rows_with s p e = do
 pub rows_read : rows_of worked_files ≡ Ok worked_rows
 rows_read = λ i. rows_with (sections_read i) (points_read i) (staff_read i)
 
+pub counts_known : counts_of worked_rows ≡ Ok worked_counts
+unfolding digits
+counts_known = refl
+
 -- the line of counts, where the rows are a network and a staff
-counts_given : (told : Result (Unit {0}) Fault) (text : List ℕ) → rows_fault worked_rows ≡ told → counts_of worked_rows ≡ Ok text
-    → text ≡ worked_counts
-counts_given (Ok value) text is counts =
-    let given : Ok worked_counts ≡ Ok text =
-    ap (λ (t : Result (Unit {0}) Fault). t >>= (λ _. Ok worked_counts)) (sym is) ∙ counts in
-    sym (cc given)
-counts_given (Err fault) text is counts =
-    let given : Err fault ≡ Ok text =
-    ap (λ (t : Result (Unit {0}) Fault). t >>= (λ _. Ok worked_counts)) (sym is) ∙ counts in
-    absurd (cc given)
+counts_given : (text : List ℕ) → counts_of worked_rows ≡ Ok text → text ≡ worked_counts
+counts_given text counts = cc (sym counts ∙ counts_known)
 
 pub opening_given : (R : Register) → IsOpeningOf worked_rows R → R ≡ worked_opening
 opening_given R is =
@@ -105,6 +108,30 @@ still_logged : (input : List ℕ) (printed : Result Printed Fault) (closed : Don
     → IsLoggedRunOfJones input (printed_after printed closed)
 still_logged input (Ok printed) closed runs = runs
 still_logged input (Err fault) closed runs = runs
+
+-- ---- why a register is not taken up with its journal
+store_told : (cause : StoreFault) → IsOfStore (of_store cause)
+store_told store.Sql = inr (store.Sql, refl)
+store_told (store.WrongVersion n) = inr (store.WrongVersion n, refl)
+store_told (store.BadRow name) = inr (store.BadRow name, refl)
+store_told store.OtherTables = inr (store.OtherTables, refl)
+store_told store.NoMemory = inl refl
+
+line_of_store : (fault : Fault) → IsOfLine fault → IsOfStore fault
+line_of_store fault (inl memory) = inl memory
+line_of_store fault (inr refused) = inr (store.Sql, refused)
+
+redo_refused : (input : List ℕ) (fault : Fault) → IsOfRedo fault → IsOfStore fault ⊎ (fault ≡ Journal OpenFailed) ⊎ IsOfInput (Some input) fault
+redo_refused input fault (inl line) = inl (line_of_store fault line)
+redo_refused input fault (inr shut) = inr (inl shut)
+
+not_taken_up : {M J C D : Type 0} {g : disk.Ghosts D} (at : journals.Ghosts M J C) (path input : List ℕ) (old new : M) (before after : Over g) (fault : Fault)
+    → IsNotTakenUp over_files at path before fault after old new → IsOfStore fault ⊎ (fault ≡ Journal OpenFailed) ⊎ IsOfInput (Some input) fault
+not_taken_up at path input old new before after fault (inl (refused, survives, same)) =
+    inl (subst (λ (f : Fault). IsOfStore f) (sym refused.told_is) (store_told refused.fault))
+not_taken_up at path input old new before after fault (inr (inl (inl memory, read, shut))) = inl (inl memory)
+not_taken_up at path input old new before after fault (inr (inl (inr failed, read, shut))) = inr (inl failed)
+not_taken_up at path input old new before after fault (inr (inr it)) = redo_refused input fault it.of
 
 -- what is read of files that are the worked ones
 pub known_read : (s p e : Option (List ℕ)) → s ≡ Some section_file → p ≡ Some point_file → e ≡ Some staff_file
@@ -183,7 +210,9 @@ module _ {D : Type 0} (g : disk.Ghosts D) (clean : IsAlwaysClean g) where
           → (IsErrAnd printed (λ fault. IsNotTakenUp over_files logs.steps journal before fault after old new) × Unit {0})
           ⊎ Works (logged over_files logs journal) (RunsAlone (Some input) (Journaled (Over g) J C) (logged_keeper over_files logs) printed) old new before after
           → IsLoggedRunOfJones input printed
-      logged_ran journal input (Err fault) old new before after has ran = tt
+      logged_ran journal input (Err fault) old new before after has (inl refused) =
+          not_taken_up logs.steps journal input old new before after fault refused.0
+      logged_ran journal input (Err fault) old new before after has (inr it) = inr (inr it.did.1.answer)
       logged_ran journal input (Ok printed) old new before after has (inl refused) = absurd refused.0
       logged_ran journal input (Ok printed) old new before after has (inr it) =
           let (bytes, is_input, answers, put) = it.did.1.answer in
@@ -205,7 +234,7 @@ module _ {D : Type 0} (g : disk.Ghosts D) (clean : IsAlwaysClean g) where
           → IfSome input (λ bytes. IsLoggedRunOfJones bytes result)
       logged_given knows path journal None result old new comes = tt
       logged_given knows path journal (Some bytes) result old new (inl (fault, is, of_line, shut)) =
-          subst (λ (r : Result Printed Fault). IsLoggedRunOfJones bytes r) (sym is) tt
+          subst (λ (r : Result Printed Fault). IsLoggedRunOfJones bytes r) (sym is) (inl (line_of_store fault of_line))
       logged_given knows path journal (Some bytes) result old new (inr visit) =
           let runs = visit.does in
           subst (λ (r : Result Printed Fault). IsLoggedRunOfJones bytes r) (sym runs.result_is)
@@ -235,7 +264,7 @@ module _ {D : Type 0} (g : disk.Ghosts D) (clean : IsAlwaysClean g) where
     rows_stored path rows (Err fault) old new is stores = tt
     rows_stored path rows (Ok text) old new is (inl (refuses, same)) = absurd refuses
     rows_stored path rows (Ok text) old new is (inr (R, opening_of, stored, (ok, counts), comes)) = (
-      counts_given (rows_fault worked_rows) (string_bytes text) refl (subst (λ (r : FileRows). counts_of r ≡ Ok (string_bytes text)) (sym is) counts),
+      counts_given (string_bytes text) (subst (λ (r : FileRows). counts_of r ≡ Ok (string_bytes text)) (sym is) counts),
       stored_given path R stored old new (opening_given R (subst (λ (r : FileRows). IsOpeningOf r R) (sym is) opening_of)) ok comes,
     )
 

@@ -4,6 +4,7 @@ pub mod JonesRegister
 pub mod BoardServed
 pub mod KnownVisits
 pub mod KnownAnswers
+pub mod FilesAlone
 pub mod JonesJournal
 pub mod Verified
 pub mod OldTables

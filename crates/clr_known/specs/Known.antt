@@ -2,7 +2,7 @@
 -- what it answers.
 use Rattle.std.specs.Prelude.{ℕ, ◌==◌, Bool, codes, find, List, [], ◌∷◌, Option, option_map}
 use Rattle.std.specs.Prelude.{◌≡◌, ◌⊎◌, None, Some, IfOk, IfSome, Result, Ok, Err, String, false, pos}
-use Rattle.std.specs.Prelude.{string_bytes, ⊤}
+use Rattle.std.specs.Prelude.{string_bytes}
 use Rattle.std.specs.declared.alloc.Global.{Global}
 use Rattle.std.specs.declared.io.ErrorKind.{ErrorKind}
 use Rattle.std.specs.Borrow.{Bor}
@@ -28,9 +28,11 @@ use Rattle.clr_http.specs.Answered.{Source}
 use Rattle.clr_http.specs.Options.{plain}
 use Rattle.clr_http.specs.Response.{json, printed, response_bytes}
 use Rattle.clr_args.specs.declared.asked.ServeArgs.{ServeArgs}
-use Rattle.clr_edge.specs.Database.{HasRegister, IsOfLine}
+use Rattle.clr_edge.specs.Database.{HasRegister, IsOfLine, IsOfStore}
 use Rattle.clr_edge.specs.Visit.{Done, Ending, Opening, Over, Visits}
 use Rattle.clr_edge.specs.declared.fault.Fault.{Fault}
+use Rattle.clr_edge.specs.declared.fault.Fault.TheVariants.{Journal}
+use Rattle.clr_edge.specs.declared.fault.JournalFault.TheVariants.{OpenFailed}
 use Rattle.clr_edge.specs.declared.journals.Journals as journals
 use Rattle.clr_edge.specs.declared.loopback.Connection.{Connection}
 use Rattle.clr_edge.specs.declared.loopback.Loopback as loopback
@@ -38,7 +40,6 @@ use Rattle.clr_commands.specs.Answers.{GivesText}
 use Rattle.clr_commands.specs.Connections.{Seen}
 use Rattle.clr_commands.specs.Files.{IsUnread}
 use Rattle.clr_commands.specs.Import.{IsUnreadFile}
-use Rattle.clr_commands.specs.Init.{counts_line}
 use Rattle.clr_commands.specs.Logins.{terms_with}
 use Rattle.clr_commands.specs.Migrate.{version_line}
 use Rattle.clr_commands.specs.Order.{order_told}
@@ -163,16 +164,17 @@ IsRunOfJones input (Ok given) = (left : Register) × (told : List Reply) × (who
     × (given.text ≡ whole.text)
 IsRunOfJones input (Err fault) = IsOfLine fault ⊎ IsOfInput (Some input) fault
 
--- the same of a run with a journal that is new. Of a fault in its place nothing is said
+-- the same of a run with a journal that is new, which may not open
 abbrev pub IsLoggedRunOfJones : List ℕ → Result Printed Fault → Type 0
 IsLoggedRunOfJones input (Ok given) = (left : Register) × (told : List Reply) × (whole : Printed)
     × AnswersInput (FailsToo FailsAsStore) jones_register left input told whole
     × (given.text ≡ whole.text)
-IsLoggedRunOfJones input (Err fault) = ⊤
+IsLoggedRunOfJones input (Err fault) =
+    IsOfStore fault ⊎ (fault ≡ Journal OpenFailed) ⊎ IsOfInput (Some input) fault
 
 -- the line of counts of the worked files
 abbrev pub worked_counts : List ℕ
-worked_counts = counts_line 5 5 6
+worked_counts = codes "sections 5 points 5 staff 6\n"
 
 -- that line, once a database was made at a path that has the tables of the worked network before any
 -- command

@@ -1,4 +1,5 @@
 pub mod Clean
+pub mod FilesAlone
 pub mod JonesJournal
 pub mod Known
 pub mod OldTables

@@ -8,6 +8,7 @@ mod answers;
 mod databases;
 mod exchange;
 mod files;
+mod files_alone;
 mod journals;
 mod machine;
 mod old_tables;
@@ -15,6 +16,7 @@ mod version_one;
 mod visits;
 
 pub use answers::{Answers, known_answers, known_logged_run};
+pub use files_alone::{OfFiles, known_of_files};
 pub use machine::Known;
 pub use version_one::{OldKnown, known_move};
 pub use visits::known_service;

@@ -2,7 +2,8 @@
 use clr_commands::replies::Printed;
 use clr_edge::fault::Fault;
 use clr_known::{
-    Answers, Known, OldKnown, known_answers, known_logged_run, known_move, known_service,
+    Answers, Known, OldKnown, known_answers, known_logged_run, known_move, known_of_files,
+    known_service,
 };
 use clr_stream::Counted;
 use std::alloc::Global;
@@ -68,6 +69,19 @@ const COMMANDS: &str = r#"{"at":100,"by":"JONES","do":"request","section":"L2"}
 {"at":104,"by":"REED","clearance":"JONES/1","do":"report","done":true,"step":1}
 "#;
 
+/// What a control room would regret of the worked files.
+const REGRETS: &str = "employee BOSS may hold a clearance and has no supervisor
+employee KIM may hold a clearance and has no supervisor
+point T1 can be locked by nothing
+sections G and H differ by one letter
+points S1 and T1 differ by one letter
+";
+
+/// The reply to the request of JONES for L2.
+const REPLY: &str =
+    r#"{"card":{"clearance":"JONES/1","done":0,"holder":"JONES","phase":"Requested","round":0,"steps":0},"reply":"accepted"}
+"#;
+
 /// A text, or that there is none.
 fn text(answer: &Result<String, Fault>) -> &str {
     match answer {
@@ -110,6 +124,17 @@ fn the_machine_in_memory_answers(rt: HostRuntime) -> Result<(), Fail> {
     let mut machine = Known::new(rt.alloc());
     let mut input = Counted::new(SHOW);
     expect_answers(&rt, &known_answers(&mut machine, &mut input));
+    Ok(())
+}
+
+#[test]
+fn the_subcommands_of_files_alone_answer(rt: HostRuntime) -> Result<(), Fail> {
+    let mut machine = Known::new(rt.alloc());
+    let told = known_of_files(&mut machine);
+    assert_eq!(rt; text(&told.fenced), "L2\n");
+    assert_eq!(rt; text(&told.checked), REGRETS);
+    assert_eq!(rt; text(&told.counted), "sections 5 points 5 staff 6\n");
+    assert_eq!(rt; replies(&told.replied), REPLY);
     Ok(())
 }
 
