@@ -3,7 +3,7 @@ use Rattle.std.proofs.Common.{◌≡◌, List, Ok, ap, arith, inl, refl}
 use Rattle.sqlite.specs.Schema.{Schema}
 use Rattle.clr_rules.specs.declared.change.Edit.{Edit}
 use Rattle.clr_load.specs.declared.layout.Layout.{Layout}
-use Rattle.clr_load.specs.declared.layout.Layout.TheVariants.{AsMade, AsMoved, OfOne}
+use Rattle.clr_load.specs.declared.layout.Layout.TheVariants.{AsMade, AsMadeLogged, AsMoved, AsMovedLogged, OfOne}
 use Rattle.clr_load.specs.Schema.{no_schema, schema_in}
 use Rattle.clr_load.specs.Stored.{HasTables}
 use Rattle.clr_tables.specs.Tables.{Tables}
@@ -14,6 +14,8 @@ more_than_none : (l : Layout) → no_schema ≡ schema_in l → ⊥
 more_than_none OfOne is = let tables = ap (λ (s : Schema). s.tables) is in cc
 more_than_none AsMade is = let tables = ap (λ (s : Schema). s.tables) is in cc
 more_than_none AsMoved is = let tables = ap (λ (s : Schema). s.tables) is in cc
+more_than_none AsMadeLogged is = let tables = ap (λ (s : Schema). s.tables) is in cc
+more_than_none AsMovedLogged is = let tables = ap (λ (s : Schema). s.tables) is in cc
 
 has_no_tables : (t : Tables) → HasTables no_database t → ⊥
 has_no_tables t has = more_than_none has.layout has.here.holds.schema

@@ -16,3 +16,4 @@ pub mod NearRuns
 pub mod KeptNowhere
 pub mod Archived
 pub mod Updated
+pub mod Placed

@@ -17,3 +17,4 @@ pub mod Given
 pub mod Archiving
 pub mod Updating
 pub mod NearRun
+pub mod Placing

@@ -6,6 +6,7 @@ mod asking;
 mod at_fault;
 mod book;
 mod commit;
+mod commit_at;
 mod copy;
 mod desk;
 mod desk_fault;
@@ -18,6 +19,7 @@ mod updating;
 
 pub use book::DeskBook;
 pub use commit::{Commit, Unkept};
+pub use commit_at::CommitAt;
 pub use copy::copy_of;
 pub use desk::Desk;
 pub use desk_fault::DeskFault;

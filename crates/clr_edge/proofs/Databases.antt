@@ -76,6 +76,7 @@ moved_line (store.BadRow tables.Staff) none is = absurd is
 moved_line (store.BadRow tables.Clearance) none is = absurd is
 moved_line (store.BadRow tables.Step) none is = absurd is
 moved_line (store.BadRow tables.Hold) none is = absurd is
+moved_line (store.BadRow tables.Journal) none is = absurd is
 moved_line store.NoMemory none is = inl refl
 moved_line store.OtherTables none is = absurd (none refl)
 

@@ -14,7 +14,7 @@ use Rattle.clr_examples.specs.Worked.{worked_opening}
 use Rattle.clr_tables.specs.RowsRead.{all_read, read_placed, read_version}
 use Rattle.clr_tables.specs.TableLaws.{HasNoJumper}
 use Rattle.clr_tables.specs.Tables.{Tables, tables_by, tables_of, version_one}
-use Rattle.clr_tables.specs.declared.table_name.TableName.TheVariants.{Meta, Section, Point, Staff, Clearance, Step, Hold, NetworkPoint}
+use Rattle.clr_tables.specs.declared.table_name.TableName.TheVariants.{Meta, Section, Point, Staff, Clearance, Step, Hold, NetworkPoint, Journal}
 use Rattle.clr_load.specs.Contract.{old_points}
 use Rattle.clr_load.specs.Stored.{HasTables}
 use Rattle.clr_load.specs.declared.fault.StoreFault.{StoreFault}
@@ -61,6 +61,7 @@ refused (BadRow Clearance) refuses = absurd refuses
 refused (BadRow Step) refuses = absurd refuses
 refused (BadRow Hold) refuses = absurd refuses
 refused (BadRow NetworkPoint) refuses = absurd refuses
+refused (BadRow Journal) refuses = absurd refuses
 refused (WrongVersion n) refuses = absurd (refuses.1 (cc (sym refuses.0 ∙ version_read)))
 refused OtherTables refuses = absurd (refuses refl)
 

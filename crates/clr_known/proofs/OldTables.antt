@@ -1,5 +1,5 @@
 -- Tables of version 1 are made and filled, row by row, and have the register of JONES/1; and what a move makes of them.
-use Rattle.std.proofs.Common.{◌≡◌, ◌∙◌, ℕ, Bool, true, false, if◌then◌else◌, List, [], ◌∷◌, ◌++◌, ap, append-nil, refl, slice_get, subst, sym}
+use Rattle.std.proofs.Common.{◌≡◌, ◌∙◌, ℕ, Bool, true, false, if◌then◌else◌, List, [], ◌∷◌, ◌++◌, ap, append-nil, refl, slice_get, subst, sym, None}
 use Rattle.std.proofs.Common.{Result, Ok, Err}
 use Rattle.std.specs.Prelude.{MatchResult}
 use Rattle.std.specs.List.Sorted.{IsPermutation}
@@ -23,16 +23,17 @@ use Rattle.clr_rules.specs.declared.command.Command.{Command}
 use Rattle.clr_examples.specs.Worked.{worked_opening}
 use Rattle.clr_tables.specs.Tables.{Tables, tables_by, version_one}
 use Rattle.clr_tables.specs.declared.table_name.TableName.{TableName}
-use Rattle.clr_tables.specs.declared.table_name.TableName.TheVariants.{Meta, Section, Point, Staff, Clearance, Step, Hold, NetworkPoint}
+use Rattle.clr_tables.specs.declared.table_name.TableName.TheVariants.{Meta, Section, Point, Staff, Clearance, Step, Hold, NetworkPoint, Journal}
 use Rattle.clr_load.proofs.Inside.{then_runs}
 use Rattle.clr_load.proofs.Loading.{then_kept}
 use Rattle.clr_load.specs.Fault.{IsOfDatabase}
-use Rattle.clr_load.specs.Layout.{has_table, names_in, place_in, tree_in}
+use Rattle.clr_load.specs.Layout.{has_rows, has_table, names_in, place_in, tree_in}
+use Rattle.clr_load.proofs.Loading.{in_layout}
 use Rattle.clr_load.specs.Schema.{columns_in, no_schema}
 use Rattle.clr_load.specs.Sql.{insert_sql}
 use Rattle.clr_load.specs.Stored.{HasOldTables, HasRows, Holds, IsInOrder, Keeps, fits_columns, rows_in}
 use Rattle.clr_load.specs.declared.fault.StoreFault.{StoreFault}
-use Rattle.clr_load.specs.declared.layout.Layout.TheVariants.{AsMoved, OfOne}
+use Rattle.clr_load.specs.declared.layout.Layout.TheVariants.{AsMovedLogged, OfOne}
 use Rattle.clr_store.specs.Change.{HasEmpty, Makes, is_same}
 use Rattle.clr_store.proofs.Creating.{empty_rows}
 use Rattle.clr_store.proofs.Effects.{Wrote, inserts, next_row}
@@ -44,7 +45,7 @@ use Rattle.clr_known.specs.OldTables.{Fills, FillsBy, HasOldJones, first_step_ta
 use Rattle.clr_known.proofs.JonesJournal.{lines_ask}
 
 -- ---- one row
-has_all : (name : TableName) → has_table AsMoved name ≡ true
+has_all : (name : TableName) → has_table AsMovedLogged name ≡ true
 has_all Meta = refl
 has_all Section = refl
 has_all Point = refl
@@ -53,10 +54,23 @@ has_all Clearance = refl
 has_all Step = refl
 has_all Hold = refl
 has_all NetworkPoint = refl
+has_all Journal = refl
+
+-- version 1 has tables of the register alone
+own_of_one : (name : TableName) → has_table OfOne name ≡ true → has_rows OfOne name ≡ true
+own_of_one Meta here = refl
+own_of_one Section here = refl
+own_of_one Point here = refl
+own_of_one Staff here = refl
+own_of_one Clearance here = refl
+own_of_one Step here = refl
+own_of_one Hold here = refl
+own_of_one NetworkPoint here = absurd cc
+own_of_one Journal here = absurd cc
 
 same_name : (name other : TableName) → is_same name other ≡ true → name ≡ other
 same_name name other is =
-    same_Some _ _ (sym (named_at AsMoved name (has_all name)) ∙ ap (slice_get (names_in AsMoved)) (eqb-true _ _ is) ∙ named_at AsMoved other (has_all other))
+    same_Some _ _ (sym (named_at AsMovedLogged name (has_all name)) ∙ ap (slice_get (names_in AsMovedLogged)) (eqb-true _ _ is) ∙ named_at AsMovedLogged other (has_all other))
 
 after_all_had : (row : Row) (had : List Row) → IsPermutation (row ∷ had) (had ++ row ∷ [])
 after_all_had row had = subst (λ (l : List Row). IsPermutation (row ∷ l) (had ++ row ∷ [])) (append-nil had) (IsPermutation-sym _ _ (IsPermutation-middle had row []))
@@ -65,16 +79,16 @@ module _ (old new : State) (name : TableName) (row : Row) (here : has_table OfOn
     (did : Wrote OfOne old new name (put_row (next_row (old.now.trees (tree_in OfOne name)) row) (old.now.trees (tree_in OfOne name))))
     (free : is_taken (old.now.trees (tree_in OfOne name)) (next_row (old.now.trees (tree_in OfOne name)) row) ≡ false)
     (had : TableName → List Row) (has : Keeps OfOne old.now had) where
-  rows_at : (other : TableName) → has_table OfOne other ≡ true → (same : Bool) → is_same name other ≡ same
+  rows_at : (other : TableName) → has_rows OfOne other ≡ true → (same : Bool) → is_same name other ≡ same
       → HasRows (columns_in other) (new.now.trees (tree_in OfOne other)) (if same then had other ++ row ∷ [] else had other)
   rows_at other there true is =
-      let put = put_in (columns_in name) row (old.now.trees (tree_in OfOne name)) (had name) fits free (has.rows name here) in
+      let put = put_in (columns_in name) row (old.now.trees (tree_in OfOne name)) (had name) fits free (has.rows name (own_of_one name here)) in
       let last = in_any_order (columns_in name) (put_row (next_row (old.now.trees (tree_in OfOne name)) row) (old.now.trees (tree_in OfOne name))) (row ∷ had name)
       (had name ++ row ∷ []) (after_all_had row (had name)) put in
       subst (λ (it : TableName). HasRows (columns_in it) (new.now.trees (tree_in OfOne it)) (had it ++ row ∷ [])) (same_name name other is)
       (subst (λ (tree : List Row). HasRows (columns_in name) tree (had name ++ row ∷ [])) (sym did.tree) last)
   rows_at other there false is =
-      subst (λ (tree : List Row). HasRows (columns_in other) tree (had other)) (sym (did.others other there (apart OfOne name other here there is))) (has.rows other there)
+      subst (λ (tree : List Row). HasRows (columns_in other) tree (had other)) (sym (did.others other (in_layout OfOne other there) (apart OfOne name other here (in_layout OfOne other there) is))) (has.rows other there)
 
   keeps_more : Keeps OfOne new.now (with_one name row had)
   keeps_more = record {
@@ -114,13 +128,13 @@ has_none : (db : Database) → HasEmpty OfOne (names_in OfOne) db → IsDatabase
 has_none db has sound = record {
   schema = has.schema;
   listed = subst (λ s. IsSound s db.trees) has.schema sound;
-  rows = λ name there. empty_rows (columns_in name) (db.trees (tree_in OfOne name)) (all_at (λ (it : TableName). db.trees (tree_in OfOne it) ≡ []) (names_in OfOne) (place_in OfOne name) name (named_at OfOne name there) has.empty);
+  rows = λ name there. empty_rows (columns_in name) (db.trees (tree_in OfOne name)) (all_at (λ (it : TableName). db.trees (tree_in OfOne it) ≡ []) (names_in OfOne) (place_in OfOne name) name (named_at OfOne name (in_layout OfOne name there)) has.empty);
 }
 
 holds_all : (db : Database) → Keeps OfOne db (with_tables first_step_tables (λ _. [])) → Holds OfOne db first_step_tables
 holds_all db has = record { schema = has.schema; listed = has.listed; rows = at }
   where
-    at : (name : TableName) → has_table OfOne name ≡ true → HasRows (columns_in name) (db.trees (tree_in OfOne name)) (rows_in OfOne name first_step_tables)
+    at : (name : TableName) → has_rows OfOne name ≡ true → HasRows (columns_in name) (db.trees (tree_in OfOne name)) (rows_in OfOne name first_step_tables)
     at Meta there = has.rows Meta there
     at Section there = has.rows Section there
     at Point there = has.rows Point there
@@ -129,6 +143,7 @@ holds_all db has = record { schema = has.schema; listed = has.listed; rows = at 
     at Step there = has.rows Step there
     at Hold there = has.rows Hold there
     at NetworkPoint there = absurd cc
+    at Journal there = absurd cc
 
 ordered : IsInOrder OfOne first_step_tables
 unfolding value_cmp is_nan lt
@@ -140,6 +155,7 @@ ordered Clearance = refl
 ordered Step = refl
 ordered Hold = refl
 ordered NetworkPoint = refl
+ordered Journal = refl
 
 -- THE REGISTER OF JONES/1 IN VERSION 1, by its commands
 tables_known : tables_by version_one (after_all worked_opening jones_commands) ≡ first_step_tables
@@ -155,4 +171,4 @@ pub made_whole : (a b c : State) → a.now.schema ≡ no_schema → Makes a b (H
 made_whole a b c bare made fills =
     let empty : HasEmpty OfOne [] a.now = record { schema = bare; empty = tt } in
     let filled = fills.rows (λ _. []) (has_none b.now (made.makes empty) (made.sound empty)) in
-    subst (λ (t : Tables). HasOldTables c.now t) (sym tables_are) (record { holds = holds_all c.now filled; in_order = ordered })
+    subst (λ (t : Tables). HasOldTables c.now t) (sym tables_are) (record { holds = holds_all c.now filled; in_order = ordered; placed = (None, refl) })

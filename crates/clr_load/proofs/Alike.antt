@@ -5,9 +5,9 @@ use Rattle.std.proofs.lemmas.List.{get_or-map, map_more, take_all}
 use Rattle.std.proofs.Math.Seq.{take-suc}
 use Rattle.sqlite_tied.specs.Compute.{everything}
 use Rattle.clr_tables.specs.declared.table_name.TableName.{TableName}
-use Rattle.clr_tables.specs.declared.table_name.TableName.TheVariants.{Meta, Section, Point, Staff, Clearance, Step, Hold, NetworkPoint}
+use Rattle.clr_tables.specs.declared.table_name.TableName.TheVariants.{Meta, Section, Point, Staff, Clearance, Step, Hold, NetworkPoint, Journal}
 use Rattle.clr_load.specs.Forms.{index_at, index_in, index_text}
-use Rattle.clr_load.specs.Layout.{AsMade, AsMoved, Layout, OfOne, names_in, tree_in}
+use Rattle.clr_load.specs.Layout.{AsMade, AsMadeLogged, AsMoved, AsMovedLogged, Layout, OfOne, names_in, tree_in}
 use Rattle.clr_load.specs.Schema.{indexes_at, schema_in}
 use Rattle.sqlite.specs.Schema.{Schema}
 
@@ -36,12 +36,16 @@ pub indexes_are : (l : Layout) → flat_map (λ name. indexes_at (tree_in l name
 indexes_are OfOne = refl
 indexes_are AsMade = refl
 indexes_are AsMoved = refl
+indexes_are AsMadeLogged = refl
+indexes_are AsMovedLogged = refl
 
--- a schema that is none of the three is of no layout
-pub none_of : (s : Schema) → (s ≡ schema_in AsMade → ⊥) → (s ≡ schema_in AsMoved → ⊥) → (s ≡ schema_in OfOne → ⊥) → (l : Layout) → s ≡ schema_in l → ⊥
-none_of s made moved one OfOne is = one is
-none_of s made moved one AsMade is = made is
-none_of s made moved one AsMoved is = moved is
+-- a schema that is none of the five is of no layout
+pub none_of : (s : Schema) → (s ≡ schema_in AsMade → ⊥) → (s ≡ schema_in AsMoved → ⊥) → (s ≡ schema_in AsMadeLogged → ⊥) → (s ≡ schema_in AsMovedLogged → ⊥) → (s ≡ schema_in OfOne → ⊥) → (l : Layout) → s ≡ schema_in l → ⊥
+none_of s made moved made_logged moved_logged one OfOne is = one is
+none_of s made moved made_logged moved_logged one AsMade is = made is
+none_of s made moved made_logged moved_logged one AsMoved is = moved is
+none_of s made moved made_logged moved_logged one AsMadeLogged is = made_logged is
+none_of s made moved made_logged moved_logged one AsMovedLogged is = moved_logged is
 
 -- the name of the index of a key, as it is made
 pub index_named : (tree : ℕ) (name : TableName) → (index_at tree name).name ≡ index_text name
@@ -54,3 +58,4 @@ index_named tree Clearance = refl
 index_named tree Step = refl
 index_named tree Hold = refl
 index_named tree NetworkPoint = refl
+index_named tree Journal = refl

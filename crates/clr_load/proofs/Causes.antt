@@ -18,10 +18,10 @@ use Rattle.sqlite_trees.specs.declared.store.Store.{Ghosts}
 use Rattle.sqlite_trees.specs.declared.error.StoreError.{StoreError}
 use Rattle.sqlite_trees.specs.declared.error.StoreError.TheVariants as store
 use Rattle.clr_tables.specs.declared.table_name.TableName.{TableName}
-use Rattle.clr_tables.specs.declared.table_name.TableName.TheVariants.{Meta, Section, Point, Staff, Clearance, Step, Hold, NetworkPoint}
+use Rattle.clr_tables.specs.declared.table_name.TableName.TheVariants.{Meta, Section, Point, Staff, Clearance, Step, Hold, NetworkPoint, Journal}
 use Rattle.clr_load.specs.Cause.{IsAble, SqlHasCause, fault_of}
 use Rattle.clr_load.specs.Fault.{IsOfDatabase}
-use Rattle.clr_load.specs.Layout.{AsMade, AsMoved, Layout, OfOne, has_table}
+use Rattle.clr_load.specs.Layout.{AsMade, AsMadeLogged, AsMoved, AsMovedLogged, Layout, OfOne, has_table}
 use Rattle.clr_load.specs.Schema.{behind_meta, schema_in}
 use Rattle.clr_load.specs.Sql.{select_sql}
 use Rattle.clr_load.specs.declared.fault.StoreFault.{StoreFault}
@@ -73,27 +73,48 @@ unfolding everything
 never_refused OfOne Meta there db e has (inl h) = let typed = rw has at h.1 in cc
 never_refused AsMade Meta there db e has (inl h) = let typed = rw has at h.1 in cc
 never_refused AsMoved Meta there db e has (inl h) = let typed = rw has at h.1 in cc
+never_refused AsMadeLogged Meta there db e has (inl h) = let typed = rw has at h.1 in cc
+never_refused AsMovedLogged Meta there db e has (inl h) = let typed = rw has at h.1 in cc
 never_refused OfOne Section there db e has (inl h) = let typed = rw has at h.1 in cc
 never_refused AsMade Section there db e has (inl h) = let typed = rw has at h.1 in cc
 never_refused AsMoved Section there db e has (inl h) = let typed = rw has at h.1 in cc
+never_refused AsMadeLogged Section there db e has (inl h) = let typed = rw has at h.1 in cc
+never_refused AsMovedLogged Section there db e has (inl h) = let typed = rw has at h.1 in cc
 never_refused OfOne Point there db e has (inl h) = let typed = rw has at h.1 in cc
 never_refused AsMade Point there db e has (inl h) = absurd cc
 never_refused AsMoved Point there db e has (inl h) = let typed = rw has at h.1 in cc
+never_refused AsMadeLogged Point there db e has (inl h) = absurd cc
+never_refused AsMovedLogged Point there db e has (inl h) = let typed = rw has at h.1 in cc
 never_refused OfOne Staff there db e has (inl h) = let typed = rw has at h.1 in cc
 never_refused AsMade Staff there db e has (inl h) = let typed = rw has at h.1 in cc
 never_refused AsMoved Staff there db e has (inl h) = let typed = rw has at h.1 in cc
+never_refused AsMadeLogged Staff there db e has (inl h) = let typed = rw has at h.1 in cc
+never_refused AsMovedLogged Staff there db e has (inl h) = let typed = rw has at h.1 in cc
 never_refused OfOne Clearance there db e has (inl h) = let typed = rw has at h.1 in cc
 never_refused AsMade Clearance there db e has (inl h) = let typed = rw has at h.1 in cc
 never_refused AsMoved Clearance there db e has (inl h) = let typed = rw has at h.1 in cc
+never_refused AsMadeLogged Clearance there db e has (inl h) = let typed = rw has at h.1 in cc
+never_refused AsMovedLogged Clearance there db e has (inl h) = let typed = rw has at h.1 in cc
 never_refused OfOne Step there db e has (inl h) = let typed = rw has at h.1 in cc
 never_refused AsMade Step there db e has (inl h) = let typed = rw has at h.1 in cc
 never_refused AsMoved Step there db e has (inl h) = let typed = rw has at h.1 in cc
+never_refused AsMadeLogged Step there db e has (inl h) = let typed = rw has at h.1 in cc
+never_refused AsMovedLogged Step there db e has (inl h) = let typed = rw has at h.1 in cc
 never_refused OfOne Hold there db e has (inl h) = let typed = rw has at h.1 in cc
 never_refused AsMade Hold there db e has (inl h) = let typed = rw has at h.1 in cc
 never_refused AsMoved Hold there db e has (inl h) = let typed = rw has at h.1 in cc
+never_refused AsMadeLogged Hold there db e has (inl h) = let typed = rw has at h.1 in cc
+never_refused AsMovedLogged Hold there db e has (inl h) = let typed = rw has at h.1 in cc
 never_refused OfOne NetworkPoint there db e has (inl h) = absurd cc
 never_refused AsMade NetworkPoint there db e has (inl h) = let typed = rw has at h.1 in cc
 never_refused AsMoved NetworkPoint there db e has (inl h) = let typed = rw has at h.1 in cc
+never_refused AsMadeLogged NetworkPoint there db e has (inl h) = let typed = rw has at h.1 in cc
+never_refused AsMovedLogged NetworkPoint there db e has (inl h) = let typed = rw has at h.1 in cc
+never_refused OfOne Journal there db e has (inl h) = absurd cc
+never_refused AsMade Journal there db e has (inl h) = absurd cc
+never_refused AsMoved Journal there db e has (inl h) = absurd cc
+never_refused AsMadeLogged Journal there db e has (inl h) = let typed = rw has at h.1 in cc
+never_refused AsMovedLogged Journal there db e has (inl h) = let typed = rw has at h.1 in cc
 never_refused l name there db e has (inr (inl (_, inl over))) = over
 never_refused l name there db e has (inr (inl (_, inr over))) = over.4
 never_refused l name there db e has (inr (inr cut)) = absurd (let o = cut.1 in cc)

@@ -5,7 +5,7 @@ use Rattle.std.specs.List.Sorted.{IsPermutation}
 use Rattle.std.specs.Ordering.{is_lt}
 use Rattle.std.specs.declared.cmp.Ordering.{Ordering}
 use Rattle.std.specs.declared.cmp.Ordering.TheVariants.{Less, Equal, Greater}
-use Rattle.std.proofs.lemmas.List.{length-take-le}
+use Rattle.std.proofs.lemmas.List.{length-map, length-take-le}
 use Rattle.std.proofs.lemmas.List.Sorted.{IsPermutation-map, IsPermutation-trans, length_permutation}
 use Rattle.sqlite.specs.Order.{Row, column, row_cmp}
 use Rattle.sqlite.specs.Program.{overlay}
@@ -30,15 +30,19 @@ use Rattle.sqlite_trees.proofs.ListLemmas.{map-map, ascending-map}
 use Rattle.clr_shelf.specs.Rows.{in_key_order}
 use Rattle.clr_tables.specs.Tables.{Tables}
 use Rattle.clr_tables.specs.declared.table_name.TableName.{TableName}
-use Rattle.clr_tables.specs.declared.table_name.TableName.TheVariants.{Meta, Section, Point, Staff, Clearance, Step, Hold, NetworkPoint}
+use Rattle.clr_tables.specs.declared.table_name.TableName.TheVariants.{Meta, Section, Point, Staff, Clearance, Step, Hold, NetworkPoint, Journal}
 use Rattle.clr_load.specs.Found.{Fails, Finds, Lists}
-use Rattle.clr_load.specs.Layout.{AsMade, AsMoved, Layout, OfOne, has_table, is_two, names_in, tree_in}
+use Rattle.clr_load.specs.Layout.{AsMade, AsMadeLogged, AsMoved, AsMovedLogged, Layout, OfOne, has_rows, has_table, is_of_register, is_two, names_in, tree_in}
 use Rattle.clr_load.specs.Schema.{behind_meta, columns_in, keys_in, no_schema, schema_in, schema_of}
 use Rattle.clr_load.specs.Sql.{select_sql}
-use Rattle.clr_load.specs.Stored.{HasMeta, HasRows, HasTablesIn, Holds, IsInOrder, bodies, fits_columns, rows_in}
+use Rattle.clr_load.specs.Stored.{HasMeta, HasPlaceIn, HasRows, HasTablesIn, Holds, IsInOrder, bodies, fits_columns, rows_in}
 use Rattle.clr_load.specs.declared.fault.StoreFault.{StoreFault}
 use Rattle.clr_load.proofs.Columns.{both_true, fits_length, key_order, met_values, values_all, values_from, values_shift, values_take}
 use Rattle.clr_load.proofs.Texts.{listing, meta_is, meta_unlisted, order_from, select_is, select_unknown, select_unlisted, width_of}
+
+-- a table of the register itself is a table of the layout
+pub in_layout : (l : Layout) (name : TableName) → has_rows l name ≡ true → has_table l name ≡ true
+in_layout l name has = (both_true (is_of_register name) (has_table l name) has).1
 
 -- a tree of the database is read as it is, where no table is computed first
 pub laid : (db : Trees) (tree : ℕ) → overlay db [] tree ≡ db tree
@@ -88,6 +92,7 @@ keys_within Clearance = omega arith
 keys_within Step = omega arith
 keys_within Hold = omega arith
 keys_within NetworkPoint = omega arith
+keys_within Journal = omega arith
 
 is_less : (o : Ordering) → is_lt o ≡ true → o ≡ Less
 is_less Less h = refl
@@ -149,12 +154,37 @@ answer_is l name db rows shown has ordered a =
     let sorted = sorted_unique (output_cmp (listing l name)) (output_cmp_total (listing l name)) (map (shown_as name) rows) a.ordered rise mixed a.sorted in
     a.shown ∙ ap (map (λ (o : Output). o.1)) sorted ∙ map-map (λ (o : Output). o.1) (shown_as name) rows ∙ whole_rows name rows has.fit
 
-pub lists : (l : Layout) (old new : State) (name : TableName) (t : Tables) (shown : List Row) → has_table l name ≡ true → Holds l old.now t → IsInOrder l t
+pub lists : (l : Layout) (old new : State) (name : TableName) (t : Tables) (shown : List Row) → has_rows l name ≡ true → Holds l old.now t → IsInOrder l t
     → Shown (select_sql name) [] old new shown → shown ≡ rows_in l name t
 lists l old new name t shown there has ordered ran =
-    let text = select_is l name there in
-    let read = reads_as (select_sql name) [] old new (schema_in l) has.schema _ text.is text.plain (select_unlisted l name there) shown ran in
+    let table = in_layout l name there in
+    let text = select_is l name table in
+    let read = reads_as (select_sql name) [] old new (schema_in l) has.schema _ text.is text.plain (select_unlisted l name table) shown ran in
     answer_is l name old.now.trees (rows_in l name t) shown (has.rows name there) (ordered name) (read.answer Null)
+
+-- the table of the journal is listed as its one row
+pub lists_place : (l : Layout) (old new : State) (place : Row) (shown : List Row) → old.now.schema ≡ schema_in l → HasPlaceIn l old.now.trees (Some place)
+    → Shown (select_sql Journal) [] old new shown → shown ≡ place ∷ []
+lists_place l old new place shown schema has ran =
+    let text = select_is l Journal has.0 in
+    let read = reads_as (select_sql Journal) [] old new (schema_in l) schema _ text.is text.plain (select_unlisted l Journal has.0) shown ran in
+    answer_is l Journal old.now.trees (place ∷ []) shown has.1 refl (read.answer Null)
+
+-- as many rows are listed as a table has
+as_many : (l : Layout) (name : TableName) (db : Trees) (shown : List Row) → IsAnswer (listing l name) (overlay db []) [] shown → length (db (tree_in l name)) ≡ length shown
+as_many l name db shown a =
+    let tree = db (tree_in l name) in
+    let kept : a.kept ≡ map (shown_as name) (bodies tree) =
+    a.distinct ∙ ap (map (output (listing l name))) (a.grouped ∙ ap (flat_map (λ r. ([] ∷ r ∷ []) ∷ [])) (laid db (tree_in l name)) ∙ each_row tree) ∙ outputs l name tree in
+    sym (length-map tree (drop 1)) ∙ sym (length-map (bodies tree) (shown_as name)) ∙ ap length (sym kept)
+    ∙ sym (length_permutation a.kept a.ordered a.same) ∙ sym (length-map a.ordered (λ (o : Output). o.1)) ∙ ap length (sym a.shown)
+
+pub as_many_listed : (l : Layout) (old new : State) (name : TableName) (shown : List Row) → has_table l name ≡ true → old.now.schema ≡ schema_in l
+    → Shown (select_sql name) [] old new shown → length (old.now.trees (tree_in l name)) ≡ length shown
+as_many_listed l old new name shown there has ran =
+    let text = select_is l name there in
+    let read = reads_as (select_sql name) [] old new (schema_in l) has _ text.is text.plain (select_unlisted l name there) shown ran in
+    as_many l name old.now.trees shown (read.answer Null)
 
 pub no_length : {X : Type 0} (xs : List X) → length xs ≡ 0 → xs ≡ []
 no_length [] few = refl
@@ -207,6 +237,8 @@ has_meta l db t has = record {
     first OfOne = refl
     first AsMade = refl
     first AsMoved = refl
+    first AsMadeLogged = refl
+    first AsMovedLogged = refl
 
 -- ---- what a query inside a transaction leaves of the last commit
 pub unchanged_keeps : (old new : State) → IsUnchanged old new → KeepsCommit old new
@@ -262,7 +294,7 @@ stays l old new name rows there has h =
     it.3.0.now_is
 
 pub listed : (old new : State) (name : TableName) (rows : List Row) → IsTrue old.in_transaction
-    → Shown (select_sql name) [] old new rows → Finds old new (λ l. has_table l name) (λ l t. rows_in l name t) rows
+    → Shown (select_sql name) [] old new rows → Finds old new (λ l. has_rows l name) (λ l t. rows_in l name t) rows
 listed old new name rows inside shown =
     let keeps = shown_keeps (select_sql name) [] old new rows inside shown in
     record {
@@ -270,7 +302,7 @@ listed old new name rows inside shown =
       inside = keeps.inside;
       kept = keeps.kept;
       found_is = λ l there t has ordered.
-          let same = stays l old new name rows there has.schema shown in
+          let same = stays l old new name rows (in_layout l name there) has.schema shown in
           (lists l old new name t rows there has ordered shown, subst (λ (db : Database). Holds l db t) (sym same) has);
     }
 
@@ -287,10 +319,12 @@ module _ (f g : Layout → Bool) (fewer : (l : Layout) → g l ≡ true → f l 
   fails_in a b fault p = record { kept = p.kept; cause = λ l fit. p.cause l (fewer l fit) }
 
 -- ---- the tables of version 2
-pub both_in_two : (l : Layout) → is_two l ≡ true → has_table l NetworkPoint ≡ true
+pub both_in_two : (l : Layout) → is_two l ≡ true → has_rows l NetworkPoint ≡ true
 both_in_two OfOne two = absurd cc
 both_in_two AsMade two = refl
 both_in_two AsMoved two = refl
+both_in_two AsMadeLogged two = refl
+both_in_two AsMovedLogged two = refl
 
 -- ---- what calls list, in turn
 -- what is listed in some layouts is listed in fewer

@@ -10,7 +10,7 @@ use Rattle.clr_load.specs.Cause.{SqlHasCause}
 use Rattle.clr_load.specs.Contract.{RefusesPoints, Yields, old_points}
 use Rattle.clr_load.specs.Fault.{IsOfDatabase, IsOfPoints}
 use Rattle.clr_load.specs.Found.{Fails, Finds}
-use Rattle.clr_load.specs.Layout.{AsMade, AsMoved, Layout, OfOne, has_table, is_one}
+use Rattle.clr_load.specs.Layout.{AsMade, AsMadeLogged, AsMoved, AsMovedLogged, Layout, OfOne, has_rows, is_one}
 use Rattle.clr_load.specs.Reading.{old_point, old_values}
 use Rattle.clr_load.specs.Stored.{Holds, IsInOrder, rows_in}
 use Rattle.clr_load.specs.declared.fault.StoreFault.{StoreFault}
@@ -20,12 +20,14 @@ use Rattle.clr_load.proofs.AllGiven.{rows_fail, rows_give}
 use Rattle.clr_load.proofs.Blamed.{placed_blame}
 
 abbrev pub Listed : State → State → List Row → Type 0
-Listed old new rows = Finds old new (λ l. has_table l Point) (λ l t. rows_in l Point t) rows
+Listed old new rows = Finds old new (λ l. has_rows l Point) (λ l t. rows_in l Point t) rows
 
-pub one_has_points : (l : Layout) → is_one l ≡ true → has_table l Point ≡ true
+pub one_has_points : (l : Layout) → is_one l ≡ true → has_rows l Point ≡ true
 one_has_points OfOne one = refl
 one_has_points AsMade one = absurd cc
 one_has_points AsMoved one = absurd cc
+one_has_points AsMadeLogged one = absurd cc
+one_has_points AsMovedLogged one = absurd cc
 
 -- the rows that were listed are those of `point`
 listed_are : (old new : State) (rows : List Row) → Listed old new rows → (l : Layout) → is_one l ≡ true → (t : Tables)
@@ -33,6 +35,8 @@ listed_are : (old new : State) (rows : List Row) → Listed old new rows → (l 
 listed_are old new rows found OfOne one t has ordered = found.found_is OfOne refl t has ordered
 listed_are old new rows found AsMade one t has ordered = absurd cc
 listed_are old new rows found AsMoved one t has ordered = absurd cc
+listed_are old new rows found AsMadeLogged one t has ordered = absurd cc
+listed_are old new rows found AsMovedLogged one t has ordered = absurd cc
 
 pub old_read : (old new : State) (rows : List Row) (xs : List OldPoint) → Listed old new rows → all_read old_values rows ≡ Ok xs
     → Finds old new is_one (λ l t. is_ok (old_points t)) true

@@ -20,7 +20,7 @@ use Rattle.sqlite_schema.specs.declared.command.Command.{Command}
 use Rattle.sqlite_schema.specs.declared.command.Returning.{Returning}
 use Rattle.sqlite_tied.specs.Compute.{everything}
 use Rattle.clr_tables.specs.declared.table_name.TableName.{TableName}
-use Rattle.clr_tables.specs.declared.table_name.TableName.TheVariants.{Meta, Section, Point, Staff, Clearance, Step, Hold, NetworkPoint}
+use Rattle.clr_tables.specs.declared.table_name.TableName.TheVariants.{Meta, Section, Point, Staff, Clearance, Step, Hold, NetworkPoint, Journal}
 use Rattle.clr_load.proofs.Staying.{unchanged_stays, undone_stays}
 use Rattle.clr_load.specs.Loads.{Stays}
 use Rattle.clr_load.specs.Sql.{select_sql}
@@ -49,6 +49,7 @@ parsed_shows Clearance = λ schema base. refl
 parsed_shows Step = λ schema base. refl
 parsed_shows Hold = λ schema base. refl
 parsed_shows NetworkPoint = λ schema base. refl
+parsed_shows Journal = λ schema base. refl
 
 with_none : (r : Checked Command) (formats : List (List ℕ)) (with : List (List ℕ) × (Command × Option Returning) → Compiled) → ((plan : List (List ℕ) × (Command × Option Returning)) → (with plan).returning ≡ plan.1.1)
     → OnlyShows (and_then (and_then (and_then {A = Command} {B = Command × Option Returning} r (λ c. Ok (c, None))) (λ found. Ok (formats, found))) (λ plan. Ok (with plan)))

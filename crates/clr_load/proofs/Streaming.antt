@@ -15,7 +15,7 @@ use Rattle.clr_tables.specs.RowsRead.{all_read}
 use Rattle.clr_tables.specs.Tables.{Tables}
 use Rattle.clr_tables.specs.declared.table_name.TableName.{TableName}
 use Rattle.clr_load.specs.Cause.{fault_of}
-use Rattle.clr_load.specs.Layout.{Layout, has_table}
+use Rattle.clr_load.specs.Layout.{Layout, has_rows}
 use Rattle.clr_load.specs.Loads.{Loads}
 use Rattle.clr_load.specs.Sql.{select_sql}
 use Rattle.clr_load.specs.Stored.{HasTablesIn, rows_in}
@@ -23,7 +23,7 @@ use Rattle.clr_load.specs.declared.fault.StoreFault.{StoreFault}
 use Rattle.clr_load.specs.declared.fault.StoreFault.TheVariants.{BadRow, NoMemory}
 use Rattle.clr_load.proofs.AllRead.{read_append, read_none, read_stops}
 use Rattle.clr_load.proofs.Causes.{read_cause, then_cause, told_of_database}
-use Rattle.clr_load.proofs.Loading.{lists}
+use Rattle.clr_load.proofs.Loading.{in_layout, lists}
 use Rattle.clr_load.proofs.Selecting.{begun_listing, failed_rests, survives_listed}
 use Rattle.clr_load.proofs.Inside.{both_survive}
 use Rattle.clr_load.proofs.Staying.{stops, then_stays, unchanged_stays}
@@ -39,7 +39,7 @@ pub record HasReadInto {S A X : Type 0} (g : Ghosts S) (name : TableName) (read 
 
 module _ {S A X : Type 0} (g : Ghosts S) (name : TableName) (read : Row → Result A TableName) (has : X → List A → Type 0) where
   abbrev pub Reads : Held S → Held S → Result X StoreFault → Type 0
-  Reads start new result = Loads g start new (λ l. has_table l name) (λ l t. all_read read (rows_in l name t)) has result
+  Reads start new result = Loads g start new (λ l. has_rows l name) (λ l t. all_read read (rows_in l name t)) has result
 
   pub begins : (start now : Held S) (into : X) → has into [] → (start.in_transaction ≡ false → now.in_transaction ≡ false)
       → Survives (state g start) (state g now) (CommitsShowing (select_sql name) [] (state g start))
@@ -117,10 +117,10 @@ module _ {S A X : Type 0} (g : Ghosts S) (name : TableName) (read : Row → Resu
             (ap (all_read read) (sym all) ∙ read_stops read it.0 row tail.0 was.items bad is it.3, tt);
       }
         where
-          ended : (l : Layout) (there : has_table l name ≡ true) (s : State) {t : Tables} (here : HasTablesIn l s.now t) (c : Compiled) (db : Database) (h : IsStatement s (select_sql name) [] c)
+          ended : (l : Layout) (there : has_rows l name ≡ true) (s : State) {t : Tables} (here : HasTablesIn l s.now t) (c : Compiled) (db : Database) (h : IsStatement s (select_sql name) [] c)
               → EndsIn c.command db (timed [] c.formats h.now)
           ended l there s here c db h =
-              let both = sym h.is ∙ ap (λ x. understood x (select_sql name)) here.holds.schema ∙ select_known l name there in
+              let both = sym h.is ∙ ap (λ x. understood x (select_sql name)) here.holds.schema ∙ select_known l name (in_layout l name there) in
               let is : c ≡ all_of (select_sql name) 0 (selecting l name) = cc in
               rw is tt
 
@@ -134,4 +134,4 @@ module _ {S A X : Type 0} (g : Ghosts S) (name : TableName) (read : Row → Resu
         (λ clean l there t tables.
         let it = was.so_far (early clean) in
         then_cause (state g start) (state g now) (state g new) _ (fault_of e) was.survives (early clean) survives.counts
-        (read_cause l name there (state g now) (state g new) e (fault_of e) (still (early clean) l t tables).holds.schema refl (fails clean (select_sql name) [] it.0 it.1)))
+        (read_cause l name (in_layout l name there) (state g now) (state g new) e (fault_of e) (still (early clean) l t tables).holds.schema refl (fails clean (select_sql name) [] it.0 it.1)))

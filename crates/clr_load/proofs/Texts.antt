@@ -25,10 +25,10 @@ use Rattle.sqlite_schema.specs.declared.schema.Column.{Column}
 use Rattle.sqlite_sql.specs.declared.ops.BinaryOp.TheVariants.{Compare}
 use Rattle.sqlite_sql.specs.declared.ops.CompareOp.TheVariants.{Eq}
 use Rattle.clr_tables.specs.declared.table_name.TableName.{TableName}
-use Rattle.clr_tables.specs.declared.table_name.TableName.TheVariants.{Meta, Section, Point, Staff, Clearance, Step, Hold, NetworkPoint}
-use Rattle.clr_load.specs.Layout.{AsMade, AsMoved, Layout, OfOne, has_table, is_two, names_before, place_in, tree_in}
+use Rattle.clr_tables.specs.declared.table_name.TableName.TheVariants.{Meta, Section, Point, Staff, Clearance, Step, Hold, NetworkPoint, Journal}
+use Rattle.clr_load.specs.Layout.{AsMade, AsMadeLogged, AsMoved, AsMovedLogged, Layout, OfOne, has_table, is_two, names_before, place_in, tree_in}
 use Rattle.clr_load.specs.Schema.{behind_meta, no_schema, keys_in, columns_in, table_at, schema_of, schema_in}
-use Rattle.clr_load.specs.Sql.{create_sql, insert_sql, delete_sql, replace_sql, select_sql, set_position_sql, set_hand_sql, copy_sql, empty_sql}
+use Rattle.clr_load.specs.Sql.{create_sql, insert_sql, delete_sql, replace_sql, select_sql, set_position_sql, set_hand_sql, clear_place_sql, copy_sql, empty_sql}
 
 abbrev pub width_of : TableName → ℕ
 width_of name = length (columns_in name)
@@ -123,27 +123,48 @@ unfolding everything
 insert_reads OfOne Meta has = refl
 insert_reads AsMade Meta has = refl
 insert_reads AsMoved Meta has = refl
+insert_reads AsMadeLogged Meta has = refl
+insert_reads AsMovedLogged Meta has = refl
 insert_reads OfOne Section has = refl
 insert_reads AsMade Section has = refl
 insert_reads AsMoved Section has = refl
+insert_reads AsMadeLogged Section has = refl
+insert_reads AsMovedLogged Section has = refl
 insert_reads OfOne Point has = refl
 insert_reads AsMade Point has = absurd cc
 insert_reads AsMoved Point has = refl
+insert_reads AsMadeLogged Point has = absurd cc
+insert_reads AsMovedLogged Point has = refl
 insert_reads OfOne Staff has = refl
 insert_reads AsMade Staff has = refl
 insert_reads AsMoved Staff has = refl
+insert_reads AsMadeLogged Staff has = refl
+insert_reads AsMovedLogged Staff has = refl
 insert_reads OfOne Clearance has = refl
 insert_reads AsMade Clearance has = refl
 insert_reads AsMoved Clearance has = refl
+insert_reads AsMadeLogged Clearance has = refl
+insert_reads AsMovedLogged Clearance has = refl
 insert_reads OfOne Step has = refl
 insert_reads AsMade Step has = refl
 insert_reads AsMoved Step has = refl
+insert_reads AsMadeLogged Step has = refl
+insert_reads AsMovedLogged Step has = refl
 insert_reads OfOne Hold has = refl
 insert_reads AsMade Hold has = refl
 insert_reads AsMoved Hold has = refl
+insert_reads AsMadeLogged Hold has = refl
+insert_reads AsMovedLogged Hold has = refl
 insert_reads OfOne NetworkPoint has = absurd cc
 insert_reads AsMade NetworkPoint has = refl
 insert_reads AsMoved NetworkPoint has = refl
+insert_reads AsMadeLogged NetworkPoint has = refl
+insert_reads AsMovedLogged NetworkPoint has = refl
+insert_reads OfOne Journal has = absurd cc
+insert_reads AsMade Journal has = absurd cc
+insert_reads AsMoved Journal has = absurd cc
+insert_reads AsMadeLogged Journal has = refl
+insert_reads AsMovedLogged Journal has = refl
 
 delete_reads : (l : Layout) (name : TableName) → has_table l name ≡ true
     → Compiles (schema_in l) (delete_sql name) (keys_in name) (deleting l name)
@@ -151,27 +172,48 @@ unfolding everything
 delete_reads OfOne Meta has = refl
 delete_reads AsMade Meta has = refl
 delete_reads AsMoved Meta has = refl
+delete_reads AsMadeLogged Meta has = refl
+delete_reads AsMovedLogged Meta has = refl
 delete_reads OfOne Section has = refl
 delete_reads AsMade Section has = refl
 delete_reads AsMoved Section has = refl
+delete_reads AsMadeLogged Section has = refl
+delete_reads AsMovedLogged Section has = refl
 delete_reads OfOne Point has = refl
 delete_reads AsMade Point has = absurd cc
 delete_reads AsMoved Point has = refl
+delete_reads AsMadeLogged Point has = absurd cc
+delete_reads AsMovedLogged Point has = refl
 delete_reads OfOne Staff has = refl
 delete_reads AsMade Staff has = refl
 delete_reads AsMoved Staff has = refl
+delete_reads AsMadeLogged Staff has = refl
+delete_reads AsMovedLogged Staff has = refl
 delete_reads OfOne Clearance has = refl
 delete_reads AsMade Clearance has = refl
 delete_reads AsMoved Clearance has = refl
+delete_reads AsMadeLogged Clearance has = refl
+delete_reads AsMovedLogged Clearance has = refl
 delete_reads OfOne Step has = refl
 delete_reads AsMade Step has = refl
 delete_reads AsMoved Step has = refl
+delete_reads AsMadeLogged Step has = refl
+delete_reads AsMovedLogged Step has = refl
 delete_reads OfOne Hold has = refl
 delete_reads AsMade Hold has = refl
 delete_reads AsMoved Hold has = refl
+delete_reads AsMadeLogged Hold has = refl
+delete_reads AsMovedLogged Hold has = refl
 delete_reads OfOne NetworkPoint has = absurd cc
 delete_reads AsMade NetworkPoint has = refl
 delete_reads AsMoved NetworkPoint has = refl
+delete_reads AsMadeLogged NetworkPoint has = refl
+delete_reads AsMovedLogged NetworkPoint has = refl
+delete_reads OfOne Journal has = absurd cc
+delete_reads AsMade Journal has = absurd cc
+delete_reads AsMoved Journal has = absurd cc
+delete_reads AsMadeLogged Journal has = refl
+delete_reads AsMovedLogged Journal has = refl
 
 replace_reads : (l : Layout) (name : TableName) → has_table l name ≡ true
     → Compiles (schema_in l) (replace_sql name) (width_of name) (replacing l name)
@@ -179,27 +221,48 @@ unfolding everything
 replace_reads OfOne Meta has = refl
 replace_reads AsMade Meta has = refl
 replace_reads AsMoved Meta has = refl
+replace_reads AsMadeLogged Meta has = refl
+replace_reads AsMovedLogged Meta has = refl
 replace_reads OfOne Section has = refl
 replace_reads AsMade Section has = refl
 replace_reads AsMoved Section has = refl
+replace_reads AsMadeLogged Section has = refl
+replace_reads AsMovedLogged Section has = refl
 replace_reads OfOne Point has = refl
 replace_reads AsMade Point has = absurd cc
 replace_reads AsMoved Point has = refl
+replace_reads AsMadeLogged Point has = absurd cc
+replace_reads AsMovedLogged Point has = refl
 replace_reads OfOne Staff has = refl
 replace_reads AsMade Staff has = refl
 replace_reads AsMoved Staff has = refl
+replace_reads AsMadeLogged Staff has = refl
+replace_reads AsMovedLogged Staff has = refl
 replace_reads OfOne Clearance has = refl
 replace_reads AsMade Clearance has = refl
 replace_reads AsMoved Clearance has = refl
+replace_reads AsMadeLogged Clearance has = refl
+replace_reads AsMovedLogged Clearance has = refl
 replace_reads OfOne Step has = refl
 replace_reads AsMade Step has = refl
 replace_reads AsMoved Step has = refl
+replace_reads AsMadeLogged Step has = refl
+replace_reads AsMovedLogged Step has = refl
 replace_reads OfOne Hold has = refl
 replace_reads AsMade Hold has = refl
 replace_reads AsMoved Hold has = refl
+replace_reads AsMadeLogged Hold has = refl
+replace_reads AsMovedLogged Hold has = refl
 replace_reads OfOne NetworkPoint has = absurd cc
 replace_reads AsMade NetworkPoint has = refl
 replace_reads AsMoved NetworkPoint has = refl
+replace_reads AsMadeLogged NetworkPoint has = refl
+replace_reads AsMovedLogged NetworkPoint has = refl
+replace_reads OfOne Journal has = absurd cc
+replace_reads AsMade Journal has = absurd cc
+replace_reads AsMoved Journal has = absurd cc
+replace_reads AsMadeLogged Journal has = refl
+replace_reads AsMovedLogged Journal has = refl
 
 select_reads : (l : Layout) (name : TableName) → has_table l name ≡ true
     → Compiles (schema_in l) (select_sql name) 0 (selecting l name)
@@ -207,27 +270,48 @@ unfolding everything
 select_reads OfOne Meta has = refl
 select_reads AsMade Meta has = refl
 select_reads AsMoved Meta has = refl
+select_reads AsMadeLogged Meta has = refl
+select_reads AsMovedLogged Meta has = refl
 select_reads OfOne Section has = refl
 select_reads AsMade Section has = refl
 select_reads AsMoved Section has = refl
+select_reads AsMadeLogged Section has = refl
+select_reads AsMovedLogged Section has = refl
 select_reads OfOne Point has = refl
 select_reads AsMade Point has = absurd cc
 select_reads AsMoved Point has = refl
+select_reads AsMadeLogged Point has = absurd cc
+select_reads AsMovedLogged Point has = refl
 select_reads OfOne Staff has = refl
 select_reads AsMade Staff has = refl
 select_reads AsMoved Staff has = refl
+select_reads AsMadeLogged Staff has = refl
+select_reads AsMovedLogged Staff has = refl
 select_reads OfOne Clearance has = refl
 select_reads AsMade Clearance has = refl
 select_reads AsMoved Clearance has = refl
+select_reads AsMadeLogged Clearance has = refl
+select_reads AsMovedLogged Clearance has = refl
 select_reads OfOne Step has = refl
 select_reads AsMade Step has = refl
 select_reads AsMoved Step has = refl
+select_reads AsMadeLogged Step has = refl
+select_reads AsMovedLogged Step has = refl
 select_reads OfOne Hold has = refl
 select_reads AsMade Hold has = refl
 select_reads AsMoved Hold has = refl
+select_reads AsMadeLogged Hold has = refl
+select_reads AsMovedLogged Hold has = refl
 select_reads OfOne NetworkPoint has = absurd cc
 select_reads AsMade NetworkPoint has = refl
 select_reads AsMoved NetworkPoint has = refl
+select_reads AsMadeLogged NetworkPoint has = refl
+select_reads AsMovedLogged NetworkPoint has = refl
+select_reads OfOne Journal has = absurd cc
+select_reads AsMade Journal has = absurd cc
+select_reads AsMoved Journal has = absurd cc
+select_reads AsMadeLogged Journal has = refl
+select_reads AsMovedLogged Journal has = refl
 
 -- the version is read whatever tables there are after the one that has it
 meta_reads : (others : Schema)
@@ -246,6 +330,7 @@ select_unknown Clearance = refl
 select_unknown Step = refl
 select_unknown Hold = refl
 select_unknown NetworkPoint = refl
+select_unknown Journal = refl
 
 create_reads : (l : Layout) (name : TableName) → has_table l name ≡ true
     → Compiles (schema_of l (names_before l name)) (create_sql name) 0 CreateTable
@@ -253,27 +338,48 @@ unfolding everything
 create_reads OfOne Meta has = refl
 create_reads AsMade Meta has = refl
 create_reads AsMoved Meta has = refl
+create_reads AsMadeLogged Meta has = refl
+create_reads AsMovedLogged Meta has = refl
 create_reads OfOne Section has = refl
 create_reads AsMade Section has = refl
 create_reads AsMoved Section has = refl
+create_reads AsMadeLogged Section has = refl
+create_reads AsMovedLogged Section has = refl
 create_reads OfOne Point has = refl
 create_reads AsMade Point has = absurd cc
 create_reads AsMoved Point has = refl
+create_reads AsMadeLogged Point has = absurd cc
+create_reads AsMovedLogged Point has = refl
 create_reads OfOne Staff has = refl
 create_reads AsMade Staff has = refl
 create_reads AsMoved Staff has = refl
+create_reads AsMadeLogged Staff has = refl
+create_reads AsMovedLogged Staff has = refl
 create_reads OfOne Clearance has = refl
 create_reads AsMade Clearance has = refl
 create_reads AsMoved Clearance has = refl
+create_reads AsMadeLogged Clearance has = refl
+create_reads AsMovedLogged Clearance has = refl
 create_reads OfOne Step has = refl
 create_reads AsMade Step has = refl
 create_reads AsMoved Step has = refl
+create_reads AsMadeLogged Step has = refl
+create_reads AsMovedLogged Step has = refl
 create_reads OfOne Hold has = refl
 create_reads AsMade Hold has = refl
 create_reads AsMoved Hold has = refl
+create_reads AsMadeLogged Hold has = refl
+create_reads AsMovedLogged Hold has = refl
 create_reads OfOne NetworkPoint has = absurd cc
 create_reads AsMade NetworkPoint has = refl
 create_reads AsMoved NetworkPoint has = refl
+create_reads AsMadeLogged NetworkPoint has = refl
+create_reads AsMovedLogged NetworkPoint has = refl
+create_reads OfOne Journal has = absurd cc
+create_reads AsMade Journal has = absurd cc
+create_reads AsMoved Journal has = absurd cc
+create_reads AsMadeLogged Journal has = refl
+create_reads AsMovedLogged Journal has = refl
 
 pub defines : (name : TableName) → table_defined_by (create_sql name) ≡ Ok (table_at 0 name)
 unfolding everything
@@ -285,6 +391,7 @@ defines Clearance = refl
 defines Step = refl
 defines Hold = refl
 defines NetworkPoint = refl
+defines Journal = refl
 
 pub created_is : (l : Layout) (name : TableName) → has_table l name ≡ true
     → created (schema_of l (names_before l name)) (table_at 0 name)
@@ -293,27 +400,48 @@ unfolding everything
 created_is OfOne Meta has = refl
 created_is AsMade Meta has = refl
 created_is AsMoved Meta has = refl
+created_is AsMadeLogged Meta has = refl
+created_is AsMovedLogged Meta has = refl
 created_is OfOne Section has = refl
 created_is AsMade Section has = refl
 created_is AsMoved Section has = refl
+created_is AsMadeLogged Section has = refl
+created_is AsMovedLogged Section has = refl
 created_is OfOne Point has = refl
 created_is AsMade Point has = absurd cc
 created_is AsMoved Point has = refl
+created_is AsMadeLogged Point has = absurd cc
+created_is AsMovedLogged Point has = refl
 created_is OfOne Staff has = refl
 created_is AsMade Staff has = refl
 created_is AsMoved Staff has = refl
+created_is AsMadeLogged Staff has = refl
+created_is AsMovedLogged Staff has = refl
 created_is OfOne Clearance has = refl
 created_is AsMade Clearance has = refl
 created_is AsMoved Clearance has = refl
+created_is AsMadeLogged Clearance has = refl
+created_is AsMovedLogged Clearance has = refl
 created_is OfOne Step has = refl
 created_is AsMade Step has = refl
 created_is AsMoved Step has = refl
+created_is AsMadeLogged Step has = refl
+created_is AsMovedLogged Step has = refl
 created_is OfOne Hold has = refl
 created_is AsMade Hold has = refl
 created_is AsMoved Hold has = refl
+created_is AsMadeLogged Hold has = refl
+created_is AsMovedLogged Hold has = refl
 created_is OfOne NetworkPoint has = absurd cc
 created_is AsMade NetworkPoint has = refl
 created_is AsMoved NetworkPoint has = refl
+created_is AsMadeLogged NetworkPoint has = refl
+created_is AsMovedLogged NetworkPoint has = refl
+created_is OfOne Journal has = absurd cc
+created_is AsMade Journal has = absurd cc
+created_is AsMoved Journal has = absurd cc
+created_is AsMadeLogged Journal has = refl
+created_is AsMovedLogged Journal has = refl
 
 -- the row of a point, with its number, as it is to be
 abbrev pub changing : Layout → List Term → Query
@@ -335,6 +463,8 @@ unfolding everything
 set_position_reads OfOne two = absurd cc
 set_position_reads AsMade two = refl
 set_position_reads AsMoved two = refl
+set_position_reads AsMadeLogged two = refl
+set_position_reads AsMovedLogged two = refl
 
 set_hand_reads : (l : Layout) → is_two l ≡ true
     → Compiles (schema_in l) set_hand_sql 3 (updating l hand_terms)
@@ -342,6 +472,22 @@ unfolding everything
 set_hand_reads OfOne two = absurd cc
 set_hand_reads AsMade two = refl
 set_hand_reads AsMoved two = refl
+set_hand_reads AsMadeLogged two = refl
+set_hand_reads AsMovedLogged two = refl
+
+-- ---- the place in the journal: all rows of its table, each as its number
+abbrev pub clearing : Layout → Command
+clearing l = Delete (place_in l Journal)
+    (record { lets = []; body = query_of (tree_in l Journal) [] (col 1 0 ∷ []) [] })
+
+clear_place_reads : (l : Layout) → has_table l Journal ≡ true
+    → Compiles (schema_in l) clear_place_sql 0 (clearing l)
+unfolding everything
+clear_place_reads OfOne has = absurd cc
+clear_place_reads AsMade has = absurd cc
+clear_place_reads AsMoved has = absurd cc
+clear_place_reads AsMadeLogged has = refl
+clear_place_reads AsMovedLogged has = refl
 
 -- ---- version 1 moved to version 2
 -- the rows of version 1, each with its own columns, and 0 after them
@@ -417,6 +563,10 @@ set_position_is l two = read_as _ _ 2 _ (set_position_reads l two)
 pub set_hand_is : (l : Layout) → is_two l ≡ true
     → IsRead (schema_in l) set_hand_sql (updating l hand_terms)
 set_hand_is l two = read_as _ _ 3 _ (set_hand_reads l two)
+
+pub clear_place_is : (l : Layout) → has_table l Journal ≡ true
+    → IsRead (schema_in l) clear_place_sql (clearing l)
+clear_place_is l has = read_as _ _ 0 _ (clear_place_reads l has)
 
 pub copy_is : IsRead (schema_in AsMoved) copy_sql copying
 copy_is = read_as _ _ 0 _ copy_reads

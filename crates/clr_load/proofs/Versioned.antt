@@ -1,19 +1,28 @@
 -- What the rows that are listed say of a database that has a version.
-use Rattle.std.proofs.Common.{◌≡◌, ◌∙◌, ℕ, List, [], ◌∷◌, Ok, Option, true, length, pos, slice_get, ap, refl, subst, sym}
+use Rattle.std.proofs.Common.{◌≡◌, ◌∙◌, ℕ, List, [], ◌∷◌, Ok, Err, None, Option, Some, true, false, length, pos, slice_get, ap, refl, subst, sym}
+use Rattle.std.proofs.lemmas.Bool.{true≢false}
 use Rattle.std.specs.Prelude.{option_map}
 use Rattle.sqlite.specs.Effect.{Database}
 use Rattle.sqlite.specs.Order.{Row}
 use Rattle.sqlite.specs.Schema.{Schema}
 use Rattle.sqlite.specs.State.{Shown, State}
 use Rattle.sqlite.specs.Table.{Table}
-use Rattle.clr_tables.specs.RowsRead.{read_version}
+use Rattle.sqlite.specs.Tree.{Trees}
+use Rattle.clr_place.specs.declared.place.Place.{Place}
+use Rattle.clr_result.specs.Results.{◌>>=◌}
+use Rattle.clr_tables.specs.RowsRead.{place_read, read_place, read_version}
 use Rattle.clr_tables.specs.Tables.{version_row}
-use Rattle.clr_tables.specs.declared.table_name.TableName.TheVariants.{Meta, Point}
-use Rattle.clr_load.specs.Layout.{AsMade, AsMoved, Layout, OfOne, has_table}
+use Rattle.clr_tables.specs.Tables.{Tables}
+use Rattle.clr_tables.specs.declared.table_name.TableName.TheVariants.{Journal, Meta, Point}
+use Rattle.clr_load.specs.Layout.{AsMade, AsMadeLogged, AsMoved, AsMovedLogged, Layout, OfOne, has_rows, has_table, is_moved}
 use Rattle.clr_load.specs.Schema.{schema_in}
+use Rattle.clr_load.specs.Cause.{SqlHasCause}
+use Rattle.clr_load.specs.Contract.{Gives, Yields}
+use Rattle.clr_load.specs.declared.fault.StoreFault.{StoreFault}
+use Rattle.clr_load.specs.declared.fault.StoreFault.TheVariants.{Sql, WrongVersion, BadRow, NoMemory, OtherTables}
 use Rattle.clr_load.specs.Sql.{select_sql}
-use Rattle.clr_load.specs.Stored.{HasMeta, HasTablesIn, HasVersion}
-use Rattle.clr_load.proofs.Loading.{has_meta, lists}
+use Rattle.clr_load.specs.Stored.{HasMeta, HasPlaceIn, HasTablesIn, HasVersion, IsPlaced, rows_in}
+use Rattle.clr_load.proofs.Loading.{has_meta, lists, lists_place}
 
 -- one schema is of one layout: they differ in how many tables there are, and in the third
 abbrev mark_of : Schema → ℕ
@@ -26,15 +35,51 @@ pub one_layout : (l k : Layout) → schema_in l ≡ schema_in k → l ≡ k
 one_layout OfOne OfOne same = refl
 one_layout AsMade AsMade same = refl
 one_layout AsMoved AsMoved same = refl
+one_layout AsMadeLogged AsMadeLogged same = refl
+one_layout AsMovedLogged AsMovedLogged same = refl
 one_layout OfOne AsMade same = let e = ap third_of same in absurd cc
-one_layout AsMade OfOne same = let e = ap third_of same in absurd cc
 one_layout OfOne AsMoved same = let e = ap mark_of same in absurd cc
-one_layout AsMoved OfOne same = let e = ap mark_of same in absurd cc
+one_layout OfOne AsMadeLogged same = let e = ap mark_of same in absurd cc
+one_layout OfOne AsMovedLogged same = let e = ap mark_of same in absurd cc
+one_layout AsMade OfOne same = let e = ap third_of same in absurd cc
 one_layout AsMade AsMoved same = let e = ap mark_of same in absurd cc
+one_layout AsMade AsMadeLogged same = let e = ap mark_of same in absurd cc
+one_layout AsMade AsMovedLogged same = let e = ap mark_of same in absurd cc
+one_layout AsMoved OfOne same = let e = ap mark_of same in absurd cc
 one_layout AsMoved AsMade same = let e = ap mark_of same in absurd cc
+one_layout AsMoved AsMadeLogged same = let e = ap third_of same in absurd cc
+one_layout AsMoved AsMovedLogged same = let e = ap mark_of same in absurd cc
+one_layout AsMadeLogged OfOne same = let e = ap mark_of same in absurd cc
+one_layout AsMadeLogged AsMade same = let e = ap mark_of same in absurd cc
+one_layout AsMadeLogged AsMoved same = let e = ap third_of same in absurd cc
+one_layout AsMadeLogged AsMovedLogged same = let e = ap mark_of same in absurd cc
+one_layout AsMovedLogged OfOne same = let e = ap mark_of same in absurd cc
+one_layout AsMovedLogged AsMade same = let e = ap mark_of same in absurd cc
+one_layout AsMovedLogged AsMoved same = let e = ap mark_of same in absurd cc
+one_layout AsMovedLogged AsMadeLogged same = let e = ap mark_of same in absurd cc
 
-pub meta_there : (l : Layout) → has_table l Meta ≡ true
+pub meta_there : (l : Layout) → has_rows l Meta ≡ true
 meta_there l = refl
+
+-- `point` is a table of the layouts that a move leaves, and has no row of the register there
+pub moved_point : (l : Layout) → is_moved l ≡ true → has_rows l Point ≡ true
+moved_point OfOne moved = absurd cc
+moved_point AsMade moved = absurd cc
+moved_point AsMoved moved = refl
+moved_point AsMadeLogged moved = absurd cc
+moved_point AsMovedLogged moved = refl
+
+pub moved_rows : (l : Layout) → is_moved l ≡ true → (t : Tables) → rows_in l Point t ≡ []
+moved_rows OfOne moved t = absurd cc
+moved_rows AsMade moved t = absurd cc
+moved_rows AsMoved moved t = refl
+moved_rows AsMadeLogged moved t = absurd cc
+moved_rows AsMovedLogged moved t = refl
+
+-- where there is the table of the journal, it has a row
+pub some_place : (l : Layout) (trees : Trees) → has_table l Journal ≡ true → IsPlaced l trees → (place : Row) × HasPlaceIn l trees (Some place)
+some_place l trees there (None, none) = absurd (true≢false (sym there ∙ none))
+some_place l trees there (Some place, has) = (place, has)
 
 version_told : (n : ℕ) → read_version (version_row n ∷ []) ≡ Ok (pos n)
 unfolding read_version
@@ -51,10 +96,10 @@ module _ (old new : State) (n : ℕ) (has : HasVersion n old.now) where
       subst (λ rows. (length rows ≡ 1) × (read_version rows ≡ Ok (pos n))) (sym (rows ∙ has.told)) (refl, version_told n)
 
   -- and a `point` that a move has emptied is empty
-  pub emptied : (shown : List Row) → old.now.schema ≡ schema_in AsMoved → Shown (select_sql Point) [] old new shown → shown ≡ []
-  emptied shown is ran =
-      let here = subst (λ l. HasTablesIn l old.now has.tables) (layout_is AsMoved is) has.here in
-      lists AsMoved old new Point has.tables shown refl here.holds here.in_order ran
+  pub emptied : (l : Layout) (shown : List Row) → is_moved l ≡ true → old.now.schema ≡ schema_in l → Shown (select_sql Point) [] old new shown → shown ≡ []
+  emptied l shown moved is ran =
+      let here = subst (λ k. HasTablesIn k old.now has.tables) (layout_is l is) has.here in
+      lists l old new Point has.tables shown (moved_point l moved) here.holds here.in_order ran ∙ moved_rows l moved has.tables
 
 -- the rows of `meta` of a database that has a version, and what they say
 pub version_meta : (db : Database) (n : ℕ) (has : HasVersion n db) → HasMeta db (HasVersion.tables has).meta × (read_version (HasVersion.tables has).meta ≡ Ok (pos n))
@@ -68,6 +113,39 @@ numbered_as n m db has told =
     let same : n ≡ m = cc in
     subst (λ k. HasVersion k db) same has
 
--- `point` is a table of the layout that a move leaves
-pub moved_point : has_table AsMoved Point ≡ true
-moved_point = refl
+-- the journal's table has one row
+pub one_row : (l : Layout) (old new : State) (shown : List Row) → has_table l Journal ≡ true → old.now.schema ≡ schema_in l → IsPlaced l old.now.trees
+    → Shown (select_sql Journal) [] old new shown → length shown ≡ 1
+one_row l old new shown there schema placed ran =
+    let it = some_place l old.now.trees there placed in
+    ap length (lists_place l old new it.0 shown schema it.1 ran)
+
+-- a register without a journal has no place,
+pub no_place_read : (l : Layout) (trees : Trees) (row : Option Row) → has_table l Journal ≡ false → HasPlaceIn l trees row → place_read row ≡ Ok None
+no_place_read l trees None none has = refl
+no_place_read l trees (Some row) none has = absurd (true≢false (sym has.0 ∙ none))
+
+-- and that of one with a journal is what the row of its table reads as
+module _ (l : Layout) (old new : State) (shown : List Row) (there : has_table l Journal ≡ true) (schema : old.now.schema ≡ schema_in l) (ran : Shown (select_sql Journal) [] old new shown) where
+  pub place_given : (row : Option Row) (place : Place) → HasPlaceIn l old.now.trees row → ((one : Row) → shown ≡ one ∷ [] → read_place one ≡ Ok place) → place_read row ≡ Ok (Some place)
+  place_given None place none only = absurd (true≢false (sym there ∙ none))
+  place_given (Some one) place has only = ap (λ r. r >>= λ it. Ok (Some it)) (only one (lists_place l old new one shown schema has ran))
+
+  pub place_fails : (row : Option Row) (fault : StoreFault) → HasPlaceIn l old.now.trees row → ((one : Row) → shown ≡ one ∷ [] → Yields {X = Place} (λ place. place) (read_place one) (Err fault))
+      → Gives {X = Option Place} (λ place. place) (place_read row) (Err fault)
+  place_fails None fault none only = absurd (true≢false (sym there ∙ none))
+  place_fails (Some one) Sql has only = tt
+  place_fails (Some one) NoMemory has only = tt
+  place_fails (Some one) (BadRow table) has only = ap (λ r. r >>= λ it. Ok (Some it)) (only one (lists_place l old new one shown schema has ran))
+  place_fails (Some one) (WrongVersion n) has only = absurd (only one (lists_place l old new one shown schema has ran))
+  place_fails (Some one) OtherTables has only = absurd (only one (lists_place l old new one shown schema has ran))
+
+  pub place_cause : (before after : State) (fault : StoreFault) → IsPlaced l old.now.trees → ((one : Row) → shown ≡ one ∷ [] → Yields {X = Place} (λ place. place) (read_place one) (Err fault))
+      → SqlHasCause before after fault
+  place_cause before after Sql placed only =
+      let it = some_place l old.now.trees there placed in
+      absurd (only it.0 (lists_place l old new it.0 shown schema it.1 ran))
+  place_cause before after NoMemory placed only = tt
+  place_cause before after (BadRow table) placed only = tt
+  place_cause before after (WrongVersion n) placed only = tt
+  place_cause before after OtherTables placed only = tt

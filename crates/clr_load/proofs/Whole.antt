@@ -13,7 +13,7 @@ use Rattle.clr_tables.specs.Tables.{Tables}
 use Rattle.clr_tables.specs.declared.table_name.TableName.{TableName}
 use Rattle.clr_tables.specs.declared.table_name.TableName.TheVariants.{Meta, Section, Staff, Clearance, Step, Hold, NetworkPoint}
 use Rattle.clr_load.specs.Filling.{GivesInto}
-use Rattle.clr_load.specs.Layout.{Layout, has_table, is_two}
+use Rattle.clr_load.specs.Layout.{Layout, has_rows, is_two}
 use Rattle.clr_load.specs.Loads.{Loads, both_fit, both_read}
 use Rattle.clr_load.specs.Reading.{point_values}
 use Rattle.clr_load.specs.Stored.{rows_in}
@@ -86,7 +86,7 @@ network_fits l two = both_in_two l two
 
 module _ {S M : Type 0} (g : Ghosts S) (a b : Held S) (is_meta : M → List Row → Type 0) where
   abbrev pub MetaIs : Result M StoreFault → Type 0
-  MetaIs r = Loads g a b (λ l. has_table l Meta) meta_of is_meta r
+  MetaIs r = Loads g a b (λ l. has_rows l Meta) meta_of is_meta r
 
   abbrev pub Whole : {Z : Type 0} → Held S → (Z → Rows → Type 0) → Result Z StoreFault → Type 0
   Whole last has r = Loads g a last is_two (λ l t. rows_read t) has r

@@ -8,7 +8,7 @@ use Rattle.sqlite_value.specs.Keys.{plain}
 use Rattle.clr_tables.specs.declared.table_name.TableName.{TableName}
 use Rattle.clr_tables.specs.declared.table_name.TableName.TheVariants.{Meta, Section, Point, Staff}
 use Rattle.clr_tables.specs.declared.table_name.TableName.TheVariants.{Clearance, Step, Hold}
-use Rattle.clr_tables.specs.declared.table_name.TableName.TheVariants.{NetworkPoint}
+use Rattle.clr_tables.specs.declared.table_name.TableName.TheVariants.{NetworkPoint, Journal}
 use Rattle.clr_load.specs.Layout.{Layout, tree_in}
 use Rattle.clr_load.specs.Schema.{column_of, first_columns, keys_in, table_at}
 use Rattle.clr_load.specs.declared.column_forms.ColumnForm.{ColumnForm}
@@ -52,3 +52,4 @@ index_text Clearance = codes "sqlite_autoindex_clearance_1"
 index_text Step = codes "sqlite_autoindex_step_1"
 index_text Hold = codes "sqlite_autoindex_hold_1"
 index_text NetworkPoint = codes "sqlite_autoindex_network_point_1"
+index_text Journal = codes "sqlite_autoindex_journal_1"

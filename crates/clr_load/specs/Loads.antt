@@ -10,7 +10,7 @@ use Rattle.clr_tables.specs.declared.table_name.TableName.{TableName}
 use Rattle.clr_load.specs.Cause.{SqlHasCause}
 use Rattle.clr_load.specs.Fault.{IsOfDatabase}
 use Rattle.clr_load.specs.Filling.{GivesInto}
-use Rattle.clr_load.specs.Layout.{Layout, has_table}
+use Rattle.clr_load.specs.Layout.{Layout, has_rows}
 use Rattle.clr_load.specs.Stored.{HasTablesIn}
 use Rattle.clr_load.specs.declared.fault.StoreFault.{StoreFault}
 
@@ -45,4 +45,4 @@ both_read one other = do
 
 -- the layouts that have two tables
 abbrev pub both_fit : TableName → TableName → Layout → Bool
-both_fit one other l = has_table l one && has_table l other
+both_fit one other l = has_rows l one && has_rows l other

@@ -1,21 +1,15 @@
 -- What a text in a column reads as.
 use Rattle.std.specs.Prelude.{◌≡◌, ℕ, Bool, true, false, if◌then◌else◌, List, Result, Ok, Err}
-use Rattle.std.specs.Str.{is_utf8}
 use Rattle.sqlite.specs.Order.{Row, column}
 use Rattle.sqlite.specs.declared.types.Value.{Value}
 use Rattle.sqlite.specs.declared.types.Value.TheVariants.{Null}
 use Rattle.clr_result.specs.Results.{◌>>=◌}
-use Rattle.clr_tables.specs.RowsRead.{PointRead as ReadPoint, read_placed, read_point, text_at}
+use Rattle.clr_tables.specs.RowsRead.{PointRead as ReadPoint, read_placed, read_point}
+pub use Rattle.clr_tables.specs.RowsRead.{utf8_at}
 use Rattle.clr_tables.specs.declared.table_name.TableName.{TableName}
 use Rattle.clr_tables.specs.declared.table_name.TableName.TheVariants.{Point}
 use Rattle.clr_load.specs.declared.table_row.OldPoint.{OldPoint}
 use Rattle.clr_load.specs.declared.table_row.PointRead.{PointRead}
-
--- a text whose bytes are those of characters
-abbrev pub utf8_at : TableName → ℕ → Row → Result (List ℕ) TableName
-utf8_at t place row = do
-  text ← text_at t place row
-  if is_utf8 text then Ok text else Err t
 
 -- what is read, as `value` sees it, or the table of the row that does not read
 abbrev pub Reads : {A X : Type 0} → (X → A) → Result A TableName → Result X TableName → Type 0

@@ -15,7 +15,7 @@ use Rattle.clr_tables.specs.TableText.{table_text}
 use Rattle.clr_tables.specs.declared.table_name.TableName.{TableName}
 use Rattle.clr_tables.specs.declared.table_name.TableName.TheVariants.{Meta, Section, Point, Staff}
 use Rattle.clr_tables.specs.declared.table_name.TableName.TheVariants.{Clearance, Step, Hold}
-use Rattle.clr_tables.specs.declared.table_name.TableName.TheVariants.{NetworkPoint}
+use Rattle.clr_tables.specs.declared.table_name.TableName.TheVariants.{NetworkPoint, Journal}
 use Rattle.clr_load.specs.Layout.{Layout, names_in, tree_in}
 
 -- a column of a STRICT table that has to have a value, and one that may be NULL
@@ -47,6 +47,7 @@ keys_in Clearance = 2
 keys_in Step = 4
 keys_in Hold = 4
 keys_in NetworkPoint = 1
+keys_in Journal = 1
 
 -- the columns of a point, and more after them
 abbrev pub point_columns : List Column → List Column
@@ -76,6 +77,8 @@ columns_in Hold =
     needed (codes "kind") Text ∷ needed (codes "place") Text ∷ needed (codes "requester") Text
     ∷ needed (codes "number") Integer ∷ []
 columns_in NetworkPoint = point_columns (needed (codes "jumper") Integer ∷ [])
+columns_in Journal =
+    needed (codes "id") Text ∷ needed (codes "number") Integer ∷ needed (codes "sum") Text ∷ []
 
 -- the first columns, which a database counts from 1
 abbrev pub first_columns : ℕ → ℕ → List ℕ

@@ -3,7 +3,7 @@ use Rattle.std.specs.Prelude.{ℕ, List, codes}
 use Rattle.clr_tables.specs.declared.table_name.TableName.{TableName}
 use Rattle.clr_tables.specs.declared.table_name.TableName.TheVariants.{Meta, Section, Point, Staff}
 use Rattle.clr_tables.specs.declared.table_name.TableName.TheVariants.{Clearance, Step, Hold}
-use Rattle.clr_tables.specs.declared.table_name.TableName.TheVariants.{NetworkPoint}
+use Rattle.clr_tables.specs.declared.table_name.TableName.TheVariants.{NetworkPoint, Journal}
 
 abbrev pub create_sql : TableName → List ℕ
 create_sql Meta = codes "CREATE TABLE meta (name TEXT NOT NULL, value INTEGER NOT NULL, PRIMARY KEY (name)) STRICT"
@@ -20,6 +20,8 @@ create_sql Hold =
     codes "CREATE TABLE hold (kind TEXT NOT NULL, place TEXT NOT NULL, requester TEXT NOT NULL, number INTEGER NOT NULL, PRIMARY KEY (kind, place, requester, number)) STRICT"
 create_sql NetworkPoint =
     codes "CREATE TABLE network_point (name TEXT NOT NULL, from_end TEXT NOT NULL, to_end TEXT NOT NULL, lockable INTEGER NOT NULL, remote INTEGER NOT NULL, position INTEGER NOT NULL, hand_requester TEXT, hand_number INTEGER, jumper INTEGER NOT NULL, PRIMARY KEY (name)) STRICT"
+create_sql Journal = codes
+    "CREATE TABLE journal (id TEXT NOT NULL, number INTEGER NOT NULL, sum TEXT NOT NULL, PRIMARY KEY (id)) STRICT"
 
 abbrev pub insert_sql : TableName → List ℕ
 insert_sql Meta = codes "INSERT INTO meta VALUES (?1, ?2)"
@@ -31,6 +33,7 @@ insert_sql Step = codes "INSERT INTO step VALUES (?1, ?2, ?3, ?4, ?5, ?6, ?7, ?8
 insert_sql Hold = codes "INSERT INTO hold VALUES (?1, ?2, ?3, ?4)"
 insert_sql NetworkPoint =
     codes "INSERT INTO network_point VALUES (?1, ?2, ?3, ?4, ?5, ?6, ?7, ?8, ?9)"
+insert_sql Journal = codes "INSERT INTO journal VALUES (?1, ?2, ?3)"
 
 -- the row of a key taken away
 abbrev pub delete_sql : TableName → List ℕ
@@ -42,6 +45,7 @@ delete_sql Clearance = codes "DELETE FROM clearance WHERE requester = ?1 AND num
 delete_sql Step = codes "DELETE FROM step WHERE requester = ?1 AND number = ?2 AND round = ?3 AND ordinal = ?4"
 delete_sql Hold = codes "DELETE FROM hold WHERE kind = ?1 AND place = ?2 AND requester = ?3 AND number = ?4"
 delete_sql NetworkPoint = codes "DELETE FROM network_point WHERE name = ?1"
+delete_sql Journal = codes "DELETE FROM journal WHERE id = ?1"
 
 -- the row of a key replaced by one that has it
 abbrev pub replace_sql : TableName → List ℕ
@@ -58,6 +62,7 @@ replace_sql Hold =
     codes "UPDATE hold SET kind = ?1, place = ?2, requester = ?3, number = ?4 WHERE kind = ?1 AND place = ?2 AND requester = ?3 AND number = ?4"
 replace_sql NetworkPoint =
     codes "UPDATE network_point SET name = ?1, from_end = ?2, to_end = ?3, lockable = ?4, remote = ?5, position = ?6, hand_requester = ?7, hand_number = ?8, jumper = ?9 WHERE name = ?1"
+replace_sql Journal = codes "UPDATE journal SET id = ?1, number = ?2, sum = ?3 WHERE id = ?1"
 
 -- all rows, in the order of the whole key
 abbrev pub select_sql : TableName → List ℕ
@@ -72,6 +77,7 @@ select_sql Step =
 select_sql Hold = codes "SELECT kind, place, requester, number FROM hold ORDER BY kind, place, requester, number"
 select_sql NetworkPoint =
     codes "SELECT name, from_end, to_end, lockable, remote, position, hand_requester, hand_number, jumper FROM network_point ORDER BY name"
+select_sql Journal = codes "SELECT id, number, sum FROM journal ORDER BY id"
 
 abbrev pub set_position_sql : List ℕ
 set_position_sql = codes "UPDATE network_point SET position = ?2 WHERE name = ?1"
@@ -79,6 +85,10 @@ set_position_sql = codes "UPDATE network_point SET position = ?2 WHERE name = ?1
 abbrev pub set_hand_sql : List ℕ
 set_hand_sql =
     codes "UPDATE network_point SET hand_requester = ?2, hand_number = ?3 WHERE name = ?1"
+
+-- the place in the journal taken away, whatever it was
+abbrev pub clear_place_sql : List ℕ
+clear_place_sql = codes "DELETE FROM journal"
 
 -- each point of version 1 put among those of version 2, as no jumper
 abbrev pub copy_sql : List ℕ

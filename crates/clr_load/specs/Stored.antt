@@ -1,6 +1,6 @@
 -- WHAT A DATABASE HOLDS: the tables of a register, each row once, in any order.
 use Rattle.std.specs.Prelude.{◌≡◌, ℕ, Bool, true, false, ◌&&◌, ◌==◌, length, List, [], ◌∷◌, map}
-use Rattle.std.specs.Prelude.{None, drop, take}
+use Rattle.std.specs.Prelude.{None, Option, Some, drop, take}
 use Rattle.std.specs.List.{AllByRecursion, list_all}
 use Rattle.std.specs.List.Sorted.{IsPermutation}
 use Rattle.sqlite.specs.Effect.{Database, IsDatabase}
@@ -22,22 +22,26 @@ use Rattle.clr_tables.specs.Tables.{Tables, version_row}
 use Rattle.clr_tables.specs.declared.table_name.TableName.{TableName}
 use Rattle.clr_tables.specs.declared.table_name.TableName.TheVariants.{Meta, Section, Point, Staff}
 use Rattle.clr_tables.specs.declared.table_name.TableName.TheVariants.{Clearance, Step, Hold}
-use Rattle.clr_tables.specs.declared.table_name.TableName.TheVariants.{NetworkPoint}
-use Rattle.clr_load.specs.Layout.{AsMade, AsMoved, Layout, OfOne, has_table, is_two, tree_in, version_of}
+use Rattle.clr_tables.specs.declared.table_name.TableName.TheVariants.{NetworkPoint, Journal}
+use Rattle.clr_load.specs.Layout.{AsMade, AsMadeLogged, AsMoved, AsMovedLogged, Layout, OfOne}
+use Rattle.clr_load.specs.Layout.{has_rows, has_table, is_moved, is_two, tree_in, version_of}
 use Rattle.clr_load.specs.Schema.{behind_meta, columns_in, keys_in, schema_in}
 
--- the rows of a table. In version 2 `point` has none
+-- the rows of a table of the register. In version 2 `point` has none
 abbrev pub rows_in : Layout → TableName → Tables → List Row
 rows_in l Meta t = t.meta
 rows_in l Section t = t.sections
 rows_in OfOne Point t = t.points
 rows_in AsMade Point t = []
 rows_in AsMoved Point t = []
+rows_in AsMadeLogged Point t = []
+rows_in AsMovedLogged Point t = []
 rows_in l Staff t = t.staff
 rows_in l Clearance t = t.clearances
 rows_in l Step t = t.steps
 rows_in l Hold t = t.holds
 rows_in l NetworkPoint t = t.points
+rows_in l Journal t = []
 
 -- whether a value is of a column's kind, or NULL
 abbrev pub is_of_kind : Kind → Value → Bool
@@ -79,8 +83,19 @@ IsInOrder l t = (name : TableName)
 
 -- the trees have these rows, by the name of the table
 abbrev pub HasEachRow : Layout → Trees → (TableName → List Row) → Type 0
-HasEachRow l trees rows = (name : TableName) → has_table l name ≡ true
+HasEachRow l trees rows = (name : TableName) → has_rows l name ≡ true
     → HasRows (columns_in name) (trees (tree_in l name)) (rows name)
+
+-- THE TABLE OF THE JOURNAL has one row, the place of the register in it; or a layout has no such
+-- table
+abbrev pub HasPlaceIn : Layout → Trees → Option Row → Type 0
+HasPlaceIn l trees None = has_table l Journal ≡ false
+HasPlaceIn l trees (Some place) = (has_table l Journal ≡ true)
+    × HasRows (columns_in Journal) (trees (tree_in l Journal)) (place ∷ [])
+
+-- it has one row, whatever that is, if it is there
+abbrev pub IsPlaced : Layout → Trees → Type 0
+IsPlaced l trees = (place : Option Row) × HasPlaceIn l trees place
 
 -- the database has the tables of a layout alone, with these rows
 pub record Keeps (l : Layout) (db : Database) (told : TableName → List Row) : Type 0 where
@@ -106,11 +121,21 @@ pub record AreTables (trees : Trees) (t : Tables) : Type 0 where
   pub listed : IsSound (schema_in layout) trees
   pub rows : HasEachRow layout trees (λ name. rows_in layout name t)
   pub in_order : IsInOrder layout t
+  pub placed : IsPlaced layout trees
+
+-- THE TREES HAVE THIS PLACE in a journal, or have no table for one, and their catalogue lists the
+-- tables of the register alone
+pub record ArePlaced (trees : Trees) (place : Option Row) : Type 0 where
+  pub layout : Layout
+  pub two : is_two layout ≡ true
+  pub listed : IsSound (schema_in layout) trees
+  pub placed : HasPlaceIn layout trees place
 
 -- THE DATABASE HAS THE TABLES OF A LAYOUT, and no others
 pub record HasTablesIn (l : Layout) (db : Database) (t : Tables) : Type 0 where
   pub holds : Holds l db t
   pub in_order : IsInOrder l t
+  pub placed : IsPlaced l db.trees
 
 -- THE DATABASE HAS THESE TABLES, of version 2, and no others
 pub record HasTables (db : Database) (t : Tables) : Type 0 where
@@ -125,7 +150,10 @@ pub record IsLaidOut (version : ℕ) (db : Database) : Type 0 where
   pub version_is : version_of layout ≡ version
   pub schema : db.schema ≡ schema_in layout
   -- the `point` that a move has emptied is empty
-  pub emptied : layout ≡ AsMoved → db.trees (tree_in AsMoved Point) ≡ []
+  pub emptied : is_moved layout ≡ true → db.trees (tree_in layout Point) ≡ []
+  -- the table of the journal has one row
+  pub one_place : has_table layout Journal ≡ true
+      → length (db.trees (tree_in layout Journal)) ≡ 1
 
 -- the rows of each table of a layout have numbers of their own, which rise from row to row
 abbrev pub AreNumbered : Layout → Trees → Type 0

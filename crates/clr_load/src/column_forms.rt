@@ -248,6 +248,24 @@ static NETWORK_POINT: [ColumnForm; 9] = [
     },
 ];
 
+static JOURNAL: [ColumnForm; 3] = [
+    ColumnForm {
+        name: "id",
+        kind: Kind::Text,
+        not_null: true,
+    },
+    ColumnForm {
+        name: "number",
+        kind: Kind::Integer,
+        not_null: true,
+    },
+    ColumnForm {
+        name: "sum",
+        kind: Kind::Text,
+        not_null: true,
+    },
+];
+
 /// The columns of a table.
 pub(crate) fn columns_of(table: TableName) -> &'static [ColumnForm]
     ensures { map column_by result.now ≡ columns_in table }
@@ -261,6 +279,7 @@ pub(crate) fn columns_of(table: TableName) -> &'static [ColumnForm]
         TableName::Step => &STEP,
         TableName::Hold => &HOLD,
         TableName::NetworkPoint => &NETWORK_POINT,
+        TableName::Journal => &JOURNAL,
     }
 }
 

@@ -6,16 +6,16 @@ ghost use Rattle.sqlite.specs.Held.{state};
 ghost use Rattle.sqlite.specs.Order.{Row as SqlRow};
 ghost use Rattle.sqlite.specs.State.{HasCleanDisk, IsLive, IsUnchanged, Shown, Survives};
 ghost use Rattle.clr_tables.specs.RowsRead.{read_version};
-ghost use Rattle.clr_tables.specs.declared.table_name.TableName.TheVariants.{Point};
+ghost use Rattle.clr_tables.specs.declared.table_name.TableName.TheVariants.{Journal, Point};
 ghost use Rattle.clr_load.specs.Cause.{SqlHasCause};
 ghost use Rattle.clr_load.specs.Contract.{TellsVersion};
 ghost use Rattle.clr_load.specs.Fault.{IsOfDatabase, IsOfExpected, IsOfTables};
-ghost use Rattle.clr_load.specs.Layout.{AsMoved, Layout as AnyLayout, has_table, tree_in};
+ghost use Rattle.clr_load.specs.Layout.{Layout as AnyLayout, has_table, is_moved, tree_in};
 ghost use Rattle.clr_load.specs.Layout.{version_of};
 ghost use Rattle.clr_load.specs.Loads.{Stays};
 ghost use Rattle.clr_load.specs.Schema.{schema_in};
 ghost use Rattle.clr_load.specs.Sql.{select_sql};
-ghost use Rattle.clr_load.specs.Stored.{HasMeta, HasVersion, IsLaidOut, LacksMeta};
+ghost use Rattle.clr_load.specs.Stored.{HasMeta, HasVersion, IsLaidOut, IsPlaced, LacksMeta};
 ghost use Rattle.clr_load.specs.declared.fault.StoreFault.TheVariants.{OtherTables, Sql};
 
 use crate::fault::StoreFault;
@@ -27,7 +27,7 @@ use clr_tables::TableName;
 use sqlite::{Alter, Connection, Row};
 
 /// All rows of a table, in the order of its key, outside a transaction.
-fn list_table<S: Alter>(conn: &mut Connection<S>, table: TableName) -> Result<Vec<Row>, StoreFault>
+pub(crate) fn list_table<S: Alter>(conn: &mut Connection<S>, table: TableName) -> Result<Vec<Row>, StoreFault>
     ensures mode { conn.old.in_transaction ≡ false → conn.new.in_transaction ≡ false }
     ensures survives { Survives (state S.Store conn.old) (state S.Store conn.new) (λ _. ⊥) }
     ensures unchanged { HasCleanDisk (state S.Store conn.new) → MatchResult result
@@ -65,6 +65,8 @@ fn expect_rows<S: Alter>(conn: &mut Connection<S>, layout: Layout) -> Result<(),
         → Stays (state S.Store conn.old) (state S.Store conn.new) }
     ensures was_open { HasCleanDisk (state S.Store conn.new)
         → IsTrue (state S.Store conn.old).is_open ⊎ IsErrAnd result IsOfDatabase }
+    ensures still_open { HasCleanDisk (state S.Store conn.new)
+        → OnOk result (IsTrue (state S.Store conn.new).is_open) }
     ensures fault { IfErr result IsOfTables }
     ensures other { HasCleanDisk (state S.Store conn.new)
         → (state S.Store conn.old).now.schema ≡ schema_in layout
@@ -78,8 +80,9 @@ fn expect_rows<S: Alter>(conn: &mut Connection<S>, layout: Layout) -> Result<(),
         → IsTrue (state S.Store conn.new).is_open
         → (state S.Store conn.new).committed ≡ (state S.Store conn.old).committed }
     ensures emptied { HasCleanDisk (state S.Store conn.new)
-        → (state S.Store conn.old).now.schema ≡ schema_in layout → OnOk result (layout ≡ AsMoved
-        → (state S.Store conn.old).now.trees (tree_in AsMoved Point) ≡ []) }
+        → (state S.Store conn.old).now.schema ≡ schema_in layout
+        → OnOk result (is_moved layout ≡ true
+        → (state S.Store conn.old).now.trees (tree_in layout Point) ≡ []) }
     ensures cause { conn.old.in_transaction ≡ false → HasCleanDisk (state S.Store conn.new)
         → (state S.Store conn.old).now.schema ≡ schema_in layout
         → IfErr result (SqlHasCause (state S.Store conn.old) (state S.Store conn.new)) }
@@ -91,11 +94,55 @@ fn expect_rows<S: Alter>(conn: &mut Connection<S>, layout: Layout) -> Result<(),
     if !is_alone(&meta, layout.version()) {
         return Err(StoreFault::OtherTables);
     }
-    if layout != Layout::AsMoved {
+    if !layout.is_moved() {
         return Ok(());
     }
     let points = list_table(conn, TableName::Point)?;
     if !points.is_empty() {
+        return Err(StoreFault::OtherTables);
+    }
+    Ok(())
+}
+
+/// Whether there is one row.
+fn is_one(rows: &[Row]) -> bool
+    ensures { IsTrue result ↔ (length rows.now ≡ 1) }
+{
+    rows.len() == 1
+}
+
+/// Refuses a table of the journal, where there is one, that has not one row.
+fn expect_place<S: Alter>(conn: &mut Connection<S>, layout: Layout) -> Result<(), StoreFault>
+    ensures mode { conn.old.in_transaction ≡ false → conn.new.in_transaction ≡ false }
+    ensures survives { Survives (state S.Store conn.old) (state S.Store conn.new) (λ _. ⊥) }
+    ensures stays { HasCleanDisk (state S.Store conn.new)
+        → Stays (state S.Store conn.old) (state S.Store conn.new) }
+    ensures fault { IfErr result IsOfTables }
+    ensures other { HasCleanDisk (state S.Store conn.new)
+        → (state S.Store conn.old).now.schema ≡ schema_in layout
+        → IfErr result (λ fault. fault ≡ OtherTables
+        → IsPlaced layout (state S.Store conn.old).now.trees → ⊥) }
+    ensures same { HasCleanDisk (state S.Store conn.new) → IsTrue (state S.Store conn.new).is_open
+        → (state S.Store conn.new).now ≡ (state S.Store conn.old).now }
+    ensures committed { HasCleanDisk (state S.Store conn.new)
+        → IsTrue (state S.Store conn.new).is_open
+        → (state S.Store conn.new).committed ≡ (state S.Store conn.old).committed }
+    ensures one { HasCleanDisk (state S.Store conn.new)
+        → (state S.Store conn.old).now.schema ≡ schema_in layout
+        → OnOk result (has_table layout Journal ≡ true
+        → length ((state S.Store conn.old).now.trees (tree_in layout Journal)) ≡ 1) }
+    ensures cause { conn.old.in_transaction ≡ false → HasCleanDisk (state S.Store conn.new)
+        → (state S.Store conn.old).now.schema ≡ schema_in layout
+        → IfErr result (SqlHasCause (state S.Store conn.old) (state S.Store conn.new)) }
+{
+    if !conn.is_autocommit() {
+        return Err(StoreFault::Sql);
+    }
+    if !layout.is_logged() {
+        return Ok(());
+    }
+    let places = list_table(conn, TableName::Journal)?;
+    if !is_one(&places) {
         return Err(StoreFault::OtherTables);
     }
     Ok(())
@@ -120,7 +167,8 @@ fn known(version: i64) -> Option<u8>
 /// `Sql` where a transaction is open, there is no table `meta`, or the database fails; `NoMemory`
 /// where memory runs out; `BadRow` of `meta` where that has no version. `OtherTables` where there is
 /// another table, index, view or trigger, where one is missing or of another form, where `meta` has
-/// another row, and where a `point` that a move has emptied has one.
+/// another row, where a `point` that a move has emptied has one, and where the table of the journal
+/// has not one row.
 pub fn expect_version<S: Alter>(conn: &mut Connection<S>, oldest: u8) -> Result<i64, StoreFault>
     ensures mode { conn.old.in_transaction ≡ false → conn.new.in_transaction ≡ false }
     ensures version { HasCleanDisk (state S.Store conn.new) → (meta : List SqlRow)
@@ -163,5 +211,6 @@ pub fn expect_version<S: Alter>(conn: &mut Connection<S>, oldest: u8) -> Result<
         return Err(StoreFault::OtherTables);
     }
     expect_rows(conn, layout)?;
+    expect_place(conn, layout)?;
     Ok(version)
 }

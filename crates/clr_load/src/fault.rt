@@ -17,8 +17,8 @@ pub enum StoreFault {
     /// A row of the table reads no value of its type.
     BadRow(TableName),
     /// The tables are not those of a register: there is another table, index, view or trigger, one
-    /// is missing or is of another form, `meta` has another row, or `point` has rows beside
-    /// `network_point`.
+    /// is missing or is of another form, `meta` has another row, `journal` has not one row, or
+    /// `point` has rows beside `network_point`.
     OtherTables,
     /// Memory ran out.
     NoMemory,

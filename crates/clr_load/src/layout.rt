@@ -1,6 +1,7 @@
 //! How the tables of a register lie in a database.
 ghost use Rattle.std.specs.Prelude.{◌≡◌, ◌<◌};
-ghost use Rattle.clr_load.specs.Layout.{names_in, tree_in, version_of};
+ghost use Rattle.clr_load.specs.Layout.{has_table, is_moved, names_in, tree_in, version_of};
+ghost use Rattle.clr_tables.specs.declared.table_name.TableName.TheVariants.{Journal};
 
 use clr_tables::TableName;
 
@@ -13,6 +14,10 @@ pub enum Layout {
     AsMade,
     /// Version 2, moved from version 1: `point` stays, and is empty.
     AsMoved,
+    /// As made, with the table of the register's place in its journal.
+    AsMadeLogged,
+    /// As moved, with that table.
+    AsMovedLogged,
 }
 
 impl Layout {
@@ -23,6 +28,27 @@ impl Layout {
         match self {
             Layout::OfOne => 1,
             Layout::AsMade | Layout::AsMoved => 2,
+            Layout::AsMadeLogged | Layout::AsMovedLogged => 2,
+        }
+    }
+
+    /// Whether there is the `point` that a move has emptied.
+    pub(crate) fn is_moved(self) -> bool
+        ensures { result ≡ is_moved self }
+    {
+        match self {
+            Layout::OfOne | Layout::AsMade | Layout::AsMadeLogged => false,
+            Layout::AsMoved | Layout::AsMovedLogged => true,
+        }
+    }
+
+    /// Whether there is the table of the register's place in its journal.
+    pub(crate) fn is_logged(self) -> bool
+        ensures { result ≡ has_table self Journal }
+    {
+        match self {
+            Layout::OfOne | Layout::AsMade | Layout::AsMoved => false,
+            Layout::AsMadeLogged | Layout::AsMovedLogged => true,
         }
     }
 
@@ -59,13 +85,34 @@ impl Layout {
                 TableName::Hold,
                 TableName::NetworkPoint,
             ],
+            Layout::AsMadeLogged => &[
+                TableName::Meta,
+                TableName::Section,
+                TableName::NetworkPoint,
+                TableName::Staff,
+                TableName::Clearance,
+                TableName::Step,
+                TableName::Hold,
+                TableName::Journal,
+            ],
+            Layout::AsMovedLogged => &[
+                TableName::Meta,
+                TableName::Section,
+                TableName::Point,
+                TableName::Staff,
+                TableName::Clearance,
+                TableName::Step,
+                TableName::Hold,
+                TableName::NetworkPoint,
+                TableName::Journal,
+            ],
         }
     }
 
     /// The tree that has the rows of a table.
     pub(crate) fn tree(self, table: TableName) -> u32
         ensures tree { result ≡ tree_in self table }
-        ensures low { result < 16 }
+        ensures low { result < 18 }
     {
         match (self, table) {
             (_, TableName::Meta) => 0,
@@ -75,8 +122,10 @@ impl Layout {
             (_, TableName::Clearance) => 8,
             (_, TableName::Step) => 10,
             (_, TableName::Hold) => 12,
-            (Layout::AsMade, TableName::NetworkPoint) => 4,
-            (Layout::OfOne | Layout::AsMoved, TableName::NetworkPoint) => 14,
+            (Layout::AsMade | Layout::AsMadeLogged, TableName::NetworkPoint) => 4,
+            (_, TableName::NetworkPoint) => 14,
+            (Layout::AsMadeLogged, TableName::Journal) => 14,
+            (_, TableName::Journal) => 16,
         }
     }
 }

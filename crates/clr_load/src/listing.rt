@@ -6,7 +6,7 @@ ghost use Rattle.sqlite.specs.State.{HasCleanDisk, Shown};
 ghost use Rattle.clr_load.specs.Cause.{SqlHasCause};
 ghost use Rattle.clr_load.specs.Fault.{IsOfDatabase};
 ghost use Rattle.clr_load.specs.Found.{Lists};
-ghost use Rattle.clr_load.specs.Layout.{has_table};
+ghost use Rattle.clr_load.specs.Layout.{has_rows};
 ghost use Rattle.clr_load.specs.Sql.{select_sql};
 ghost use Rattle.clr_load.specs.Stored.{HasMeta, rows_in};
 
@@ -37,6 +37,7 @@ pub(crate) fn select_sql(table: TableName) -> &'static str
         TableName::NetworkPoint =>
             "SELECT name, from_end, to_end, lockable, remote, position, hand_requester, \
              hand_number, jumper FROM network_point ORDER BY name",
+        TableName::Journal => "SELECT id, number, sum FROM journal ORDER BY id",
     }
 }
 
@@ -45,7 +46,7 @@ pub(crate) fn list_rows<S: Alter>(
     tx: &mut Transaction<'_, S>,
     table: TableName,
 ) -> Result<Vec<Row>, StoreFault>
-    ensures lists { Lists S.Store tx.old tx.new IsOfDatabase (λ l. has_table l table)
+    ensures lists { Lists S.Store tx.old tx.new IsOfDatabase (λ l. has_rows l table)
         (λ l t. rows_in l table t) (λ rows. rows.items) result }
     ensures shown { HasCleanDisk (state S.Store tx.new.conn.now) → IfOk result (λ rows.
         Shown (select_sql table) [] (state S.Store tx.old.conn.now)

@@ -9,7 +9,7 @@ ghost use Rattle.clr_load.specs.Cause.{SqlHasCause};
 ghost use Rattle.clr_load.specs.Contract.{GivesRows, IsSaved};
 ghost use Rattle.clr_load.specs.Fault.{IsOfDatabase};
 ghost use Rattle.clr_load.specs.Filling.{GivesInto, IsLoaded};
-ghost use Rattle.clr_load.specs.Layout.{has_table, is_two};
+ghost use Rattle.clr_load.specs.Layout.{has_rows, is_two};
 ghost use Rattle.clr_load.specs.Loads.{Loads, both_fit, both_read};
 ghost use Rattle.clr_load.specs.Stored.{HasTables, rows_in};
 
@@ -29,7 +29,7 @@ use std::alloc::{AllocError, Global};
 
 /// The rows that have the version.
 fn read_meta<S: Alter>(conn: &mut Connection<S>) -> Result<Vec<Row>, StoreFault>
-    ensures { Loads S.Store conn.old conn.new (λ l. has_table l Meta) (λ l t. Ok t.meta)
+    ensures { Loads S.Store conn.old conn.new (λ l. has_rows l Meta) (λ l t. Ok t.meta)
         (λ rows meta. rows.items ≡ meta) result }
 {
     let rows = conn.query_all(select_sql(TableName::Meta), &[])?;

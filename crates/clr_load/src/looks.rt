@@ -145,12 +145,13 @@ fn index_name(table: TableName) -> &'static str
         TableName::Step => "sqlite_autoindex_step_1",
         TableName::Hold => "sqlite_autoindex_hold_1",
         TableName::NetworkPoint => "sqlite_autoindex_network_point_1",
+        TableName::Journal => "sqlite_autoindex_journal_1",
     }
 }
 
 /// Whether an index is that of the key of a table in this tree.
 fn is_index(index: &Index, table: TableName, tree: u32) -> bool
-    requires { tree < 16 }
+    requires { tree < 18 }
     ensures { IsTrue result ↔ (index.now ≡ index_at tree table) }
 {
     if index.name.as_slice() != index_name(table).as_bytes() {
@@ -221,6 +222,12 @@ pub(crate) fn layout_in(schema: &Schema) -> Option<Layout>
     }
     if is_laid_out(schema, Layout::AsMoved) {
         return Some(Layout::AsMoved);
+    }
+    if is_laid_out(schema, Layout::AsMadeLogged) {
+        return Some(Layout::AsMadeLogged);
+    }
+    if is_laid_out(schema, Layout::AsMovedLogged) {
+        return Some(Layout::AsMovedLogged);
     }
     if is_laid_out(schema, Layout::OfOne) {
         return Some(Layout::OfOne);

@@ -19,7 +19,7 @@ use sqlite::types::ValueRef;
 
 /// A text.
 #[tactic(auto, using(crate::proofs::TextsRead::is_text_at, crate::proofs::TextsRead::no_text_at))]
-fn text_at(table: TableName, place: usize, row: &Row) -> Result<&str, TableName>
+pub(crate) fn text_at(table: TableName, place: usize, row: &Row) -> Result<&str, TableName>
     ensures { Reads (λ text. text.now) (utf8_at table place row.now) result }
 {
     match row.get_ref(place) {

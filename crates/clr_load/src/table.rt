@@ -1,7 +1,7 @@
 //! A table, read row by row.
 ghost use Rattle.std.specs.Prelude.{◌≡◌};
 ghost use Rattle.clr_tables.specs.RowsRead.{all_read};
-ghost use Rattle.clr_load.specs.Layout.{has_table};
+ghost use Rattle.clr_load.specs.Layout.{has_rows};
 ghost use Rattle.clr_load.specs.Loads.{Loads};
 ghost use Rattle.clr_load.specs.Stored.{rows_in};
 
@@ -20,7 +20,7 @@ pub(crate) fn read_table<S: Alter, T: TableRow, F: Fill<T>>(
     alloc: Global,
     table: TableName,
 ) -> Result<F, StoreFault>
-    ensures { Loads S.Store conn.old conn.new (λ l. has_table l table)
+    ensures { Loads S.Store conn.old conn.new (λ l. has_rows l table)
         (λ l t. all_read T.TableRow.values (rows_in l table t)) F.has result }
 {
     let mut into = F::empty(alloc);

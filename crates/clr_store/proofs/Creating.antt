@@ -39,20 +39,20 @@ use Rattle.clr_rules.specs.States.{state_key, state_of}
 use Rattle.std.proofs.lemmas.Cmp.{nat_list_cmp_total}
 use Rattle.clr_tables.specs.Tables.{Tables, jumper_row, section_row, staff_row, state_at, tables_of}
 use Rattle.clr_tables.specs.declared.table_name.TableName.{TableName}
-use Rattle.clr_tables.specs.declared.table_name.TableName.TheVariants.{Meta, Section, Point, Staff, Clearance, Step, Hold, NetworkPoint}
-use Rattle.clr_store.specs.Change.{Changes, Does, HasEmpty, Makes, Reaches, added, filled, opening_points, tables_with, with_rows}
+use Rattle.clr_tables.specs.declared.table_name.TableName.TheVariants.{Meta, Section, Point, Staff, Clearance, Step, Hold, NetworkPoint, Journal}
+use Rattle.clr_store.specs.Change.{Changes, ChangesPlace, Does, HasEmpty, Makes, Reaches, added, filled, opening_points, tables_with, with_rows}
 use Rattle.clr_load.specs.Layout.{has_table, is_two, names_before, names_in, place_in, tree_in}
 use Rattle.clr_load.specs.declared.layout.Layout.{Layout}
-use Rattle.clr_load.specs.declared.layout.Layout.TheVariants.{AsMade, AsMoved, OfOne}
+use Rattle.clr_load.specs.declared.layout.Layout.TheVariants.{AsMade, AsMadeLogged, AsMoved, AsMovedLogged, OfOne}
 use Rattle.clr_load.specs.Schema.{columns_in, no_schema, schema_of, table_at, table_in}
 use Rattle.clr_load.specs.Sql.{create_sql}
-use Rattle.clr_load.specs.Stored.{HasEachRow, HasRows, HasTables, Holds, IsInOrder, rows_in}
+use Rattle.clr_load.specs.Stored.{HasEachRow, HasRows, ArePlaced, HasTables, Holds, IsInOrder, IsPlaced, rows_in}
 use Rattle.clr_load.specs.declared.fault.StoreFault.{StoreFault}
 use Rattle.clr_load.specs.Fault.{IsOfDatabase}
 use Rattle.clr_load.proofs.Inside.{runs_none, runs_on, then_runs}
 use Rattle.clr_store.proofs.Effects.{went}
 use Rattle.clr_load.proofs.AllRead.{same_value}
-use Rattle.clr_load.proofs.Loading.{then_kept}
+use Rattle.clr_load.proofs.Loading.{in_layout, then_kept}
 use Rattle.clr_store.proofs.Inside.{in_any_order, then_changes}
 use Rattle.clr_load.proofs.Texts.{create_is, create_text, created_is, defines}
 use Rattle.clr_store.proofs.Layouts.{all_at, named_at, nothing, rows_with, twice, two_rows}
@@ -67,53 +67,95 @@ pub lacks : (l : Layout) (name : TableName) → has_table l name ≡ true → la
 lacks OfOne Meta has = refl
 lacks AsMade Meta has = refl
 lacks AsMoved Meta has = refl
+lacks AsMadeLogged Meta has = refl
+lacks AsMovedLogged Meta has = refl
 lacks OfOne Section has = refl
 lacks AsMade Section has = refl
 lacks AsMoved Section has = refl
+lacks AsMadeLogged Section has = refl
+lacks AsMovedLogged Section has = refl
 lacks OfOne Point has = refl
 lacks AsMade Point has = absurd cc
 lacks AsMoved Point has = refl
+lacks AsMadeLogged Point has = absurd cc
+lacks AsMovedLogged Point has = refl
 lacks OfOne Staff has = refl
 lacks AsMade Staff has = refl
 lacks AsMoved Staff has = refl
+lacks AsMadeLogged Staff has = refl
+lacks AsMovedLogged Staff has = refl
 lacks OfOne Clearance has = refl
 lacks AsMade Clearance has = refl
 lacks AsMoved Clearance has = refl
+lacks AsMadeLogged Clearance has = refl
+lacks AsMovedLogged Clearance has = refl
 lacks OfOne Step has = refl
 lacks AsMade Step has = refl
 lacks AsMoved Step has = refl
+lacks AsMadeLogged Step has = refl
+lacks AsMovedLogged Step has = refl
 lacks OfOne Hold has = refl
 lacks AsMade Hold has = refl
 lacks AsMoved Hold has = refl
+lacks AsMadeLogged Hold has = refl
+lacks AsMovedLogged Hold has = refl
 lacks OfOne NetworkPoint has = absurd cc
 lacks AsMade NetworkPoint has = refl
 lacks AsMoved NetworkPoint has = refl
+lacks AsMadeLogged NetworkPoint has = refl
+lacks AsMovedLogged NetworkPoint has = refl
+lacks OfOne Journal has = absurd cc
+lacks AsMade Journal has = absurd cc
+lacks AsMoved Journal has = absurd cc
+lacks AsMadeLogged Journal has = refl
+lacks AsMovedLogged Journal has = refl
 
 pub next_is : (l : Layout) (name : TableName) → has_table l name ≡ true → next_tree (schema_of l (names_before l name)) ≡ tree_in l name
 next_is OfOne Meta has = refl
 next_is AsMade Meta has = refl
 next_is AsMoved Meta has = refl
+next_is AsMadeLogged Meta has = refl
+next_is AsMovedLogged Meta has = refl
 next_is OfOne Section has = refl
 next_is AsMade Section has = refl
 next_is AsMoved Section has = refl
+next_is AsMadeLogged Section has = refl
+next_is AsMovedLogged Section has = refl
 next_is OfOne Point has = refl
 next_is AsMade Point has = absurd cc
 next_is AsMoved Point has = refl
+next_is AsMadeLogged Point has = absurd cc
+next_is AsMovedLogged Point has = refl
 next_is OfOne Staff has = refl
 next_is AsMade Staff has = refl
 next_is AsMoved Staff has = refl
+next_is AsMadeLogged Staff has = refl
+next_is AsMovedLogged Staff has = refl
 next_is OfOne Clearance has = refl
 next_is AsMade Clearance has = refl
 next_is AsMoved Clearance has = refl
+next_is AsMadeLogged Clearance has = refl
+next_is AsMovedLogged Clearance has = refl
 next_is OfOne Step has = refl
 next_is AsMade Step has = refl
 next_is AsMoved Step has = refl
+next_is AsMadeLogged Step has = refl
+next_is AsMovedLogged Step has = refl
 next_is OfOne Hold has = refl
 next_is AsMade Hold has = refl
 next_is AsMoved Hold has = refl
+next_is AsMadeLogged Hold has = refl
+next_is AsMovedLogged Hold has = refl
 next_is OfOne NetworkPoint has = absurd cc
 next_is AsMade NetworkPoint has = refl
 next_is AsMoved NetworkPoint has = refl
+next_is AsMadeLogged NetworkPoint has = refl
+next_is AsMovedLogged NetworkPoint has = refl
+next_is OfOne Journal has = absurd cc
+next_is AsMade Journal has = absurd cc
+next_is AsMoved Journal has = absurd cc
+next_is AsMadeLogged Journal has = refl
+next_is AsMovedLogged Journal has = refl
 
 pub makes_table : (l : Layout) (old new : State) (name : TableName) (count : ℕ) → has_table l name ≡ true → ExecutesInside 0 (create_sql name) [] old new (Ok count)
     → Makes old new (HasEmpty l (names_before l name)) (HasEmpty l (names_before l name ++ name ∷ []))
@@ -181,6 +223,7 @@ one_more_row old new name news k row here within is both = record {
   tables = λ l two t has. subst (Holds l new.now)
       (twice name here (λ rows. row ∷ rows) (added (take k news)) t ∙ ap (λ (f : List Row → List Row). with_rows name f t) (λ i rows. sym (added_more news rows k row within is) i))
       (both.tables l two t has);
+  place = both.place;
 }
 
 -- one more of the items, each as its row
@@ -219,6 +262,7 @@ no_rows s name inside = record {
   inside = inside;
   kept = record { was_open = λ is_open. is_open; committed = λ _. refl };
   tables = λ l two t has. subst (Holds l s.now) (sym (nothing name t)) has;
+  place = λ l two t has there. refl;
 }
 
 pub adds_none : {S : Type 0} (g : Ghosts S) (tx : Transaction S) (name : TableName) → Does {X = Unit {0}} g tx tx (with_rows name (added [])) (Ok tt)
@@ -235,8 +279,8 @@ pub has_none : (l : Layout) → is_two l ≡ true → (db : Database) → HasEmp
 has_none l two db has sound = record {
   schema = has.schema;
   listed = subst (λ s. IsSound s db.trees) has.schema sound;
-  rows = λ name there. subst (HasRows (columns_in name) (db.trees (tree_in l name))) (sym (two_rows l two name no_tables ∙ rows_with (λ _. []) refl name))
-      (empty_rows (columns_in name) (db.trees (tree_in l name)) (all_at _ (names_in l) (place_in l name) name (named_at l name there) has.empty));
+  rows = λ name there. subst (HasRows (columns_in name) (db.trees (tree_in l name))) (sym (two_rows l two name no_tables ∙ rows_with (λ _. []) refl refl name))
+      (empty_rows (columns_in name) (db.trees (tree_in l name)) (all_at _ (names_in l) (place_in l name) name (named_at l name (in_layout l name there)) has.empty));
 }
 
 text_order : (a b : List ℕ) → row_cmp (Text a ∷ []) (Text b ∷ []) ≡ name_cmp a b
@@ -279,34 +323,39 @@ points_first g net (p ∷ rest) within =
     λ i. jumper_row (unplaced p) (unwrap_or (found i) (first_state (unplaced p))) ∷ points_first g net rest (λ q there. within q (Contains-later p q rest there)) i
 
 -- the rows that are inserted are those of the opening register
-pub fills : (db : Database) (g : Grid) (staff : List StaffRow) → IsNetwork g → IsStaff staff → Holds AsMade db (filled g.sections g.points staff no_tables) → HasTables db (tables_of (opening g staff))
-fills db g staff net is_staff has = record {
-  layout = AsMade;
-  two = refl;
-  here = record { holds = record { schema = has.schema; listed = has.listed; rows = at }; in_order = ordered };
+pub fills : (l : Layout) → is_two l ≡ true → (db : Database) (g : Grid) (staff : List StaffRow) → IsNetwork g → IsStaff staff → IsPlaced l db.trees
+    → Holds l db (filled g.sections g.points staff no_tables) → HasTables db (tables_of (opening g staff))
+fills l two db g staff net is_staff placed has = record {
+  layout = l;
+  two = two;
+  here = record { holds = record { schema = has.schema; listed = has.listed; rows = at }; in_order = ordered; placed = placed };
 }
   where
-    front : (name : TableName) (news : List Row) → HasRows (columns_in name) (db.trees (tree_in AsMade name)) (added news []) → HasRows (columns_in name) (db.trees (tree_in AsMade name)) news
-    front name news there = in_any_order (columns_in name) (db.trees (tree_in AsMade name)) (added news []) news
+    front : (name : TableName) (news : List Row) → HasRows (columns_in name) (db.trees (tree_in l name)) (added news []) → HasRows (columns_in name) (db.trees (tree_in l name)) news
+    front name news there = in_any_order (columns_in name) (db.trees (tree_in l name)) (added news []) news
         (IsPermutation-sym _ _ (subst (λ l. IsPermutation l (added news [])) (append-nil news) (added_same news []))) there
 
     points : opening_points g.points ≡ rows_in AsMade NetworkPoint (tables_of (opening g staff))
     points = sym (points_first g net g.points (λ p there. there))
 
-    at : HasEachRow AsMade db.trees (λ name. rows_in AsMade name (tables_of (opening g staff)))
+    no_points : (t : Tables) → rows_in l Point t ≡ []
+    no_points t = two_rows l two Point t
+
+    at : HasEachRow l db.trees (λ name. rows_in l name (tables_of (opening g staff)))
     at Meta there = has.rows Meta refl
     at Section there = front Section (map section_row g.sections) (has.rows Section refl)
-    at Point there = absurd cc
+    at Point there = subst (HasRows (columns_in Point) (db.trees (tree_in l Point))) (no_points (filled g.sections g.points staff no_tables) ∙ sym (no_points (tables_of (opening g staff)))) (has.rows Point there)
     at Staff there = front Staff (map staff_row staff) (has.rows Staff refl)
     at Clearance there = has.rows Clearance refl
     at Step there = has.rows Step refl
     at Hold there = has.rows Hold refl
-    at NetworkPoint there = subst (HasRows (columns_in NetworkPoint) (db.trees 4)) points (front NetworkPoint (opening_points g.points) (has.rows NetworkPoint refl))
+    at NetworkPoint there = subst (HasRows (columns_in NetworkPoint) (db.trees (tree_in l NetworkPoint))) points (front NetworkPoint (opening_points g.points) (has.rows NetworkPoint there))
+    at Journal there = absurd cc
 
-    ordered : IsInOrder AsMade (tables_of (opening g staff))
+    ordered : IsInOrder l (tables_of (opening g staff))
     ordered Meta = refl
     ordered Section = named_order (λ s. s.name) section_row (λ s. refl) g.sections ∙ in_key_order-from_sorted name_cmp (λ s. s.name) g.sections net.sections_rise
-    ordered Point = refl
+    ordered Point = ap (in_key_order row_cmp (take 1)) (no_points (tables_of (opening g staff)))
     ordered NetworkPoint =
         ap (in_key_order row_cmp (take 1)) (sym points)
         ∙ named_order (λ p. p.name) (λ p. jumper_row p (first_state p)) (λ p. refl) g.points ∙ in_key_order-from_sorted name_cmp (λ p. p.name) g.points net.points_rise
@@ -314,9 +363,39 @@ fills db g staff net is_staff has = record {
     ordered Clearance = refl
     ordered Step = refl
     ordered Hold = refl
+    ordered Journal = refl
 
 pub whole : (a b c : State) (g : Grid) (staff : List StaffRow) → IsNetwork g → IsStaff staff → a.now.schema ≡ no_schema → Makes a b (HasEmpty AsMade []) (HasEmpty AsMade (names_in AsMade))
     → Changes b c (filled g.sections g.points staff) → HasTables c.now (tables_of (opening g staff))
 whole a b c g staff net is_staff bare made changes =
     let none : HasEmpty AsMade [] a.now = record { schema = bare; empty = tt } in
-    fills c.now g staff net is_staff (changes.tables AsMade refl no_tables (has_none AsMade refl b.now (made.makes none) (made.sound none)))
+    fills AsMade refl c.now g staff net is_staff (None, refl) (changes.tables AsMade refl no_tables (has_none AsMade refl b.now (made.makes none) (made.sound none)))
+
+-- ---- the same with the table of the journal
+-- the tables without it, and with it
+pub journal_next : (db : Database) → HasEmpty AsMade (names_in AsMade) db → HasEmpty AsMadeLogged (names_before AsMadeLogged Journal) db
+journal_next db has = record { schema = has.schema; empty = has.empty }
+
+pub makes_journal : (old new : State) → Makes old new (HasEmpty AsMadeLogged (names_before AsMadeLogged Journal)) (HasEmpty AsMadeLogged (names_before AsMadeLogged Journal ++ Journal ∷ []))
+    → Makes old new (HasEmpty AsMade (names_in AsMade)) (HasEmpty AsMadeLogged (names_in AsMadeLogged))
+makes_journal old new made = record {
+  inside = made.inside;
+  kept = made.kept;
+  makes = λ has. made.makes (journal_next old.now has);
+  sound = λ has. made.sound (journal_next old.now has);
+}
+
+-- the table of the journal is empty until the place is put there
+pub whole_placed : (a b c d : State) (g : Grid) (staff : List StaffRow) (place : Row) → IsNetwork g → IsStaff staff → a.now.schema ≡ no_schema
+    → Makes a b (HasEmpty AsMade []) (HasEmpty AsMadeLogged (names_in AsMadeLogged)) → Changes b c (filled g.sections g.points staff) → ChangesPlace c d (λ rows. place ∷ rows)
+    → HasTables d.now (tables_of (opening g staff)) × ArePlaced d.now.trees (Some place)
+whole_placed a b c d g staff place net is_staff bare made changes put =
+    let none : HasEmpty AsMade [] a.now = record { schema = bare; empty = tt } in
+    let empty = has_none AsMadeLogged refl b.now (made.makes none) (made.sound none) in
+    let no_place : b.now.trees (tree_in AsMadeLogged Journal) ≡ [] = all_at (λ name. b.now.trees (tree_in AsMadeLogged name) ≡ []) (names_in AsMadeLogged) (place_in AsMadeLogged Journal) Journal refl (made.makes none).empty in
+    let still : c.now.trees (tree_in AsMadeLogged Journal) ≡ [] = changes.place AsMadeLogged refl no_tables empty refl ∙ no_place in
+    let full = changes.tables AsMadeLogged refl no_tables empty in
+    let it = put.places AsMadeLogged refl (filled g.sections g.points staff no_tables) full refl [] (empty_rows (columns_in Journal) (c.now.trees (tree_in AsMadeLogged Journal)) still) in (
+      fills AsMadeLogged refl d.now g staff net is_staff (Some place, (refl, it.1)) it.0,
+      record { layout = AsMadeLogged; two = refl; listed = it.0.listed; placed = (refl, it.1) },
+    )

@@ -34,7 +34,7 @@ use Rattle.sqlite_trees.proofs.ListLemmas.{map-map}
 use Rattle.sqlite_trees.specs.View.{IsShaped}
 use Rattle.sqlite_trees.specs.declared.store.Shape.TheVariants as Shape
 use Rattle.clr_tables.specs.declared.table_name.TableName.{TableName}
-use Rattle.clr_tables.specs.declared.table_name.TableName.TheVariants.{Meta, Section, Point, Staff, Clearance, Step, Hold, NetworkPoint}
+use Rattle.clr_tables.specs.declared.table_name.TableName.TheVariants.{Meta, Section, Point, Staff, Clearance, Step, Hold, NetworkPoint, Journal}
 use Rattle.clr_load.specs.Layout.{has_table, names_in, place_in, tree_in}
 use Rattle.clr_load.specs.declared.layout.Layout.{Layout}
 use Rattle.clr_load.specs.Schema.{columns_in, schema_in, table_in}
@@ -99,6 +99,7 @@ value_row Clearance row = refl
 value_row Step row = refl
 value_row Hold row = refl
 value_row NetworkPoint row = refl
+value_row Journal row = refl
 
 given_row : (name : TableName) (row : Row) → fits_columns (columns_in name) row ≡ true
     → value_rows (row ++ []) (suc (width_of name)) (length (insert_terms name) / suc (width_of name)) (insert_terms name) ≡ (Null ∷ row) ∷ []

@@ -44,7 +44,9 @@ use Rattle.clr_load.proofs.Loading.{unchanged_keeps}
 use Rattle.clr_load.proofs.Texts.{key_tests, tests_from}
 use Rattle.clr_store.proofs.Effects.{inserts, is_met, is_met_in, next_row}
 use Rattle.clr_store.proofs.Inside.{changed_to, in_any_order, put_again, put_in, runs_inside, taken_away, then_step}
-use Rattle.clr_store.proofs.Layouts.{in_two}
+use Rattle.sqlite.specs.Effect.{Database}
+use Rattle.clr_tables.specs.declared.table_name.TableName.TheVariants.{Journal}
+use Rattle.clr_store.proofs.Layouts.{in_two, rows_in_two}
 use Rattle.clr_store.proofs.Replacing.{differ_is, tests_taken, unique_is}
 use Rattle.clr_store.proofs.RowLemmas.{put_fresh}
 
@@ -100,7 +102,7 @@ module _ (name : TableName) (row : Row) (fits : fits_columns (columns_in name) r
       let did = inserts l old new name row count there has.schema fits ran.0 in
       let tree = old.now.trees (tree_in l name) in
       let x = next_row tree row in
-      let rows = has.rows name there in
+      let rows = has.rows name (rows_in_two name here l two) in
       let unique = subst (λ all. (r : Row) → Has all r → clashes plain (first_columns 1 (keys_in name)) all r ≡ false) did.0.tree
       (λ r here. unique_is l name new.now.trees r there (all_has _ _ r did.2 here)) in
       let has_x : Has (put_row x tree) x = has_contained _ _ (Contains-permutation (x ∷ tree) (put_row x tree) x (put_fresh x tree did.1) (contains_had (x ∷ tree) x (inl refl))) in
@@ -142,6 +144,7 @@ not_put old new name row inside same = record {
   inside = same.0.mode ∙ inside;
   kept = unchanged_keeps old new same;
   tables = λ l two t has. subst (λ db. Holds l db t) (sym same.0.now_is) has;
+  place = λ l two t has there. ap (λ (db : Database). db.trees (tree_in l Journal)) same.0.now_is;
 }
 
 -- a row that was inserted is put

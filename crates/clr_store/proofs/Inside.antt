@@ -1,5 +1,5 @@
 -- What INSERT and DELETE make of the tables, inside a transaction.
-use Rattle.std.proofs.Common.{◌≡◌, ℕ, zero, suc, List, [], ◌∷◌, map, drop, take, length, Bool, true, false, cond, not, if◌then◌else◌, Ok, Err, Result, refl, sym, ap, subst, ◌∙◌, ◌++◌, ◌+◌, ◌<◌, ◌&&◌, IsTrue, inl, inr, get_or, arith}
+use Rattle.std.proofs.Common.{◌≡◌, ℕ, zero, suc, List, [], ◌∷◌, map, drop, take, length, Bool, true, false, cond, not, if◌then◌else◌, None, Some, Ok, Err, Result, refl, sym, ap, subst, ◌∙◌, ◌++◌, ◌+◌, ◌<◌, ◌&&◌, IsTrue, inl, inr, get_or, arith}
 use Rattle.std.specs.Prelude.{filter, slice_set, MatchResult}
 use Rattle.std.specs.List.{list_all}
 use Rattle.std.specs.List.Sorted.{IsPermutation}
@@ -39,45 +39,49 @@ use Rattle.clr_rules.specs.declared.change.Edit.TheVariants.{SetPosition, SetHan
 use Rattle.clr_tables.specs.TableEdits.{added_point, changed_point, handed_row, placed_row, table_edited, tables_edited, with_table_row, without_table_row}
 use Rattle.clr_tables.specs.Tables.{Tables, clearance_row, hand_values, hold_row, position_value, section_row, step_row}
 use Rattle.clr_tables.specs.declared.table_name.TableName.{TableName}
-use Rattle.clr_tables.specs.declared.table_name.TableName.TheVariants.{Section, Clearance, Step, Hold, NetworkPoint}
+use Rattle.clr_tables.specs.declared.table_name.TableName.TheVariants.{Section, Clearance, Step, Hold, NetworkPoint, Journal}
 use Rattle.clr_store.specs.Contract.{AreEdited}
-use Rattle.clr_store.specs.Change.{Changes, Does, Replaces, after_replace, with_rows}
+use Rattle.clr_store.specs.Change.{Changes, Does, Replaces, SamePlace, after_replace, with_rows}
 use Rattle.clr_load.specs.Cause.{fault_of}
 use Rattle.clr_load.specs.Fault.{IsOfDatabase}
 use Rattle.clr_load.specs.Inside.{RunsInside}
-use Rattle.clr_load.specs.Layout.{has_table, is_two, tree_in}
+use Rattle.clr_load.specs.Layout.{has_rows, has_table, is_two, tree_in}
 use Rattle.clr_load.specs.declared.layout.Layout.{Layout}
 use Rattle.clr_load.specs.declared.layout.Layout.TheVariants.{AsMade}
 use Rattle.clr_load.specs.Schema.{columns_in, keys_in}
 use Rattle.clr_load.specs.Sql.{insert_sql, delete_sql}
 use Rattle.clr_load.specs.declared.fault.StoreFault.{StoreFault}
-use Rattle.clr_load.specs.Stored.{HasEachRow, HasRows, HasTables, Holds, IsInOrder, bodies, fits_columns, rows_in}
+use Rattle.clr_load.specs.Stored.{HasEachRow, HasRows, HasTables, Holds, IsInOrder, IsPlaced, bodies, fits_columns, rows_in}
 use Rattle.clr_load.proofs.Columns.{sets_from, tests_are}
 use Rattle.clr_load.proofs.Texts.{tests_from}
 use Rattle.clr_load.proofs.Causes.{told_of_database}
 use Rattle.clr_load.proofs.Inside.{then_runs}
-use Rattle.clr_load.proofs.Loading.{then_kept, unchanged_keeps, undone_keeps}
+use Rattle.clr_load.proofs.Loading.{in_layout, then_kept, unchanged_keeps, undone_keeps}
 use Rattle.clr_load.proofs.Reopened.{left_of}
 use Rattle.clr_store.proofs.RowLemmas.{put_fresh, shaped-filter}
 use Rattle.clr_store.proofs.Effects.{Wrote, deletes, inserts, is_met_in}
-use Rattle.clr_store.proofs.Layouts.{apart, each_changed, in_two, same_rows, twice}
+use Rattle.clr_store.proofs.Layouts.{apart, each_changed, in_two, not_journal, rows_in_two, same_rows, twice}
 
 -- the rows of one table are changed, and those of the others stay
 pub changed_to : (l : Layout) → is_two l ≡ true → (old new : State) (name : TableName) (tree : List Row) (change : List Row → List Row) (t : Tables) → has_table AsMade name ≡ true
-    → Wrote l old new name tree → Holds l old.now t → HasRows (columns_in name) tree (change (rows_in l name t)) → Holds l new.now (with_rows name change t)
-changed_to l two old new name tree change t here did has changed = record {
-  schema = did.schema;
-  listed = did.listed;
-  rows = each_changed name here l two (λ other rows. has_table l other ≡ true → HasRows (columns_in other) (new.now.trees (tree_in l other)) rows) change t
-      (λ there. subst (λ it. HasRows (columns_in name) it (change (rows_in l name t))) (sym did.tree) changed)
-      (λ other differ there. subst (λ it. HasRows (columns_in other) it (rows_in l other t)) (sym (did.others other there (apart l name other (in_two name here l two) there differ))) (has.rows other there));
-}
+    → Wrote l old new name tree → Holds l old.now t → HasRows (columns_in name) tree (change (rows_in l name t))
+    → Holds l new.now (with_rows name change t) × SamePlace l old.now new.now
+changed_to l two old new name tree change t here did has changed = (
+  record {
+    schema = did.schema;
+    listed = did.listed;
+    rows = each_changed name here l two (λ other rows. has_rows l other ≡ true → HasRows (columns_in other) (new.now.trees (tree_in l other)) rows) change t
+        (λ there. subst (λ it. HasRows (columns_in name) it (change (rows_in l name t))) (sym did.tree) changed)
+        (λ other differ there. subst (λ it. HasRows (columns_in other) it (rows_in l other t)) (sym (did.others other (in_layout l other there) (apart l name other (in_two name here l two) (in_layout l other there) differ))) (has.rows other there));
+  },
+  λ there. did.others Journal there (apart l name Journal (in_two name here l two) there (not_journal name here)),
+)
 
 -- a statement inside a transaction changes the tables, and commits nothing
 pub runs_inside : (sql : List ℕ) (params : Row) (old new : State) (count : ℕ) (change : Tables → Tables) → ExecutesInside 0 sql params old new (Ok count)
-    → ((l : Layout) → is_two l ≡ true → (t : Tables) → Holds l old.now t → Holds l new.now (change t)) → Changes old new change
+    → ((l : Layout) → is_two l ≡ true → (t : Tables) → Holds l old.now t → Holds l new.now (change t) × SamePlace l old.now new.now) → Changes old new change
 runs_inside sql params old new count change ran tables =
-    record { inside = ran.1.mode; kept = record { was_open = λ _. ran.1.was_open; committed = λ _. ran.1.committed_is }; tables = tables }
+    record { inside = ran.1.mode; kept = record { was_open = λ _. ran.1.was_open; committed = λ _. ran.1.committed_is }; tables = λ l two t has. (tables l two t has).0; place = λ l two t has. (tables l two t has).1 }
 
 -- ---- rows of a tree
 pub list_all-permutation : (p : Row → Bool) (xs ys : List Row) → IsPermutation xs ys → list_all p xs ≡ true → list_all p ys ≡ true
@@ -150,20 +154,25 @@ pub adds : (old new : State) (name : TableName) (row : Row) (count : ℕ) → ha
 adds old new name row count here fits ran = runs_inside (insert_sql name) row old new count _ ran (λ l two t has.
     let there = in_two name here l two in
     let did = inserts l old new name row count there has.schema fits ran.0 in
-    let put = put_in (columns_in name) row (old.now.trees (tree_in l name)) (rows_in l name t) fits did.1 (has.rows name there) in
+    let put = put_in (columns_in name) row (old.now.trees (tree_in l name)) (rows_in l name t) fits did.1 (has.rows name (rows_in_two name here l two)) in
     changed_to l two old new name _ (λ rows. row ∷ rows) t here did.0 has put)
 
 pub removes : (old new : State) (name : TableName) (key : Row) (count : ℕ) → has_table AsMade name ≡ true → length key ≡ keys_in name → sets_from 0 (keys_in name) key ≡ true
     → ExecutesInside 0 (delete_sql name) key old new (Ok count) → Changes old new (with_rows name (without_table_row (keys_in name) key))
 removes old new name key count here is set ran = runs_inside (delete_sql name) key old new count _ ran (λ l two t has.
     let there = in_two name here l two in
-    let did = deletes l old new name key count there has.schema (has.rows name there).numbered ran.0 in
-    let left = taken_away name key (old.now.trees (tree_in l name)) (rows_in l name t) is set (has.rows name there) in
+    let did = deletes l old new name key count there has.schema (has.rows name (rows_in_two name here l two)).numbered ran.0 in
+    let left = taken_away name key (old.now.trees (tree_in l name)) (rows_in l name t) is set (has.rows name (rows_in_two name here l two)) in
     changed_to l two old new name _ (without_table_row (keys_in name) key) t here did has left)
 
 -- ---- statements in turn
 pub then_changes : (a b c : State) (f g : Tables → Tables) → Changes a b f → Changes b c g → Changes a c (λ t. g (f t))
-then_changes a b c f g p q = record { inside = q.inside; kept = then_kept a b c p.kept q.kept; tables = λ l two t has. q.tables l two (f t) (p.tables l two t has) }
+then_changes a b c f g p q = record {
+  inside = q.inside;
+  kept = then_kept a b c p.kept q.kept;
+  tables = λ l two t has. q.tables l two (f t) (p.tables l two t has);
+  place = λ l two t has there. q.place l two (f t) (p.tables l two t has) there ∙ p.place l two t has there;
+}
 
 pub then_step : {X : Type 0} (a b c : State) (f g : Tables → Tables) (r : Result X StoreFault) → Changes a b f → MatchResult r (λ _. Changes b c g) (λ _. KeepsCommit b c)
     → MatchResult r (λ _. Changes a c (λ t. g (f t))) (λ _. KeepsCommit a c)
@@ -188,6 +197,8 @@ puts a b c name row (Ok x) here p q = record {
   tables = λ l two t has.
       let both = q.tables l two (with_rows name (without_table_row (keys_in name) (take (keys_in name) row)) t) (p.tables l two t has) in
       record { schema = both.schema; listed = both.listed; rows = puts_rows l two c.now.trees name row t here both.rows };
+  place = λ l two t has there.
+      q.place l two (with_rows name (without_table_row (keys_in name) (take (keys_in name) row)) t) (p.tables l two t has) there ∙ p.place l two t has there;
 }
 puts a b c name row (Err e) here p q = then_kept a b c p.kept q
 
@@ -241,11 +252,12 @@ one_more old new es k e within is both = record {
       let more : tables_edited (take (k + 1) es) t ≡ table_edited e (tables_edited (take k es) t) =
       ap (λ l. tables_edited l t) (take_more es k e within ∙ ap (λ x. take k es ++ x ∷ []) (sym is)) ∙ tables_more (take k es) e t in
       subst (Holds l new.now) (sym more) (both.tables l two t has);
+  place = both.place;
 }
 
 pub no_edits : (s : State) → IsTrue s.in_transaction → Changes s s (tables_edited [])
 unfolding tables_edited
-no_edits s inside = record { inside = inside; kept = record { was_open = λ open_now. open_now; committed = λ _. refl }; tables = λ l two t has. has }
+no_edits s inside = record { inside = inside; kept = record { was_open = λ open_now. open_now; committed = λ _. refl }; tables = λ l two t has. has; place = λ l two t has there. refl }
 
 -- ---- the order of keys
 order_changed : (l : Layout) → is_two l ≡ true → (name : TableName) (change : List Row → List Row) (t : Tables) → has_table AsMade name ≡ true → IsInOrder l t
@@ -295,8 +307,21 @@ edits_in_order l two [] t ordered = ordered
 edits_in_order l two (edit ∷ edits) t ordered = edits_in_order l two edits (table_edited edit t) (edit_in_order l two edit t ordered)
 
 -- ---- a transaction
-pub edited_tables : (l : Layout) → is_two l ≡ true → (db : Database) (edits : List Edit) (t : Tables) → IsInOrder l t → Holds l db (tables_edited edits t) → HasTables db (tables_edited edits t)
-edited_tables l two db edits t ordered has = record { layout = l; two = two; here = record { holds = has; in_order = edits_in_order l two edits t ordered } }
+-- where the table of the journal stays, it has one row as before
+pub still_placed : (l : Layout) (before after : Database) → SamePlace l before after → IsPlaced l before.trees → IsPlaced l after.trees
+still_placed l before after same (None, none) = (None, none)
+still_placed l before after same (Some place, has) = (Some place, (has.0, subst (λ tree. HasRows (columns_in Journal) tree (place ∷ [])) (sym (same has.0)) has.1))
+
+pub edited_tables : (l : Layout) → is_two l ≡ true → (db : Database) (edits : List Edit) (t : Tables) → IsInOrder l t → Holds l db (tables_edited edits t) → IsPlaced l db.trees
+    → HasTables db (tables_edited edits t)
+edited_tables l two db edits t ordered has placed = record { layout = l; two = two; here = record { holds = has; in_order = edits_in_order l two edits t ordered; placed = placed } }
+
+-- tables that a call inside a transaction has changed so are those with the edits made
+pub made_tables : (old new : State) (edits : List Edit) (t : Tables) (has : HasTables old.now t) → Changes old new (tables_edited edits) → HasTables new.now (tables_edited edits t)
+made_tables old new edits t has changes =
+    let here = HasTables.here has in
+    edited_tables has.layout has.two new.now edits t here.in_order (changes.tables has.layout has.two t here.holds)
+    (still_placed has.layout old.now new.now (changes.place has.layout has.two t here.holds) here.placed)
 
 -- what a transaction leaves that is committed as it is in `mid`, wherever it is cut
 pub crash_leaves : {S : Type 0} (g : Ghosts S) (old mid end : Held S) (P : Trees → Type 0) → Survives (state g (record old { in_transaction = true })) (state g mid) (λ _. ⊥)
@@ -310,4 +335,4 @@ pub commit_crash : {S : Type 0} (g : Ghosts S) (old mid end : Held S) (edits : L
     → (HasCleanDisk (state g mid) → Changes (state g (record old { in_transaction = true })) (state g mid) (tables_edited edits))
     → Survives (state g old) (state g end) (AreEdited (state g old).now edits)
 commit_crash g old mid end edits inside ended changes = crash_leaves g old mid end _ inside ended (λ clean t has.
-    left_of (state g mid).now (tables_edited edits t) (edited_tables has.layout has.two (state g mid).now edits t has.here.in_order ((changes clean).tables has.layout has.two t has.here.holds)))
+    left_of (state g mid).now (tables_edited edits t) (made_tables (state g (record old { in_transaction = true })) (state g mid) edits t has (changes clean)))

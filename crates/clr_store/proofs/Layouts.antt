@@ -10,10 +10,10 @@ use Rattle.sqlite.specs.Order.{Row}
 use Rattle.sqlite.specs.Tree.{Trees}
 use Rattle.clr_tables.specs.Tables.{Tables}
 use Rattle.clr_tables.specs.declared.table_name.TableName.{TableName}
-use Rattle.clr_tables.specs.declared.table_name.TableName.TheVariants.{Meta, Section, Point, Staff, Clearance, Step, Hold, NetworkPoint}
-use Rattle.clr_load.specs.Layout.{has_table, is_two, names_in, place_in, tree_in}
+use Rattle.clr_tables.specs.declared.table_name.TableName.TheVariants.{Meta, Section, Point, Staff, Clearance, Step, Hold, NetworkPoint, Journal}
+use Rattle.clr_load.specs.Layout.{has_rows, has_table, is_of_register, is_two, names_in, place_in, tree_in}
 use Rattle.clr_load.specs.declared.layout.Layout.{Layout}
-use Rattle.clr_load.specs.declared.layout.Layout.TheVariants.{AsMade, AsMoved, OfOne}
+use Rattle.clr_load.specs.declared.layout.Layout.TheVariants.{AsMade, AsMadeLogged, AsMoved, AsMovedLogged, OfOne}
 use Rattle.clr_load.specs.Schema.{schema_in, table_in}
 use Rattle.clr_load.specs.Stored.{rows_in}
 use Rattle.clr_store.specs.Change.{change_at, is_same, rows_changed, tables_with, with_rows}
@@ -22,27 +22,48 @@ pub named_at : (l : Layout) (name : TableName) → has_table l name ≡ true →
 named_at OfOne Meta has = refl
 named_at AsMade Meta has = refl
 named_at AsMoved Meta has = refl
+named_at AsMadeLogged Meta has = refl
+named_at AsMovedLogged Meta has = refl
 named_at OfOne Section has = refl
 named_at AsMade Section has = refl
 named_at AsMoved Section has = refl
+named_at AsMadeLogged Section has = refl
+named_at AsMovedLogged Section has = refl
 named_at OfOne Point has = refl
 named_at AsMade Point has = absurd cc
 named_at AsMoved Point has = refl
+named_at AsMadeLogged Point has = absurd cc
+named_at AsMovedLogged Point has = refl
 named_at OfOne Staff has = refl
 named_at AsMade Staff has = refl
 named_at AsMoved Staff has = refl
+named_at AsMadeLogged Staff has = refl
+named_at AsMovedLogged Staff has = refl
 named_at OfOne Clearance has = refl
 named_at AsMade Clearance has = refl
 named_at AsMoved Clearance has = refl
+named_at AsMadeLogged Clearance has = refl
+named_at AsMovedLogged Clearance has = refl
 named_at OfOne Step has = refl
 named_at AsMade Step has = refl
 named_at AsMoved Step has = refl
+named_at AsMadeLogged Step has = refl
+named_at AsMovedLogged Step has = refl
 named_at OfOne Hold has = refl
 named_at AsMade Hold has = refl
 named_at AsMoved Hold has = refl
+named_at AsMadeLogged Hold has = refl
+named_at AsMovedLogged Hold has = refl
 named_at OfOne NetworkPoint has = absurd cc
 named_at AsMade NetworkPoint has = refl
 named_at AsMoved NetworkPoint has = refl
+named_at AsMadeLogged NetworkPoint has = refl
+named_at AsMovedLogged NetworkPoint has = refl
+named_at OfOne Journal has = absurd cc
+named_at AsMade Journal has = absurd cc
+named_at AsMoved Journal has = absurd cc
+named_at AsMadeLogged Journal has = refl
+named_at AsMovedLogged Journal has = refl
 
 -- what is true of all is true of the one at a place
 pub all_at : {X : Type 0} (P : X → Type 0) (xs : List X) (k : ℕ) (x : X) → slice_get xs k ≡ Some x → AllByRecursion P xs → P x
@@ -71,6 +92,40 @@ in_two Clearance here AsMoved two = refl
 in_two Step here AsMoved two = refl
 in_two Hold here AsMoved two = refl
 in_two NetworkPoint here AsMoved two = refl
+in_two Journal here AsMoved two = absurd cc
+in_two Meta here AsMadeLogged two = refl
+in_two Section here AsMadeLogged two = refl
+in_two Point here AsMadeLogged two = absurd cc
+in_two Staff here AsMadeLogged two = refl
+in_two Clearance here AsMadeLogged two = refl
+in_two Step here AsMadeLogged two = refl
+in_two Hold here AsMadeLogged two = refl
+in_two NetworkPoint here AsMadeLogged two = refl
+in_two Journal here AsMadeLogged two = absurd cc
+in_two Meta here AsMovedLogged two = refl
+in_two Section here AsMovedLogged two = refl
+in_two Point here AsMovedLogged two = absurd cc
+in_two Staff here AsMovedLogged two = refl
+in_two Clearance here AsMovedLogged two = refl
+in_two Step here AsMovedLogged two = refl
+in_two Hold here AsMovedLogged two = refl
+in_two NetworkPoint here AsMovedLogged two = refl
+in_two Journal here AsMovedLogged two = absurd cc
+
+-- and are tables of the register itself
+of_register : (name : TableName) → has_table AsMade name ≡ true → is_of_register name ≡ true
+of_register Meta here = refl
+of_register Section here = refl
+of_register Point here = absurd cc
+of_register Staff here = refl
+of_register Clearance here = refl
+of_register Step here = refl
+of_register Hold here = refl
+of_register NetworkPoint here = refl
+of_register Journal here = absurd cc
+
+pub rows_in_two : (name : TableName) → has_table AsMade name ≡ true → (l : Layout) → is_two l ≡ true → has_rows l name ≡ true
+rows_in_two name here l two = rw (of_register name here, in_two name here l two) refl
 
 -- and have the same rows
 pub two_rows : (l : Layout) → is_two l ≡ true → (name : TableName) (t : Tables) → rows_in l name t ≡ rows_in AsMade name t
@@ -84,12 +139,31 @@ two_rows AsMoved two Clearance t = refl
 two_rows AsMoved two Step t = refl
 two_rows AsMoved two Hold t = refl
 two_rows AsMoved two NetworkPoint t = refl
+two_rows AsMoved two Journal t = refl
+two_rows AsMadeLogged two Meta t = refl
+two_rows AsMadeLogged two Section t = refl
+two_rows AsMadeLogged two Point t = refl
+two_rows AsMadeLogged two Staff t = refl
+two_rows AsMadeLogged two Clearance t = refl
+two_rows AsMadeLogged two Step t = refl
+two_rows AsMadeLogged two Hold t = refl
+two_rows AsMadeLogged two NetworkPoint t = refl
+two_rows AsMadeLogged two Journal t = refl
+two_rows AsMovedLogged two Meta t = refl
+two_rows AsMovedLogged two Section t = refl
+two_rows AsMovedLogged two Point t = refl
+two_rows AsMovedLogged two Staff t = refl
+two_rows AsMovedLogged two Clearance t = refl
+two_rows AsMovedLogged two Step t = refl
+two_rows AsMovedLogged two Hold t = refl
+two_rows AsMovedLogged two NetworkPoint t = refl
+two_rows AsMovedLogged two Journal t = refl
 
 -- ---- one table of all
 one_name : (l : Layout) (name other : TableName) → has_table l name ≡ true → has_table l other ≡ true → place_in l name ≡ place_in l other → name ≡ other
 one_name l name other here there same = same_Some _ _ (sym (named_at l name here) ∙ ap (slice_get (names_in l)) same ∙ named_at l other there)
 
-moved_has : (name : TableName) → has_table AsMoved name ≡ true
+moved_has : (name : TableName) → has_table AsMovedLogged name ≡ true
 moved_has Meta = refl
 moved_has Section = refl
 moved_has Point = refl
@@ -98,26 +172,28 @@ moved_has Clearance = refl
 moved_has Step = refl
 moved_has Hold = refl
 moved_has NetworkPoint = refl
+moved_has Journal = refl
 
 same_name : (name other : TableName) → is_same name other ≡ true → name ≡ other
-same_name name other is = one_name AsMoved name other (moved_has name) (moved_has other) (eqb-true _ _ is)
+same_name name other is = one_name AsMovedLogged name other (moved_has name) (moved_has other) (eqb-true _ _ is)
 
 -- tables of other names lie in other trees
 pub apart : (l : Layout) (name other : TableName) → has_table l name ≡ true → has_table l other ≡ true → is_same name other ≡ false → tree_in l other ≢ tree_in l name
 apart l name other here there differ same =
     let one : name ≡ other = one_name l name other here there (omega (arith, same)) in
-    true≢false (sym (eq-eqb _ _ (ap (place_in AsMoved) one)) ∙ differ)
+    true≢false (sym (eq-eqb _ _ (ap (place_in AsMovedLogged) one)) ∙ differ)
 
 -- the rows of tables that are given by name
-pub rows_with : (rows : TableName → List Row) → rows Point ≡ [] → (name : TableName) → rows_in AsMade name (tables_with rows) ≡ rows name
-rows_with rows none Meta = refl
-rows_with rows none Section = refl
-rows_with rows none Point = sym none
-rows_with rows none Staff = refl
-rows_with rows none Clearance = refl
-rows_with rows none Step = refl
-rows_with rows none Hold = refl
-rows_with rows none NetworkPoint = refl
+pub rows_with : (rows : TableName → List Row) → rows Point ≡ [] → rows Journal ≡ [] → (name : TableName) → rows_in AsMade name (tables_with rows) ≡ rows name
+rows_with rows none no_place Meta = refl
+rows_with rows none no_place Section = refl
+rows_with rows none no_place Point = sym none
+rows_with rows none no_place Staff = refl
+rows_with rows none no_place Clearance = refl
+rows_with rows none no_place Step = refl
+rows_with rows none no_place Hold = refl
+rows_with rows none no_place NetworkPoint = refl
+rows_with rows none no_place Journal = sym no_place
 
 -- `point` is no table of version 2
 no_point : (name : TableName) → has_table AsMade name ≡ true → (change : List Row → List Row) (t : Tables) → rows_changed name change t Point ≡ []
@@ -129,10 +205,34 @@ no_point Clearance here change t = refl
 no_point Step here change t = refl
 no_point Hold here change t = refl
 no_point NetworkPoint here change t = refl
+no_point Journal here change t = absurd cc
+
+-- and the table of the journal has no row of the register
+no_journal : (name : TableName) → has_table AsMade name ≡ true → (change : List Row → List Row) (t : Tables) → rows_changed name change t Journal ≡ []
+no_journal Meta here change t = refl
+no_journal Section here change t = refl
+no_journal Point here change t = absurd cc
+no_journal Staff here change t = refl
+no_journal Clearance here change t = refl
+no_journal Step here change t = refl
+no_journal Hold here change t = refl
+no_journal NetworkPoint here change t = refl
+no_journal Journal here change t = absurd cc
+
+pub not_journal : (name : TableName) → has_table AsMade name ≡ true → is_same name Journal ≡ false
+not_journal Meta here = refl
+not_journal Section here = refl
+not_journal Point here = absurd cc
+not_journal Staff here = refl
+not_journal Clearance here = refl
+not_journal Step here = refl
+not_journal Hold here = refl
+not_journal NetworkPoint here = refl
+not_journal Journal here = absurd cc
 
 module _ (name : TableName) (here : has_table AsMade name ≡ true) where
   changed_rows : (change : List Row → List Row) (t : Tables) (other : TableName) → rows_in AsMade other (with_rows name change t) ≡ rows_changed name change t other
-  changed_rows change t other = rows_with (rows_changed name change t) (no_point name here change t) other
+  changed_rows change t other = rows_with (rows_changed name change t) (no_point name here change t) (no_journal name here change t) other
 
   -- what is true of the changed table, and of each other as it was, is true of all
   pub each_changed : (l : Layout) → is_two l ≡ true → (P : TableName → List Row → Type 0) (change : List Row → List Row) (t : Tables) → P name (change (rows_in l name t))

@@ -14,3 +14,4 @@ mod There
 mod Rising
 pub mod TakenSteps
 pub mod Renewing
+pub mod Places

@@ -41,13 +41,13 @@ use Rattle.clr_tables.specs.RowsRead.{read_version}
 use Rattle.clr_tables.specs.TableEdits.{tables_moved, with_table_row}
 use Rattle.clr_tables.specs.Tables.{Tables, flag_value, version_row}
 use Rattle.clr_tables.specs.declared.table_name.TableName.{TableName}
-use Rattle.clr_tables.specs.declared.table_name.TableName.TheVariants.{Meta, Section, Point, Staff, Clearance, Step, Hold, NetworkPoint}
+use Rattle.clr_tables.specs.declared.table_name.TableName.TheVariants.{Meta, Section, Point, Staff, Clearance, Step, Hold, NetworkPoint, Journal}
 use Rattle.clr_store.specs.Change.{Changes, Makes, is_same, with_rows}
 use Rattle.clr_store.specs.Moving.{AreMoved, IsMoving, LeavesMoved, Moves, MovesTables, moved_points, rows_moving}
 use Rattle.clr_load.specs.Cause.{SqlHasCause}
 use Rattle.clr_load.specs.Contract.{old_points}
 use Rattle.clr_load.specs.Found.{Finds, Lists}
-use Rattle.clr_load.specs.Layout.{has_table, is_one, place_in, tree_in}
+use Rattle.clr_load.specs.Layout.{has_rows, has_table, is_one, place_in, tree_in}
 use Rattle.clr_load.specs.declared.layout.Layout.{Layout}
 use Rattle.clr_load.specs.declared.layout.Layout.TheVariants.{AsMoved, OfOne}
 use Rattle.clr_load.specs.Schema.{columns_in, needed, schema_in, table_at, table_in}
@@ -60,7 +60,7 @@ use Rattle.clr_load.proofs.Columns.{both_true, cast_fits, fits_length, values_al
 use Rattle.clr_load.proofs.Reopened.{left_of}
 use Rattle.clr_load.proofs.Texts.{copied, copy_is, copying, create_is, create_text, created_is, defines, empty_is}
 use Rattle.clr_load.proofs.Inside.{fails_on, then_runs}
-use Rattle.clr_load.proofs.Loading.{then_kept}
+use Rattle.clr_load.proofs.Loading.{in_layout, then_kept}
 use Rattle.clr_store.proofs.Creating.{empty_rows, lacks, next_is, no_tables, then_makes}
 use Rattle.clr_store.proofs.Effects.{Wrote, deleted, is_met, one_write, shown_rows, task_on, went, wrote}
 use Rattle.clr_store.proofs.Inside.{crash_leaves, list_all-permutation}
@@ -87,6 +87,7 @@ module _ (old new : State) (olds news : List Row) (t : Tables) where
       at Step there = stays Step refl refl _ (has.rows Step refl)
       at Hold there = stays Hold refl refl _ (has.rows Hold refl)
       at NetworkPoint there = subst (λ it. HasRows (columns_in NetworkPoint) it news) (sym did.tree) made
+      at Journal there = absurd cc
 
   -- the rows of `point` are others, and those of all other tables stay
   old_made : (tree : List Row) → Wrote AsMoved old new Point tree → (had : List Row) → IsMoving had news t old.now
@@ -106,6 +107,7 @@ module _ (old new : State) (olds news : List Row) (t : Tables) where
       at Step there = stays Step refl refl _ (has.rows Step refl)
       at Hold there = stays Hold refl refl _ (has.rows Hold refl)
       at NetworkPoint there = stays NetworkPoint refl refl _ (has.rows NetworkPoint refl)
+      at Journal there = absurd cc
 
 -- ---- CREATE TABLE network_point
 pub makes_points : (old new : State) (t : Tables) (count : ℕ) → ExecutesInside 0 (create_sql NetworkPoint) [] old new (Ok count)
@@ -147,8 +149,8 @@ makes_points old new t count ran = record {
         → Holds OfOne old.now t → HasEachRow AsMoved trees (rows_moving t.points [] t)
     at trees empty stays before = each
       where
-        kept : (name : TableName) → has_table OfOne name ≡ true → HasRows (columns_in name) (trees (tree_in OfOne name)) (rows_in OfOne name t)
-        kept name there = subst (λ it. HasRows (columns_in name) it (rows_in OfOne name t)) (sym (stays name there)) (before.rows name there)
+        kept : (name : TableName) → has_rows OfOne name ≡ true → HasRows (columns_in name) (trees (tree_in OfOne name)) (rows_in OfOne name t)
+        kept name there = subst (λ it. HasRows (columns_in name) it (rows_in OfOne name t)) (sym (stays name (in_layout OfOne name there))) (before.rows name there)
 
         each : HasEachRow AsMoved trees (rows_moving t.points [] t)
         each Meta there = kept Meta refl
@@ -159,6 +161,7 @@ makes_points old new t count ran = record {
         each Step there = kept Step refl
         each Hold there = kept Hold refl
         each NetworkPoint there = empty_rows (columns_in NetworkPoint) (trees (tree_in AsMoved NetworkPoint)) empty
+        each Journal there = absurd cc
 
 -- ---- INSERT INTO network_point SELECT .. FROM point
 -- a row of version 1 with the column that version 2 adds
@@ -307,6 +310,7 @@ as_moved db t has = record { schema = has.schema; listed = has.listed; rows = at
     at Step there = has.rows Step refl
     at Hold there = has.rows Hold refl
     at NetworkPoint there = has.rows NetworkPoint refl
+    at Journal there = absurd cc
 
 -- the order of keys stays
 first_longer : (row : Row) → fits_columns (columns_in Point) row ≡ true → take 1 (longer row) ≡ take 1 row
@@ -335,6 +339,7 @@ moved_in_order t fits ordered Clearance = ordered Clearance
 moved_in_order t fits ordered Step = ordered Step
 moved_in_order t fits ordered Hold = ordered Hold
 moved_in_order t fits ordered NetworkPoint = order_longer t.points fits ∙ ordered Point
+moved_in_order t fits ordered Journal = refl
 
 -- ---- the statements of a move, one after the other
 points_read : (old new : State) (t : Tables) → Finds old new is_one (λ l t. is_ok (old_points t)) true → Makes old new (λ db. HasOldTables db t) (λ db. Holds OfOne db t)
@@ -397,6 +402,7 @@ told_anew before old new t has moved told = record {
   here = record {
     holds = told.tables AsMoved refl (points_moved t) (as_moved old.now t moved);
     in_order = moved_in_order t (has.holds.rows Point refl).fit has.in_order;
+    placed = (None, refl);
   };
 }
 

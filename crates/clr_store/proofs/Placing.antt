@@ -25,7 +25,7 @@ use Rattle.clr_tables.specs.Tables.{position_value}
 use Rattle.clr_store.specs.Change.{Changes, Does}
 use Rattle.clr_load.specs.Layout.{is_two}
 use Rattle.clr_load.specs.declared.layout.Layout.{Layout}
-use Rattle.clr_load.specs.declared.layout.Layout.TheVariants.{AsMade, AsMoved, OfOne}
+use Rattle.clr_load.specs.declared.layout.Layout.TheVariants.{AsMade, AsMadeLogged, AsMoved, AsMovedLogged, OfOne}
 use Rattle.clr_load.specs.Schema.{schema_in}
 use Rattle.clr_load.specs.Stored.{Holds, fits_columns}
 use Rattle.clr_load.specs.declared.fault.StoreFault.{StoreFault}
@@ -45,6 +45,8 @@ unfolding everything
 set_both_reads OfOne two = absurd cc
 set_both_reads AsMade two = refl
 set_both_reads AsMoved two = refl
+set_both_reads AsMadeLogged two = refl
+set_both_reads AsMovedLogged two = refl
 
 understood_as : (schema : Schema) (sql : List ℕ) (c : Compiled) → compiled schema sql ≡ Ok c → understood schema sql ≡ Ok c
 unfolding understood
@@ -91,6 +93,7 @@ sets_both old new point position count ran =
       kept = set.kept;
       tables = λ l two t has. subst (λ points. Holds l new.now (record t { points = points }))
           (changed_twice point (placed_row position) (handed_row None) (λ row. first_stays row 4 (position_value position)) t.points) (set.tables l two t has);
+      place = set.place;
     }
 
 -- ---- the first two edits of a list

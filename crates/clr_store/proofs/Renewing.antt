@@ -35,18 +35,18 @@ use Rattle.clr_staff.specs.Staff.{IsStaff}
 use Rattle.clr_staff.specs.declared.employee.StaffRow.{StaffRow}
 use Rattle.clr_tables.specs.Tables.{Tables, jumper_row, section_row, staff_row, state_at}
 use Rattle.clr_tables.specs.declared.table_name.TableName.{TableName}
-use Rattle.clr_tables.specs.declared.table_name.TableName.TheVariants.{Meta, Section, Point, Staff, Clearance, Step, Hold, NetworkPoint}
+use Rattle.clr_tables.specs.declared.table_name.TableName.TheVariants.{Meta, Section, Point, Staff, Clearance, Step, Hold, NetworkPoint, Journal}
 use Rattle.clr_load.proofs.Reopened.{left_of}
 use Rattle.clr_load.proofs.Texts.{IsRead, all_of, query_of}
 use Rattle.clr_load.specs.Layout.{has_table, is_two, place_in, tree_in}
 use Rattle.clr_load.specs.Schema.{columns_in, schema_in}
-use Rattle.clr_load.specs.Stored.{HasEachRow, HasRows, HasTables, Holds, IsInOrder, rows_in}
+use Rattle.clr_load.specs.Stored.{HasEachRow, HasRows, HasTables, Holds, IsInOrder, IsPlaced, rows_in}
 use Rattle.clr_load.specs.declared.layout.Layout.{Layout}
-use Rattle.clr_load.specs.declared.layout.Layout.TheVariants.{AsMade, AsMoved, OfOne}
+use Rattle.clr_load.specs.declared.layout.Layout.TheVariants.{AsMade, AsMadeLogged, AsMoved, AsMovedLogged, OfOne}
 use Rattle.clr_store.proofs.Creating.{added_same, empty_rows, named_order}
 use Rattle.clr_store.proofs.Effects.{deleted, is_met}
-use Rattle.clr_store.proofs.Inside.{changed_to, crash_leaves, in_any_order, runs_inside}
-use Rattle.clr_store.proofs.Layouts.{in_two}
+use Rattle.clr_store.proofs.Inside.{changed_to, crash_leaves, in_any_order, runs_inside, still_placed}
+use Rattle.clr_store.proofs.Layouts.{in_two, rows_in_two}
 use Rattle.clr_store.specs.Change.{Changes, added, with_rows}
 use Rattle.clr_store.specs.Renewed.{AreRenewed, AreStatesOf, clear_sql, rows_in_state, rows_renewed, tables_renewed}
 
@@ -59,27 +59,48 @@ unfolding everything
 clear_reads OfOne Meta has = refl
 clear_reads AsMade Meta has = refl
 clear_reads AsMoved Meta has = refl
+clear_reads AsMadeLogged Meta has = refl
+clear_reads AsMovedLogged Meta has = refl
 clear_reads OfOne Section has = refl
 clear_reads AsMade Section has = refl
 clear_reads AsMoved Section has = refl
+clear_reads AsMadeLogged Section has = refl
+clear_reads AsMovedLogged Section has = refl
 clear_reads OfOne Point has = refl
 clear_reads AsMade Point has = absurd cc
 clear_reads AsMoved Point has = refl
+clear_reads AsMadeLogged Point has = absurd cc
+clear_reads AsMovedLogged Point has = refl
 clear_reads OfOne Staff has = refl
 clear_reads AsMade Staff has = refl
 clear_reads AsMoved Staff has = refl
+clear_reads AsMadeLogged Staff has = refl
+clear_reads AsMovedLogged Staff has = refl
 clear_reads OfOne Clearance has = refl
 clear_reads AsMade Clearance has = refl
 clear_reads AsMoved Clearance has = refl
+clear_reads AsMadeLogged Clearance has = refl
+clear_reads AsMovedLogged Clearance has = refl
 clear_reads OfOne Step has = refl
 clear_reads AsMade Step has = refl
 clear_reads AsMoved Step has = refl
+clear_reads AsMadeLogged Step has = refl
+clear_reads AsMovedLogged Step has = refl
 clear_reads OfOne Hold has = refl
 clear_reads AsMade Hold has = refl
 clear_reads AsMoved Hold has = refl
+clear_reads AsMadeLogged Hold has = refl
+clear_reads AsMovedLogged Hold has = refl
 clear_reads OfOne NetworkPoint has = absurd cc
 clear_reads AsMade NetworkPoint has = refl
 clear_reads AsMoved NetworkPoint has = refl
+clear_reads AsMadeLogged NetworkPoint has = refl
+clear_reads AsMovedLogged NetworkPoint has = refl
+clear_reads OfOne Journal has = absurd cc
+clear_reads AsMade Journal has = absurd cc
+clear_reads AsMoved Journal has = absurd cc
+clear_reads AsMadeLogged Journal has = refl
+clear_reads AsMovedLogged Journal has = refl
 
 understood_as : (schema : Schema) (sql : List ℕ) (c : Compiled) → compiled schema sql ≡ Ok c → understood schema sql ≡ Ok c
 unfolding understood
@@ -97,7 +118,7 @@ none_left (r ∷ tree) = none_left tree
 pub clears : (old new : State) (name : TableName) (count : ℕ) → has_table AsMade name ≡ true → ExecutesInside 0 (clear_sql name) [] old new (Ok count) → Changes old new (with_rows name (λ _. []))
 clears old new name count here ran = runs_inside (clear_sql name) [] old new count _ ran (λ l two t has.
     let there = in_two name here l two in
-    let did = deleted l old new name (clear_sql name) [] [] count there has.schema (clear_is l name there) (has.rows name there).numbered ran.0 in
+    let did = deleted l old new name (clear_sql name) [] [] count there has.schema (clear_is l name there) (has.rows name (rows_in_two name here l two)).numbered ran.0 in
     changed_to l two old new name _ (λ _. []) t here did has (empty_rows (columns_in name) _ (none_left (old.now.trees (tree_in l name)))))
 
 -- ---- each point has its state
@@ -142,6 +163,7 @@ module _ (g : Grid) (staff : List StaffRow) (states : List PointState) (net : Is
   rows_put AsMade two trees t has Step there = has Step there
   rows_put AsMade two trees t has Hold there = has Hold there
   rows_put AsMade two trees t has NetworkPoint there = points_put (columns_in NetworkPoint) _ (has NetworkPoint there)
+  rows_put AsMade two trees t has Journal there = absurd cc
   rows_put AsMoved two trees t has Meta there = has Meta there
   rows_put AsMoved two trees t has Section there = front (columns_in Section) _ (map section_row g.sections) (has Section there)
   rows_put AsMoved two trees t has Point there = has Point there
@@ -150,6 +172,25 @@ module _ (g : Grid) (staff : List StaffRow) (states : List PointState) (net : Is
   rows_put AsMoved two trees t has Step there = has Step there
   rows_put AsMoved two trees t has Hold there = has Hold there
   rows_put AsMoved two trees t has NetworkPoint there = points_put (columns_in NetworkPoint) _ (has NetworkPoint there)
+  rows_put AsMoved two trees t has Journal there = absurd cc
+  rows_put AsMadeLogged two trees t has Meta there = has Meta there
+  rows_put AsMadeLogged two trees t has Section there = front (columns_in Section) _ (map section_row g.sections) (has Section there)
+  rows_put AsMadeLogged two trees t has Point there = absurd cc
+  rows_put AsMadeLogged two trees t has Staff there = front (columns_in Staff) _ (map staff_row staff) (has Staff there)
+  rows_put AsMadeLogged two trees t has Clearance there = has Clearance there
+  rows_put AsMadeLogged two trees t has Step there = has Step there
+  rows_put AsMadeLogged two trees t has Hold there = has Hold there
+  rows_put AsMadeLogged two trees t has NetworkPoint there = points_put (columns_in NetworkPoint) _ (has NetworkPoint there)
+  rows_put AsMadeLogged two trees t has Journal there = absurd cc
+  rows_put AsMovedLogged two trees t has Meta there = has Meta there
+  rows_put AsMovedLogged two trees t has Section there = front (columns_in Section) _ (map section_row g.sections) (has Section there)
+  rows_put AsMovedLogged two trees t has Point there = has Point there
+  rows_put AsMovedLogged two trees t has Staff there = front (columns_in Staff) _ (map staff_row staff) (has Staff there)
+  rows_put AsMovedLogged two trees t has Clearance there = has Clearance there
+  rows_put AsMovedLogged two trees t has Step there = has Step there
+  rows_put AsMovedLogged two trees t has Hold there = has Hold there
+  rows_put AsMovedLogged two trees t has NetworkPoint there = points_put (columns_in NetworkPoint) _ (has NetworkPoint there)
+  rows_put AsMovedLogged two trees t has Journal there = absurd cc
 
   sections_ordered : in_key_order row_cmp (take 1) (map section_row g.sections) ≡ true
   sections_ordered = named_order (λ s. s.name) section_row (λ s. refl) g.sections ∙ in_key_order-from_sorted name_cmp (λ s. s.name) g.sections net.sections_rise
@@ -172,6 +213,7 @@ module _ (g : Grid) (staff : List StaffRow) (states : List PointState) (net : Is
   renewed_in_order AsMade two t ordered Step = ordered Step
   renewed_in_order AsMade two t ordered Hold = ordered Hold
   renewed_in_order AsMade two t ordered NetworkPoint = points_ordered
+  renewed_in_order AsMade two t ordered Journal = refl
   renewed_in_order AsMoved two t ordered Meta = ordered Meta
   renewed_in_order AsMoved two t ordered Section = sections_ordered
   renewed_in_order AsMoved two t ordered Point = refl
@@ -180,13 +222,39 @@ module _ (g : Grid) (staff : List StaffRow) (states : List PointState) (net : Is
   renewed_in_order AsMoved two t ordered Step = ordered Step
   renewed_in_order AsMoved two t ordered Hold = ordered Hold
   renewed_in_order AsMoved two t ordered NetworkPoint = points_ordered
+  renewed_in_order AsMoved two t ordered Journal = refl
+  renewed_in_order AsMadeLogged two t ordered Meta = ordered Meta
+  renewed_in_order AsMadeLogged two t ordered Section = sections_ordered
+  renewed_in_order AsMadeLogged two t ordered Point = refl
+  renewed_in_order AsMadeLogged two t ordered Staff = staff_ordered
+  renewed_in_order AsMadeLogged two t ordered Clearance = ordered Clearance
+  renewed_in_order AsMadeLogged two t ordered Step = ordered Step
+  renewed_in_order AsMadeLogged two t ordered Hold = ordered Hold
+  renewed_in_order AsMadeLogged two t ordered NetworkPoint = points_ordered
+  renewed_in_order AsMadeLogged two t ordered Journal = refl
+  renewed_in_order AsMovedLogged two t ordered Meta = ordered Meta
+  renewed_in_order AsMovedLogged two t ordered Section = sections_ordered
+  renewed_in_order AsMovedLogged two t ordered Point = refl
+  renewed_in_order AsMovedLogged two t ordered Staff = staff_ordered
+  renewed_in_order AsMovedLogged two t ordered Clearance = ordered Clearance
+  renewed_in_order AsMovedLogged two t ordered Step = ordered Step
+  renewed_in_order AsMovedLogged two t ordered Hold = ordered Hold
+  renewed_in_order AsMovedLogged two t ordered NetworkPoint = points_ordered
+  renewed_in_order AsMovedLogged two t ordered Journal = refl
 
-  pub renewed_tables : (l : Layout) → is_two l ≡ true → (db : Database) (t : Tables) → IsInOrder l t → Holds l db (rows_renewed g.sections g.points states staff t) → HasTables db (tables_renewed g staff states t)
-  renewed_tables l two db t ordered has = record {
+  pub renewed_tables : (l : Layout) → is_two l ≡ true → (db : Database) (t : Tables) → IsInOrder l t → Holds l db (rows_renewed g.sections g.points states staff t) → IsPlaced l db.trees
+      → HasTables db (tables_renewed g staff states t)
+  renewed_tables l two db t ordered has placed = record {
     layout = l;
     two = two;
-    here = record { holds = record { schema = has.schema; listed = has.listed; rows = rows_put l two db.trees t has.rows }; in_order = renewed_in_order l two t ordered };
+    here = record { holds = record { schema = has.schema; listed = has.listed; rows = rows_put l two db.trees t has.rows }; in_order = renewed_in_order l two t ordered; placed = placed };
   }
+
+  pub made_renewed : (old new : State) (t : Tables) (has : HasTables old.now t) → Changes old new (rows_renewed g.sections g.points states staff) → HasTables new.now (tables_renewed g staff states t)
+  made_renewed old new t has changes =
+      let here = HasTables.here has in
+      renewed_tables has.layout has.two new.now t here.in_order (changes.tables has.layout has.two t here.holds)
+      (still_placed has.layout old.now new.now (changes.place has.layout has.two t here.holds) here.placed)
 
   pub renewed_crash : {S : Type 0} (s : Ghosts S) (old mid end : Held S) → Survives (state s (record old { in_transaction = true })) (state s mid) (λ _. ⊥)
       → Survives (state s mid) (state s end) (λ db. db ≡ (state s mid).now.trees)
@@ -194,4 +262,4 @@ module _ (g : Grid) (staff : List StaffRow) (states : List PointState) (net : Is
       → Survives (state s old) (state s end) (AreRenewed (state s old).now g staff states)
   renewed_crash s old mid end inside ended changes = crash_leaves s old mid end _ inside ended (λ clean t has.
       left_of (state s mid).now (tables_renewed g staff states t)
-      (renewed_tables has.layout has.two (state s mid).now t has.here.in_order ((changes clean).tables has.layout has.two t has.here.holds)))
+      (made_renewed (state s (record old { in_transaction = true })) (state s mid) t has (changes clean)))

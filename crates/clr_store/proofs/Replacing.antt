@@ -44,11 +44,11 @@ use Rattle.sqlite_value.specs.Keys.{first_key, plain}
 use Rattle.sqlite_value.proofs.OrderLemmas.{value_cmp_total}
 use Rattle.clr_tables.specs.TableEdits.{with_table_row, without_table_row}
 use Rattle.clr_tables.specs.declared.table_name.TableName.{TableName}
-use Rattle.clr_tables.specs.declared.table_name.TableName.TheVariants.{Meta, Section, Point, Staff, Clearance, Step, Hold, NetworkPoint}
+use Rattle.clr_tables.specs.declared.table_name.TableName.TheVariants.{Meta, Section, Point, Staff, Clearance, Step, Hold, NetworkPoint, Journal}
 use Rattle.clr_store.specs.Change.{Changes, after_replace, with_rows}
 use Rattle.clr_load.specs.Layout.{has_table, tree_in}
 use Rattle.clr_load.specs.declared.layout.Layout.{Layout}
-use Rattle.clr_load.specs.declared.layout.Layout.TheVariants.{AsMade, AsMoved, OfOne}
+use Rattle.clr_load.specs.declared.layout.Layout.TheVariants.{AsMade, AsMadeLogged, AsMoved, AsMovedLogged, OfOne}
 use Rattle.clr_load.specs.Schema.{columns_in, first_columns, keys_in, schema_in, table_in}
 use Rattle.clr_load.specs.Sql.{replace_sql}
 use Rattle.clr_load.specs.Stored.{HasRows, bodies, fits_columns, is_set, rows_in}
@@ -57,7 +57,7 @@ use Rattle.clr_load.proofs.Columns.{both_true, cast_fits, equal_is, fits_length,
 use Rattle.clr_load.proofs.Texts.{key_tests, replace_is, replaced, replacing, terms_from, tests_from, width_of}
 use Rattle.clr_store.proofs.Effects.{AreUnique, are_unique, ids_listed, is_met, no_reference, one_write, shown_rows, task_on, went, wrote}
 use Rattle.clr_store.proofs.Inside.{changed_to, in_any_order, met_is, put_again, runs_inside, taken_away}
-use Rattle.clr_store.proofs.Layouts.{at_place, in_two}
+use Rattle.clr_store.proofs.Layouts.{at_place, in_two, rows_in_two}
 use Rattle.clr_store.proofs.RowLemmas.{put_fresh, removed}
 use Rattle.clr_store.proofs.Updates.{fresh_parts, given_numbers, put_all_fresh}
 
@@ -84,27 +84,48 @@ pub unique_is : (l : Layout) (name : TableName) (db : Trees) (r : Row) → has_t
 unique_is OfOne Meta db r has h = clear _ h
 unique_is AsMade Meta db r has h = clear _ h
 unique_is AsMoved Meta db r has h = clear _ h
+unique_is AsMadeLogged Meta db r has h = clear _ h
+unique_is AsMovedLogged Meta db r has h = clear _ h
 unique_is OfOne Section db r has h = clear _ h
 unique_is AsMade Section db r has h = clear _ h
 unique_is AsMoved Section db r has h = clear _ h
+unique_is AsMadeLogged Section db r has h = clear _ h
+unique_is AsMovedLogged Section db r has h = clear _ h
 unique_is OfOne Point db r has h = clear _ h
 unique_is AsMade Point db r has h = absurd cc
 unique_is AsMoved Point db r has h = clear _ h
+unique_is AsMadeLogged Point db r has h = absurd cc
+unique_is AsMovedLogged Point db r has h = clear _ h
 unique_is OfOne Staff db r has h = clear _ h
 unique_is AsMade Staff db r has h = clear _ h
 unique_is AsMoved Staff db r has h = clear _ h
+unique_is AsMadeLogged Staff db r has h = clear _ h
+unique_is AsMovedLogged Staff db r has h = clear _ h
 unique_is OfOne Clearance db r has h = clear _ h
 unique_is AsMade Clearance db r has h = clear _ h
 unique_is AsMoved Clearance db r has h = clear _ h
+unique_is AsMadeLogged Clearance db r has h = clear _ h
+unique_is AsMovedLogged Clearance db r has h = clear _ h
 unique_is OfOne Step db r has h = clear _ h
 unique_is AsMade Step db r has h = clear _ h
 unique_is AsMoved Step db r has h = clear _ h
+unique_is AsMadeLogged Step db r has h = clear _ h
+unique_is AsMovedLogged Step db r has h = clear _ h
 unique_is OfOne Hold db r has h = clear _ h
 unique_is AsMade Hold db r has h = clear _ h
 unique_is AsMoved Hold db r has h = clear _ h
+unique_is AsMadeLogged Hold db r has h = clear _ h
+unique_is AsMovedLogged Hold db r has h = clear _ h
 unique_is OfOne NetworkPoint db r has h = absurd cc
 unique_is AsMade NetworkPoint db r has h = clear _ h
 unique_is AsMoved NetworkPoint db r has h = clear _ h
+unique_is AsMadeLogged NetworkPoint db r has h = clear _ h
+unique_is AsMovedLogged NetworkPoint db r has h = clear _ h
+unique_is OfOne Journal db r has h = absurd cc
+unique_is AsMade Journal db r has h = absurd cc
+unique_is AsMoved Journal db r has h = absurd cc
+unique_is AsMadeLogged Journal db r has h = clear _ h
+unique_is AsMovedLogged Journal db r has h = clear _ h
 
 equal_itself : (v : Value) → is_set v ≡ true → equal Binary v v ≡ true
 equal_itself v set = equal_is v v set ∙ ap is_eq (tied_itself value_cmp_total v)
@@ -264,7 +285,7 @@ module _ (name : TableName) (row : Row) (fits : fits_columns (columns_in name) r
       let others = filter (λ r. not (is_met (key_tests name) row r)) tree in
       let shown = shown_rows (tree_in l name) (key_tests name) (Query.project (replaced l name)) [] db row given.0 a in
       let ids = ids_listed _ given.0 (filter (is_met (key_tests name) row) tree) shown (map-map (λ r. id_in (rowid r)) project (filter (is_met (key_tests name) row) tree)) in
-      let gone : without_all tree (ids_of given.0) ≡ others = removed tree (has.rows name there).numbered (is_met (key_tests name) row) (ids_of given.0) ids in
+      let gone : without_all tree (ids_of given.0) ≡ others = removed tree (has.rows name (rows_in_two name here l two)).numbered (is_met (key_tests name) row) (ids_of given.0) ids in
       let news : it.news ≡ map stored given.0 = given_numbers (without_all tree (ids_of given.0)) (map stored given.0) in
       let rows : written.0 (tree_in l name) ≡ put_all others (map stored given.0) = step.rows ∙ ap (λ x. put_all x it.news) gone ∙ ap (put_all others) news in
       let made : All IsMade (map stored given.0) =
@@ -273,7 +294,7 @@ module _ (name : TableName) (row : Row) (fits : fits_columns (columns_in name) r
       let counted : count ≡ length (map stored given.0) =
       w.counted ∙ ap (λ (p : Tally × Database). unwrap_or (Tally.rows p.0) 0) ended ∙ ap (λ (it : Written). length it.rows) wrote_is ∙ ap length news in
       let uniques = are_unique l name written.0 there (step.fits.rules Unique no_reference) in
-      let built = rebuilt l there tree (rows_in l name t) (has.rows name there) written.0 (map stored given.0) count uniques rows
+      let built = rebuilt l there tree (rows_in l name t) (has.rows name (rows_in_two name here l two)) written.0 (map stored given.0) count uniques rows
       (subst (λ n. are_fresh others n ≡ true) news (subst (λ x. are_fresh x it.news ≡ true) gone step.fresh))
       (subst (λ n. have_rowids n ≡ true) news step.keyed) made counted in
       let did = wrote l old new name _ written.0 (ap (λ (d : Database). d.schema) now) w.sound (ap (λ (d : Database). d.trees) now ∙ trees) rows step.tables in

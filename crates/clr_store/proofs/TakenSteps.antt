@@ -16,16 +16,16 @@ use Rattle.clr_tables.specs.declared.table_name.TableName.TheVariants.{Step}
 use Rattle.clr_load.proofs.Reopened.{left_of}
 use Rattle.clr_load.specs.Layout.{is_two}
 use Rattle.clr_load.specs.Schema.{keys_in}
-use Rattle.clr_load.specs.Stored.{HasTables, Holds, IsInOrder}
+use Rattle.clr_load.specs.Stored.{HasTables, Holds, IsInOrder, IsPlaced}
 use Rattle.clr_load.specs.declared.layout.Layout.{Layout}
-use Rattle.clr_store.proofs.Inside.{crash_leaves}
+use Rattle.clr_store.proofs.Inside.{crash_leaves, still_placed}
 use Rattle.clr_store.proofs.Layouts.{each_changed}
 use Rattle.clr_store.specs.Change.{Changes}
 use Rattle.clr_store.specs.StepsTaken.{AreWithoutSteps, step_key_values, without_step, without_steps}
 
 pub no_keys : (s : State) → IsTrue s.in_transaction → Changes s s (without_steps [])
 unfolding without_steps
-no_keys s inside = record { inside = inside; kept = record { was_open = λ open_now. open_now; committed = λ _. refl }; tables = λ l two t has. has }
+no_keys s inside = record { inside = inside; kept = record { was_open = λ open_now. open_now; committed = λ _. refl }; tables = λ l two t has. has; place = λ l two t has there. refl }
 
 without_more : (keys : List StepKey) (key : StepKey) (t : Tables) → without_steps (keys ++ key ∷ []) t ≡ without_step key (without_steps keys t)
 unfolding without_steps
@@ -41,6 +41,7 @@ one_key_more old new keys n key within is both = record {
       let more : without_steps (take (n + 1) keys) t ≡ without_step key (without_steps (take n keys) t) =
       ap (λ l. without_steps l t) (take_more keys n key within ∙ ap (λ x. take n keys ++ x ∷ []) (sym is)) ∙ without_more (take n keys) key t in
       subst (Holds l new.now) (sym more) (both.tables l two t has);
+  place = both.place;
 }
 
 -- the order of keys is kept
@@ -54,12 +55,19 @@ unfolding without_steps
 steps_in_order l two [] t ordered = ordered
 steps_in_order l two (key ∷ keys) t ordered = steps_in_order l two keys (without_step key t) (step_in_order l two key t ordered)
 
-pub taken_tables : (l : Layout) → is_two l ≡ true → (db : Database) (keys : List StepKey) (t : Tables) → IsInOrder l t → Holds l db (without_steps keys t) → HasTables db (without_steps keys t)
-taken_tables l two db keys t ordered has = record { layout = l; two = two; here = record { holds = has; in_order = steps_in_order l two keys t ordered } }
+pub taken_tables : (l : Layout) → is_two l ≡ true → (db : Database) (keys : List StepKey) (t : Tables) → IsInOrder l t → Holds l db (without_steps keys t) → IsPlaced l db.trees
+    → HasTables db (without_steps keys t)
+taken_tables l two db keys t ordered has placed = record { layout = l; two = two; here = record { holds = has; in_order = steps_in_order l two keys t ordered; placed = placed } }
+
+pub left_tables : (old new : State) (keys : List StepKey) (t : Tables) (has : HasTables old.now t) → Changes old new (without_steps keys) → HasTables new.now (without_steps keys t)
+left_tables old new keys t has changes =
+    let here = HasTables.here has in
+    taken_tables has.layout has.two new.now keys t here.in_order (changes.tables has.layout has.two t here.holds)
+    (still_placed has.layout old.now new.now (changes.place has.layout has.two t here.holds) here.placed)
 
 pub taken_crash : {S : Type 0} (g : Ghosts S) (old mid end : Held S) (keys : List StepKey) → Survives (state g (record old { in_transaction = true })) (state g mid) (λ _. ⊥)
     → Survives (state g mid) (state g end) (λ db. db ≡ (state g mid).now.trees)
     → (HasCleanDisk (state g mid) → Changes (state g (record old { in_transaction = true })) (state g mid) (without_steps keys))
     → Survives (state g old) (state g end) (AreWithoutSteps (state g old).now keys)
 taken_crash g old mid end keys inside ended changes = crash_leaves g old mid end _ inside ended (λ clean t has.
-    left_of (state g mid).now (without_steps keys t) (taken_tables has.layout has.two (state g mid).now keys t has.here.in_order ((changes clean).tables has.layout has.two t has.here.holds)))
+    left_of (state g mid).now (without_steps keys t) (left_tables (state g (record old { in_transaction = true })) (state g mid) keys t has (changes clean)))

@@ -8,7 +8,8 @@ use Rattle.std.specs.declared.cmp.Ordering.TheVariants.{Less}
 use Rattle.std.proofs.lemmas.Bool.{true≢false}
 use Rattle.std.proofs.lemmas.Slice.Eq.{bytes_eq-Decides}
 use Rattle.std.specs.Str.{bytes_eq}
-use Rattle.std.proofs.lemmas.List.Sorted.{IsPermutation-cons, IsPermutation-refl, IsPermutation-sym, IsPermutation-trans}
+use Rattle.std.proofs.lemmas.List.{length-map}
+use Rattle.std.proofs.lemmas.List.Sorted.{IsPermutation-cons, IsPermutation-refl, IsPermutation-sym, IsPermutation-trans, length_permutation}
 use Rattle.sqlite.specs.Effect.{Database, IsDatabase}
 use Rattle.sqlite.specs.Kind.{Kind}
 use Rattle.sqlite.specs.Schema.{Schema}
@@ -37,12 +38,12 @@ use Rattle.clr_tables.specs.TableEdits.{with_table_row, without_table_row}
 use Rattle.clr_tables.specs.RowsRead.{integer_of, read_version, version_if_there}
 use Rattle.clr_tables.specs.Tables.{Tables, version_row}
 use Rattle.clr_tables.specs.declared.table_name.TableName.{TableName}
-use Rattle.clr_tables.specs.declared.table_name.TableName.TheVariants.{Meta, Section, Point, Staff, Clearance, Step, Hold, NetworkPoint}
-use Rattle.clr_load.specs.Layout.{has_table, tree_in}
+use Rattle.clr_tables.specs.declared.table_name.TableName.TheVariants.{Meta, Section, Point, Staff, Clearance, Step, Hold, NetworkPoint, Journal}
+use Rattle.clr_load.specs.Layout.{has_rows, has_table, is_moved, tree_in}
 use Rattle.clr_load.specs.declared.layout.Layout.{Layout}
-use Rattle.clr_load.specs.declared.layout.Layout.TheVariants.{AsMade, AsMoved, OfOne}
+use Rattle.clr_load.specs.declared.layout.Layout.TheVariants.{AsMade, AsMadeLogged, AsMoved, AsMovedLogged, OfOne}
 use Rattle.clr_load.specs.Schema.{behind_meta, columns_in, first_columns, keys_in, schema_in, table_at, table_in}
-use Rattle.clr_load.specs.Stored.{AreWhole, HasMeta, HasRows, HasVersion, HasWholeRows, IsInOrder, IsLaidOut, bodies, fits_columns, is_of_kind, is_set, rows_in}
+use Rattle.clr_load.specs.Stored.{AreWhole, HasMeta, HasRows, HasVersion, HasWholeRows, IsInOrder, IsLaidOut, IsPlaced, bodies, fits_columns, is_of_kind, is_set, rows_in}
 use Rattle.clr_load.proofs.Columns.{both_true, sets_from, sets_shift}
 use Rattle.clr_load.proofs.Loading.{has_meta}
 use Rattle.clr_store.specs.There.{MetaIsThere, TablesAreThere}
@@ -124,6 +125,7 @@ plain_columns Clearance = refl
 plain_columns Step = refl
 plain_columns Hold = refl
 plain_columns NetworkPoint = refl
+plain_columns Journal = refl
 
 -- ---- a key has no NULL
 abbrev has_value : Column → Bool
@@ -156,6 +158,7 @@ keyed_columns Clearance = (omega arith, refl)
 keyed_columns Step = (omega arith, refl)
 keyed_columns Hold = (omega arith, refl)
 keyed_columns NetworkPoint = (omega arith, refl)
+keyed_columns Journal = (omega arith, refl)
 
 sets_taken : (n at k : ℕ) (row : Row) → at + n ≤ k → sets_from at n row ≡ true → sets_from at n (take k row) ≡ true
 sets_taken zero at k row low h = refl
@@ -309,6 +312,8 @@ abbrev points_in : Layout → TableName
 points_in OfOne = Point
 points_in AsMade = NetworkPoint
 points_in AsMoved = NetworkPoint
+points_in AsMadeLogged = NetworkPoint
+points_in AsMovedLogged = NetworkPoint
 
 abbrev tables_there : Layout → Trees → Tables
 tables_there l trees = record {
@@ -324,7 +329,7 @@ tables_there l trees = record {
 none_there : (columns : List Column) (tree : List Row) → tree ≡ [] → HasRows columns tree []
 none_there columns tree none = record { same = rw none (IsPermutation-refl _); numbered = rw none (tt, tt); fit = refl }
 
-each_there : (l : Layout) (trees : Trees) → (l ≡ AsMoved → trees (tree_in AsMoved Point) ≡ []) → IsSound (schema_in l) trees → AreWhole l trees → (name : TableName) → has_table l name ≡ true
+each_there : (l : Layout) (trees : Trees) → (is_moved l ≡ true → trees (tree_in l Point) ≡ []) → IsSound (schema_in l) trees → AreWhole l trees → (name : TableName) → has_rows l name ≡ true
     → HasRows (columns_in name) (trees (tree_in l name)) (rows_in l name (tables_there l trees))
 each_there OfOne trees emptied sound whole Meta there = table_there OfOne trees Meta there sound whole
 each_there OfOne trees emptied sound whole Section there = table_there OfOne trees Section there sound whole
@@ -350,6 +355,23 @@ each_there AsMoved trees emptied sound whole Clearance there = table_there AsMov
 each_there AsMoved trees emptied sound whole Step there = table_there AsMoved trees Step there sound whole
 each_there AsMoved trees emptied sound whole Hold there = table_there AsMoved trees Hold there sound whole
 each_there AsMoved trees emptied sound whole NetworkPoint there = table_there AsMoved trees NetworkPoint there sound whole
+each_there AsMadeLogged trees emptied sound whole Meta there = table_there AsMadeLogged trees Meta there sound whole
+each_there AsMadeLogged trees emptied sound whole Section there = table_there AsMadeLogged trees Section there sound whole
+each_there AsMadeLogged trees emptied sound whole Point there = absurd cc
+each_there AsMadeLogged trees emptied sound whole Staff there = table_there AsMadeLogged trees Staff there sound whole
+each_there AsMadeLogged trees emptied sound whole Clearance there = table_there AsMadeLogged trees Clearance there sound whole
+each_there AsMadeLogged trees emptied sound whole Step there = table_there AsMadeLogged trees Step there sound whole
+each_there AsMadeLogged trees emptied sound whole Hold there = table_there AsMadeLogged trees Hold there sound whole
+each_there AsMadeLogged trees emptied sound whole NetworkPoint there = table_there AsMadeLogged trees NetworkPoint there sound whole
+each_there AsMovedLogged trees emptied sound whole Meta there = table_there AsMovedLogged trees Meta there sound whole
+each_there AsMovedLogged trees emptied sound whole Section there = table_there AsMovedLogged trees Section there sound whole
+each_there AsMovedLogged trees emptied sound whole Point there = none_there (columns_in Point) (trees (tree_in AsMovedLogged Point)) (emptied refl)
+each_there AsMovedLogged trees emptied sound whole Staff there = table_there AsMovedLogged trees Staff there sound whole
+each_there AsMovedLogged trees emptied sound whole Clearance there = table_there AsMovedLogged trees Clearance there sound whole
+each_there AsMovedLogged trees emptied sound whole Step there = table_there AsMovedLogged trees Step there sound whole
+each_there AsMovedLogged trees emptied sound whole Hold there = table_there AsMovedLogged trees Hold there sound whole
+each_there AsMovedLogged trees emptied sound whole NetworkPoint there = table_there AsMovedLogged trees NetworkPoint there sound whole
+each_there l trees emptied sound whole Journal there = absurd cc
 
 order_there : (l : Layout) (trees : Trees) → IsInOrder l (tables_there l trees)
 order_there OfOne trees Meta = sorted_in_order 1 (bodies (trees 0))
@@ -376,6 +398,42 @@ order_there AsMoved trees Clearance = sorted_in_order 2 (bodies (trees 8))
 order_there AsMoved trees Step = sorted_in_order 4 (bodies (trees 10))
 order_there AsMoved trees Hold = sorted_in_order 4 (bodies (trees 12))
 order_there AsMoved trees NetworkPoint = sorted_in_order 1 (bodies (trees 14))
+order_there AsMadeLogged trees Meta = sorted_in_order 1 (bodies (trees 0))
+order_there AsMadeLogged trees Section = sorted_in_order 1 (bodies (trees 2))
+order_there AsMadeLogged trees Point = refl
+order_there AsMadeLogged trees Staff = sorted_in_order 1 (bodies (trees 6))
+order_there AsMadeLogged trees Clearance = sorted_in_order 2 (bodies (trees 8))
+order_there AsMadeLogged trees Step = sorted_in_order 4 (bodies (trees 10))
+order_there AsMadeLogged trees Hold = sorted_in_order 4 (bodies (trees 12))
+order_there AsMadeLogged trees NetworkPoint = sorted_in_order 1 (bodies (trees 4))
+order_there AsMovedLogged trees Meta = sorted_in_order 1 (bodies (trees 0))
+order_there AsMovedLogged trees Section = sorted_in_order 1 (bodies (trees 2))
+order_there AsMovedLogged trees Point = refl
+order_there AsMovedLogged trees Staff = sorted_in_order 1 (bodies (trees 6))
+order_there AsMovedLogged trees Clearance = sorted_in_order 2 (bodies (trees 8))
+order_there AsMovedLogged trees Step = sorted_in_order 4 (bodies (trees 10))
+order_there AsMovedLogged trees Hold = sorted_in_order 4 (bodies (trees 12))
+order_there AsMovedLogged trees NetworkPoint = sorted_in_order 1 (bodies (trees 14))
+order_there l trees Journal = refl
+
+-- the table of the journal has its one row, if it is there
+place_there : (l : Layout) (trees : Trees) → (has_table l Journal ≡ true → length (trees (tree_in l Journal)) ≡ 1) → IsSound (schema_in l) trees → AreWhole l trees → IsPlaced l trees
+place_there l trees one sound whole = at (has_table l Journal) refl
+  where
+    only : (rows : List Row) → length rows ≡ 1 → HasRows (columns_in Journal) (trees (tree_in l Journal)) rows
+        → (row : Row) × HasRows (columns_in Journal) (trees (tree_in l Journal)) (row ∷ [])
+    only [] long has = absurd (omega (arith, long))
+    only (row ∷ []) long has = (row, has)
+    only (row ∷ next ∷ rows) long has = absurd (omega (arith, long))
+
+    at : (b : Bool) → has_table l Journal ≡ b → IsPlaced l trees
+    at false is = (None, is)
+    at true is =
+        let has = table_there l trees Journal is sound whole in
+        let tree = trees (tree_in l Journal) in
+        let long : length (rows_there l trees Journal) ≡ 1 = sym (length_permutation (rows_there l trees Journal) (bodies tree) has.same) ∙ length-map tree (drop 1) ∙ one is in
+        let it = only (rows_there l trees Journal) long has in
+        (Some it.0, (is, it.1))
 
 -- THERE ARE TABLES in a database that is laid out as a register, whose rows are whole
 pub there_are : TablesAreThere
@@ -386,6 +444,7 @@ there_are version db laid sound whole =
       record {
         holds = record { schema = laid.schema; listed = listed; rows = each_there l db.trees laid.emptied listed (whole l laid.schema) };
         in_order = order_there l db.trees;
+        placed = place_there l db.trees laid.one_place listed (whole l laid.schema);
       },
     )
 

@@ -49,7 +49,7 @@ use Rattle.clr_store.proofs.Given.{position_fits}
 use Rattle.clr_load.proofs.AllRead.{same_value}
 use Rattle.clr_load.specs.Sql.{set_hand_sql, set_position_sql}
 use Rattle.clr_load.proofs.Texts.{IsRead, changing, hand_terms, key_tests, position_terms, set_hand_is, set_position_is, updating}
-use Rattle.clr_store.proofs.Layouts.{at_place, in_two}
+use Rattle.clr_store.proofs.Layouts.{at_place, in_two, rows_in_two}
 
 -- ---- rows put under numbers that they have
 pub given_numbers : (rows news : List Row) → numbered Given rows news ≡ news
@@ -190,9 +190,9 @@ module _ (point : List ℕ) (more : Row) (terms : List Term) (change : Row → R
       let a : IsAnswer (changing l terms) (overlay db []) params given.0 = given.1.answer Null in
       let shown = shown_rows (tree_in l NetworkPoint) (key_tests NetworkPoint) (Query.project (changing l terms)) [] db params given.0 a in
       let ids = ids_listed _ given.0 (filter met tree) shown (map-map (λ r. id_in (rowid r)) (λ r. eval_all (Query.project (changing l terms)) (params ∷ r ∷ [])) (filter met tree)) in
-      let left : without_all tree (ids_of given.0) ≡ filter (λ r. not (met r)) tree = removed tree (has.rows NetworkPoint there).numbered met (ids_of given.0) ids in
+      let left : without_all tree (ids_of given.0) ≡ filter (λ r. not (met r)) tree = removed tree (has.rows NetworkPoint (rows_in_two NetworkPoint refl l two)).numbered met (ids_of given.0) ids in
       let news : it.news ≡ map (λ s. cast_row table (drop 1 s)) given.0 = given_numbers (without_all tree (ids_of given.0)) (map (λ s. cast_row table (drop 1 s)) given.0) in
-      let built = rebuilt l tree (rows_in l NetworkPoint t) given.0 (has.rows NetworkPoint there) shown
+      let built = rebuilt l tree (rows_in l NetworkPoint t) given.0 (has.rows NetworkPoint (rows_in_two NetworkPoint refl l two)) shown
       (subst (λ n. are_fresh (filter (λ r. not (met r)) tree) n ≡ true) news (subst (λ x. are_fresh x it.news ≡ true) left step.fresh))
       (subst (λ n. have_rowids n ≡ true) news step.keyed) in
       let did = wrote l old new NetworkPoint _ written.0 (ap (λ (d : Database). d.schema) now) w.sound (ap (λ (d : Database). d.trees) now ∙ trees)

@@ -7,7 +7,7 @@ use Rattle.sqlite.specs.Effect.{Database}
 use Rattle.sqlite.specs.declared.error.Error.{Error}
 use Rattle.clr_load.specs.Layout.{is_two, version_of}
 use Rattle.clr_load.specs.declared.layout.Layout.{Layout}
-use Rattle.clr_load.specs.declared.layout.Layout.TheVariants.{AsMade, AsMoved, OfOne}
+use Rattle.clr_load.specs.declared.layout.Layout.TheVariants.{AsMade, AsMadeLogged, AsMoved, AsMovedLogged, OfOne}
 use Rattle.clr_load.specs.Stored.{HasOldTables, HasTables, HasVersion}
 use Rattle.clr_load.specs.Cause.{fault_of}
 use Rattle.clr_load.specs.Contract.{RefusesPoints, TellsVersion, old_points}
@@ -40,6 +40,8 @@ two_has db t has told = record { layout = has.layout; version_is = two_is has.la
     two_is OfOne two = absurd cc
     two_is AsMade two = refl
     two_is AsMoved two = refl
+    two_is AsMadeLogged two = refl
+    two_is AsMovedLogged two = refl
 
 pub one_has : (db : Database) (t : Tables) → HasOldTables db t → t.meta ≡ version_row 1 ∷ [] → HasVersion 1 db
 one_has db t has told = record { layout = OfOne; version_is = refl; tables = t; here = has; told = told }

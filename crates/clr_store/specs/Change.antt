@@ -19,15 +19,20 @@ use Rattle.clr_tables.specs.Tables.{Tables, jumper_row, section_row, staff_row, 
 use Rattle.clr_tables.specs.declared.table_name.TableName.{TableName}
 use Rattle.clr_tables.specs.declared.table_name.TableName.TheVariants.{Meta, Section, Staff}
 use Rattle.clr_tables.specs.declared.table_name.TableName.TheVariants.{Clearance, Step, Hold}
-use Rattle.clr_tables.specs.declared.table_name.TableName.TheVariants.{NetworkPoint}
+use Rattle.clr_tables.specs.declared.table_name.TableName.TheVariants.{NetworkPoint, Journal}
 use Rattle.clr_load.specs.Fault.{IsOfDatabase}
 use Rattle.clr_load.specs.Inside.{RunsInside}
-use Rattle.clr_load.specs.Layout.{is_two, place_in, tree_in}
+use Rattle.clr_load.specs.Layout.{has_table, is_two, place_in, tree_in}
 use Rattle.clr_load.specs.declared.layout.Layout.{Layout}
-use Rattle.clr_load.specs.declared.layout.Layout.TheVariants.{AsMade, AsMoved}
-use Rattle.clr_load.specs.Schema.{keys_in, schema_of}
-use Rattle.clr_load.specs.Stored.{Holds, rows_in}
+use Rattle.clr_load.specs.declared.layout.Layout.TheVariants.{AsMade, AsMovedLogged}
+use Rattle.clr_load.specs.Schema.{columns_in, keys_in, schema_of}
+use Rattle.clr_load.specs.Stored.{HasRows, Holds, rows_in}
 use Rattle.clr_load.specs.declared.fault.StoreFault.{StoreFault}
+
+-- the table of the journal has the rows that it had
+abbrev pub SamePlace : Layout → Database → Database → Type 0
+SamePlace l before after = has_table l Journal ≡ true
+    → after.trees (tree_in l Journal) ≡ before.trees (tree_in l Journal)
 
 -- the tables of version 2 with these rows
 abbrev pub tables_with : (TableName → List Row) → Tables
@@ -42,7 +47,7 @@ tables_with rows = record {
 }
 
 abbrev pub is_same : TableName → TableName → Bool
-is_same name other = place_in AsMoved name == place_in AsMoved other
+is_same name other = place_in AsMovedLogged name == place_in AsMovedLogged other
 
 -- a change of the rows of one table, as it is for another
 abbrev pub change_at : TableName → TableName → (List Row → List Row) → List Row → List Row
@@ -62,6 +67,47 @@ pub record Changes (old new : State) (change : Tables → Tables) : Type 0 where
   pub kept : KeepsCommit old new
   pub tables : (l : Layout) → is_two l ≡ true → (t : Tables) → Holds l old.now t
       → Holds l new.now (change t)
+  -- the place in a journal stays as it was
+  pub place : (l : Layout) → is_two l ≡ true → (t : Tables) → Holds l old.now t
+      → SamePlace l old.now new.now
+
+-- the rows of the journal's table are changed inside the transaction, where there is one, and those
+-- of the register stay; nothing is committed
+pub record ChangesPlace (old new : State) (change : List Row → List Row) : Type 0 where
+  pub inside : IsTrue new.in_transaction
+  pub kept : KeepsCommit old new
+  pub places : (l : Layout) → is_two l ≡ true → (t : Tables) → Holds l old.now t
+      → has_table l Journal ≡ true → (rows : List Row)
+      → HasRows (columns_in Journal) (old.now.trees (tree_in l Journal)) rows
+      → Holds l new.now t
+      × HasRows (columns_in Journal) (new.now.trees (tree_in l Journal)) (change rows)
+
+-- a call inside a transaction changes these rows so, or fails
+abbrev pub PutsPlace : {S X : Type 0} → Ghosts S → Transaction S → Transaction S
+    → (List Row → List Row) → Result X StoreFault → Type 0
+PutsPlace g old new change result =
+    RunsInside g old new IsOfDatabase
+    (λ _. ChangesPlace (state g old.conn.now) (state g new.conn.now) change)
+    (λ _. KeepsCommit (state g old.conn.now) (state g new.conn.now)) result
+
+-- the tables are changed inside the transaction, where there is a table of the journal, and that has
+-- this place; nothing is committed
+pub record ChangesAt (old new : State) (change : Tables → Tables) (place : Row) : Type 0 where
+  pub inside : IsTrue new.in_transaction
+  pub kept : KeepsCommit old new
+  pub both : (l : Layout) → is_two l ≡ true → (t : Tables) → Holds l old.now t
+      → has_table l Journal ≡ true → (rows : List Row)
+      → HasRows (columns_in Journal) (old.now.trees (tree_in l Journal)) rows
+      → Holds l new.now (change t)
+      × HasRows (columns_in Journal) (new.now.trees (tree_in l Journal)) (place ∷ [])
+
+-- a call inside a transaction does both, or fails
+abbrev pub MakesAt : {S X : Type 0} → Ghosts S → Transaction S → Transaction S → (Tables → Tables)
+    → Row → Result X StoreFault → Type 0
+MakesAt g old new change place result =
+    RunsInside g old new IsOfDatabase
+    (λ _. ChangesAt (state g old.conn.now) (state g new.conn.now) change place)
+    (λ _. KeepsCommit (state g old.conn.now) (state g new.conn.now)) result
 
 -- A CALL INSIDE A TRANSACTION DOES THIS CHANGE, or fails; it commits nothing
 abbrev pub Does : {S X : Type 0} → Ghosts S → Transaction S → Transaction S → (Tables → Tables)

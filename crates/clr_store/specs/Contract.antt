@@ -1,6 +1,7 @@
 -- What the store promises.
-use Rattle.std.specs.Prelude.{◌≡◌, ◌≢◌, ℤ, pos, List, [], ◌∷◌, Result, Ok, Err, ⊤}
+use Rattle.std.specs.Prelude.{◌≡◌, ◌≢◌, ℤ, pos, List, [], ◌∷◌, Option, Some, Result, Ok, Err, ⊤}
 use Rattle.sqlite.specs.Effect.{Database}
+use Rattle.sqlite.specs.Order.{Row}
 use Rattle.sqlite.specs.Tree.{Trees}
 use Rattle.clr_rules.specs.declared.change.Edit.{Edit}
 use Rattle.clr_tables.specs.TableEdits.{tables_edited}
@@ -8,7 +9,7 @@ use Rattle.clr_tables.specs.RowsRead.{read_version}
 use Rattle.clr_tables.specs.Tables.{Tables, version_row}
 use Rattle.clr_tables.specs.declared.table_name.TableName.{TableName}
 use Rattle.clr_tables.specs.declared.table_name.TableName.TheVariants.{Meta}
-use Rattle.clr_load.specs.Stored.{AreTables, HasTables}
+use Rattle.clr_load.specs.Stored.{ArePlaced, AreTables, HasTables}
 use Rattle.clr_load.specs.declared.fault.StoreFault.{StoreFault}
 use Rattle.clr_load.specs.declared.fault.StoreFault.TheVariants.{Sql, WrongVersion, BadRow}
 use Rattle.clr_load.specs.declared.fault.StoreFault.TheVariants.{NoMemory, OtherTables}
@@ -22,6 +23,25 @@ AreEdited before edits trees = (t : Tables) → HasTables before t
 abbrev pub MakesEdits : Database → List Edit → Database → Type 0
 MakesEdits before edits after = (t : Tables) → HasTables before t
     → HasTables after (tables_edited edits t)
+
+-- the same with a place in the journal: of each register that was there the edits are made, and it has
+-- the place
+abbrev pub AreEditedAt : Database → List Edit → Row → Trees → Type 0
+AreEditedAt before edits place trees = (t : Tables) → HasTables before t
+    → AreTables trees (tables_edited edits t) × ArePlaced trees (Some place)
+
+abbrev pub MakesEditsAt : Database → List Edit → Row → Database → Type 0
+MakesEditsAt before edits place after = (t : Tables) → HasTables before t
+    → HasTables after (tables_edited edits t) × ArePlaced after.trees (Some place)
+
+-- the register has the place that it had, or none as before
+abbrev pub KeepsPlace : Database → Database → Type 0
+KeepsPlace before after = (t : Tables) → HasTables before t → (place : Option Row)
+    → ArePlaced before.trees place → ArePlaced after.trees place
+
+-- the trees have the tables and this place
+abbrev pub AreTablesAt : Tables → Row → Trees → Type 0
+AreTablesAt t place trees = AreTables trees t × ArePlaced trees (Some place)
 
 -- why a database is not opened: the version does not read, or it is not 2, or it is 2 and the tables
 -- are not those of a register

@@ -14,7 +14,7 @@ use Rattle.clr_tables.specs.Tables.{Tables, flag_value, version_row}
 use Rattle.clr_tables.specs.declared.table_name.TableName.{TableName}
 use Rattle.clr_tables.specs.declared.table_name.TableName.TheVariants.{Meta, Section, Point, Staff}
 use Rattle.clr_tables.specs.declared.table_name.TableName.TheVariants.{Clearance, Step, Hold}
-use Rattle.clr_tables.specs.declared.table_name.TableName.TheVariants.{NetworkPoint}
+use Rattle.clr_tables.specs.declared.table_name.TableName.TheVariants.{NetworkPoint, Journal}
 use Rattle.clr_store.specs.Change.{Makes}
 use Rattle.clr_load.specs.Contract.{old_points}
 use Rattle.clr_load.specs.Inside.{RunsInside}
@@ -38,6 +38,7 @@ rows_moving olds news t Clearance = t.clearances
 rows_moving olds news t Step = t.steps
 rows_moving olds news t Hold = t.holds
 rows_moving olds news t NetworkPoint = news
+rows_moving olds news t Journal = []
 
 abbrev pub IsMoving : List Row → List Row → Tables → Database → Type 0
 IsMoving olds news t db = Keeps AsMoved db (rows_moving olds news t)

@@ -1,24 +1,27 @@
 //! The tables are made, with the rows of an opening register, in one transaction.
-ghost use Rattle.std.specs.Prelude.{IfErr, ◌≡◌, [], ◌∷◌, ◌++◌, false, true, IsTrue, OnErr, OnOk, map};
+ghost use Rattle.std.specs.Prelude.{IfErr, ◌≡◌, [], ◌∷◌, ◌++◌, false, true, IsTrue, OnErr, OnOk, Some, map};
 ghost use Rattle.sqlite.specs.Held.{state};
 ghost use Rattle.sqlite.specs.State.{HasCleanDisk, Survives};
 ghost use Rattle.clr_rules.specs.Register.{first_state, opening};
-ghost use Rattle.clr_tables.specs.Tables.{jumper_row, section_row, staff_row, tables_of};
-ghost use Rattle.clr_tables.specs.Tables.{version_row};
+ghost use Rattle.clr_tables.specs.Tables.{jumper_row, place_row, section_row, staff_row};
+ghost use Rattle.clr_tables.specs.Tables.{tables_of, version_row};
 ghost use Rattle.clr_store.specs.Change.{Does, HasEmpty, Reaches, added, opening_points, filled};
 ghost use Rattle.clr_store.specs.Change.{with_rows};
 ghost use Rattle.clr_load.specs.Fault.{IsOfDatabase};
 ghost use Rattle.clr_load.specs.Contract.{IsSaved};
 ghost use Rattle.clr_load.specs.Layout.{has_table, names_before, names_in};
-ghost use Rattle.clr_load.specs.declared.layout.Layout.TheVariants.{AsMade};
+ghost use Rattle.clr_load.specs.declared.layout.Layout.TheVariants.{AsMade, AsMadeLogged};
 ghost use Rattle.clr_load.specs.Schema.{no_schema};
-ghost use Rattle.clr_load.specs.Stored.{AreTables, HasTables};
+ghost use Rattle.clr_load.specs.Stored.{ArePlaced, AreTables, HasTables};
+ghost use Rattle.clr_store.specs.Contract.{AreTablesAt};
 
+use crate::place::{add_place, fits, make_journal};
 use crate::sql::create_sql;
 use crate::statements::insert_row;
 use crate::values::{flag_value, name_or_null, name_value, number_value, point_values, text_value};
 use clr_load::StoreFault;
 use clr_net::{Network, PointRow, SectionRow};
+use clr_place::Place;
 use clr_staff::{Staff, StaffRow};
 use clr_tables::{TableName, role_word};
 use sqlite::{Alter, Connection, Transaction};
@@ -207,6 +210,52 @@ pub(crate) fn make_register<S: Alter>(
     let mut tx = conn.transaction();
     make_tables(&mut tx)?;
     fill(&mut tx, sections, network.points(), employees)?;
+    tx.commit()?;
+    Ok(())
+}
+
+/// Makes the eight tables, without a row.
+fn make_logged_tables<S: Alter>(tx: &mut Transaction<'_, S>) -> Result<(), StoreFault>
+    ensures { Reaches S.Store tx.old tx.new (HasEmpty AsMade [])
+        (HasEmpty AsMadeLogged (names_in AsMadeLogged)) result }
+{
+    make_tables(tx)?;
+    make_journal(tx)
+}
+
+/// Makes the tables with the rows of an opening register and its place in a journal, or leaves the
+/// database as it is.
+pub(crate) fn make_logged_register<S: Alter>(
+    conn: &mut Connection<S>,
+    network: &Network,
+    staff: &Staff,
+    place: &Place,
+) -> Result<(), StoreFault>
+    ensures mode { conn.old.in_transaction ≡ false → conn.new.in_transaction ≡ false }
+    ensures made { HasCleanDisk (state S.Store conn.new) → OnOk result
+        (HasTables (state S.Store conn.new).now (tables_of (opening network.now staff.now))
+        × ArePlaced (state S.Store conn.new).now.trees (Some (place_row place.now))) }
+    ensures saved { HasCleanDisk (state S.Store conn.new) → OnOk result
+        (IsSaved (state S.Store conn.new)) }
+    ensures bare { OnOk result ((state S.Store conn.old).now.schema ≡ no_schema) }
+    ensures fault { IfErr result IsOfDatabase }
+    ensures none { HasCleanDisk (state S.Store conn.new) → IsTrue (state S.Store conn.new).is_open
+        → OnErr result ((state S.Store conn.new).now ≡ (state S.Store conn.old).now) }
+    ensures committed { HasCleanDisk (state S.Store conn.new)
+        → IsTrue (state S.Store conn.new).is_open → OnErr result
+        ((state S.Store conn.new).committed ≡ (state S.Store conn.old).committed) }
+    ensures crash { Survives (state S.Store conn.old) (state S.Store conn.new)
+        (AreTablesAt (tables_of (opening network.now staff.now)) (place_row place.now)) }
+{
+    if !conn.is_autocommit() || !is_bare(conn.schema()) || !fits(place) {
+        return Err(StoreFault::Sql);
+    }
+    let sections = network.sections();
+    let employees = staff.rows();
+    let mut tx = conn.transaction();
+    make_logged_tables(&mut tx)?;
+    fill(&mut tx, sections, network.points(), employees)?;
+    add_place(&mut tx, place)?;
     tx.commit()?;
     Ok(())
 }

@@ -6,6 +6,7 @@ mod create;
 mod edits;
 mod laws;
 mod migrate;
+mod place;
 mod renew;
 mod sql;
 mod statements;

@@ -37,6 +37,9 @@ pub(crate) fn create_sql(table: TableName) -> &'static str
              from_end TEXT NOT NULL, to_end TEXT NOT NULL, lockable INTEGER NOT NULL, \
              remote INTEGER NOT NULL, position INTEGER NOT NULL, hand_requester TEXT, \
              hand_number INTEGER, jumper INTEGER NOT NULL, PRIMARY KEY (name)) STRICT",
+        TableName::Journal =>
+            "CREATE TABLE journal (id TEXT NOT NULL, number INTEGER NOT NULL, sum TEXT NOT NULL, \
+             PRIMARY KEY (id)) STRICT",
     }
 }
 
@@ -54,6 +57,7 @@ pub(crate) fn insert_sql(table: TableName) -> &'static str
         TableName::Hold => "INSERT INTO hold VALUES (?1, ?2, ?3, ?4)",
         TableName::NetworkPoint =>
             "INSERT INTO network_point VALUES (?1, ?2, ?3, ?4, ?5, ?6, ?7, ?8, ?9)",
+        TableName::Journal => "INSERT INTO journal VALUES (?1, ?2, ?3)",
     }
 }
 
@@ -72,6 +76,7 @@ pub(crate) fn delete_sql(table: TableName) -> &'static str
         TableName::Hold =>
             "DELETE FROM hold WHERE kind = ?1 AND place = ?2 AND requester = ?3 AND number = ?4",
         TableName::NetworkPoint => "DELETE FROM network_point WHERE name = ?1",
+        TableName::Journal => "DELETE FROM journal WHERE id = ?1",
     }
 }
 
@@ -97,6 +102,7 @@ pub(crate) fn replace_sql(table: TableName) -> &'static str
         TableName::NetworkPoint => "UPDATE network_point SET name = ?1, from_end = ?2, \
              to_end = ?3, lockable = ?4, remote = ?5, position = ?6, hand_requester = ?7, \
              hand_number = ?8, jumper = ?9 WHERE name = ?1",
+        TableName::Journal => "UPDATE journal SET id = ?1, number = ?2, sum = ?3 WHERE id = ?1",
     }
 }
 

@@ -1,37 +1,41 @@
 //! The store: the register of a database, over a connection to it.
 ghost use Rattle.std.specs.Prelude.{ℕ, ◌≡◌, ◌≢◌, ◌⊎◌, false, true, is_ok, pos, List, IsTrue, IfErr};
-ghost use Rattle.std.specs.Prelude.{IfOk, IsErrAnd, MatchResult, Ok, OnErr, OnOk, length};
+ghost use Rattle.std.specs.Prelude.{IfOk, IsErrAnd, MatchResult, Ok, OnErr, OnOk, Option, Some, length};
 ghost use Rattle.sqlite.specs.Held.{state};
 ghost use Rattle.sqlite.specs.Order.{Row};
 ghost use Rattle.sqlite.specs.State.{HasCleanDisk, Survives};
 ghost use Rattle.clr_rules.specs.Good.{IsGood};
 ghost use Rattle.clr_rules.specs.Register.{Register, opening};
-ghost use Rattle.clr_tables.specs.RowsRead.{read_version, rows_read};
+ghost use Rattle.clr_tables.specs.RowsRead.{place_read, read_version, rows_read};
 ghost use Rattle.clr_tables.specs.TableEdits.{tables_moved};
 ghost use Rattle.clr_tables.specs.TableLaws.{HasNoJumper};
-ghost use Rattle.clr_tables.specs.Tables.{Tables, tables_by, tables_of, version_one};
+ghost use Rattle.clr_tables.specs.Tables.{Tables, place_row, tables_by, tables_of, version_one};
 ghost use Rattle.clr_tables.specs.TypedRows.{IsTyped};
 ghost use Rattle.clr_load.specs.Schema.{no_schema};
-ghost use Rattle.clr_load.specs.Stored.{AreTables, HasMeta, HasOldTables, HasTables, HasVersion};
+ghost use Rattle.clr_load.specs.Stored.{ArePlaced, AreTables, HasMeta, HasOldTables, HasTables, HasVersion};
 ghost use Rattle.clr_load.specs.Stored.{HasWholeRows, IsLaidOut, LacksMeta};
 ghost use Rattle.clr_load.specs.Cause.{SqlHasCause};
 ghost use Rattle.clr_load.specs.Fault.{IsOfDatabase};
 ghost use Rattle.clr_load.specs.Filling.{GivesInto, IsLoaded};
-ghost use Rattle.clr_load.specs.Contract.{GivesBack, GivesRows, IsSaved, old_points};
+ghost use Rattle.clr_load.specs.Contract.{Gives, GivesBack, GivesRows, IsSaved, old_points};
 ghost use Rattle.clr_load.specs.declared.fault.StoreFault.TheVariants.{OtherTables, Sql};
-ghost use Rattle.clr_store.specs.Contract.{AreEdited, IsOfOpening, MakesEdits, RefusesOpening};
+ghost use Rattle.clr_store.specs.Contract.{AreEdited, AreEditedAt, AreTablesAt, IsOfOpening};
+ghost use Rattle.clr_store.specs.Contract.{KeepsPlace};
+ghost use Rattle.clr_store.specs.Contract.{MakesEdits, MakesEditsAt, RefusesOpening};
 ghost use Rattle.clr_store.specs.Contract.{RefusesVersion};
 ghost use Rattle.clr_store.specs.Moving.{IsOfMove, LeavesMoved, RefusesMove, RefusesToMove};
 ghost use Rattle.clr_store.specs.Renewed.{AreRenewed, AreStatesOf, RenewsTables};
 ghost use Rattle.clr_store.specs.StepsTaken.{AreWithoutSteps, TakesSteps};
 
-use crate::create::make_register;
+use crate::create::{make_logged_register, make_register};
 use crate::edits::make_all;
 use crate::migrate::move_tables;
+use crate::place::commit_change_at;
 use crate::renew::renew;
 use crate::steps::take_steps;
-use clr_load::{Fill, Loaded, Rows, StoreFault, expect_version, load_into, load_rows};
+use clr_load::{Fill, Loaded, Rows, StoreFault, expect_version, load_into, load_rows, read_place};
 use clr_net::Network;
+use clr_place::Place;
 use clr_rules::{Change, Hold, PointState, Record, StepKey, StepRow};
 use clr_staff::Staff;
 use sqlite::{Alter, Connection};
@@ -342,11 +346,13 @@ impl<S: Alter + Drop> Store<S> {
     /// Makes the edits of a change, in one transaction.
     ///
     /// `Sql` where the database refuses or fails, `NoMemory` where memory runs out. On a fault none
-    /// of the edits is made.
+    /// of the edits is made. A place in a journal stays as it is.
     pub fn commit(&mut self, change: &Change) -> Result<(), StoreFault>
         ensures made { HasCleanDisk (state S.Store self.new)
             → OnOk result (MakesEdits (state S.Store self.old).now change.now.edits.items
             (state S.Store self.new).now) }
+        ensures placed { HasCleanDisk (state S.Store self.new) → OnOk result
+            (KeepsPlace (state S.Store self.old).now (state S.Store self.new).now) }
         ensures saved { HasCleanDisk (state S.Store self.new)
             → OnOk result (IsSaved (state S.Store self.new)) }
         ensures still_saved { HasCleanDisk (state S.Store self.new)
@@ -365,12 +371,107 @@ impl<S: Alter + Drop> Store<S> {
     }
 }
 
+impl<S: Alter + Drop> Store<S> {
+    /// Makes the tables of an opening register that has a journal, and its first place there, as
+    /// `create` does, with the same faults; and `Sql` where the place's number is 2^63 or more.
+    pub fn create_with_place(
+        mut connection: Connection<S>,
+        network: &Network,
+        staff: &Staff,
+        place: &Place,
+    ) -> Result<Store<S>, Back<S>>
+        ensures made { IfOk result (λ store. HasCleanDisk (state S.Store store)
+            → IsSaved (state S.Store store) × HasTables (state S.Store store).now
+            (tables_of (opening network.now staff.now))
+            × ArePlaced (state S.Store store).now.trees (Some (place_row place.now))) }
+        ensures bare { IfOk result (λ _. (state S.Store connection).now.schema ≡ no_schema) }
+        ensures inside { connection.in_transaction ≡ true → IsErrAnd result
+            (λ back. back.fault ≡ Sql) }
+        ensures mode { MatchResult result
+            (λ store. store.in_transaction ≡ connection.in_transaction)
+            (λ back. back.connection.in_transaction ≡ connection.in_transaction) }
+        ensures fault { IfErr result (λ back. IsOfDatabase back.fault) }
+        ensures none { IfErr result (λ back. HasCleanDisk (state S.Store back.connection)
+            → IsTrue (state S.Store back.connection).is_open
+            → (state S.Store back.connection).now ≡ (state S.Store connection).now) }
+        ensures committed { IfErr result (λ back. HasCleanDisk (state S.Store back.connection)
+            → IsTrue (state S.Store back.connection).is_open
+            → (state S.Store back.connection).committed ≡ (state S.Store connection).committed) }
+        ensures crash_made { IfOk result (λ store. Survives (state S.Store connection)
+            (state S.Store store) (AreTablesAt (tables_of (opening network.now staff.now))
+            (place_row place.now))) }
+        ensures crash_none { IfErr result (λ back. Survives (state S.Store connection)
+            (state S.Store back.connection) (AreTablesAt (tables_of (opening network.now staff.now))
+            (place_row place.now))) }
+    {
+        if !connection.is_autocommit() {
+            let fault = StoreFault::Sql;
+            return Err(Back { fault, connection });
+        }
+        match make_logged_register(&mut connection, network, staff, place) {
+            Ok(()) => Ok(Store { connection }),
+            Err(fault) => Err(Back { fault, connection }),
+        }
+    }
+
+    /// The place of the register in its journal; None where it has no journal. Nothing is changed.
+    ///
+    /// `BadRow` of `journal` where the place does not read; `Sql` where the database refuses or
+    /// fails, `NoMemory` where memory runs out.
+    pub fn place(&mut self) -> Result<Option<Place>, StoreFault>
+        ensures place { HasCleanDisk (state S.Store self.new) → (t : Tables)
+            → HasTables (state S.Store self.old).now t → (row : Option Row)
+            → ArePlaced (state S.Store self.old).now.trees row
+            → Gives (λ place. place) (place_read row) result }
+        ensures cause { HasCleanDisk (state S.Store self.new) → (t : Tables)
+            → HasTables (state S.Store self.old).now t
+            → IfErr result (SqlHasCause (state S.Store self.old) (state S.Store self.new)) }
+        ensures saved { HasCleanDisk (state S.Store self.new)
+            → IsTrue (state S.Store self.new).is_open → IsSaved (state S.Store self.new) }
+        ensures same { HasCleanDisk (state S.Store self.new)
+            → IsTrue (state S.Store self.new).is_open
+            → (state S.Store self.new).now ≡ (state S.Store self.old).now }
+        ensures crash { Survives (state S.Store self.old) (state S.Store self.new) (λ _. ⊥) }
+    {
+        read_place(&mut self.connection)
+    }
+
+    /// Makes the edits of a change and sets the place of the register in its journal, both in one
+    /// transaction.
+    ///
+    /// `Sql` where the register has no journal, where the number is 2^63 or more, and where the
+    /// database refuses or fails; `NoMemory` where memory runs out. On a fault none of it is done.
+    pub fn commit_at(&mut self, change: &Change, place: &Place) -> Result<(), StoreFault>
+        ensures made { HasCleanDisk (state S.Store self.new)
+            → OnOk result (MakesEditsAt (state S.Store self.old).now change.now.edits.items
+            (place_row place.now) (state S.Store self.new).now) }
+        ensures saved { HasCleanDisk (state S.Store self.new)
+            → OnOk result (IsSaved (state S.Store self.new)) }
+        ensures still_saved { HasCleanDisk (state S.Store self.new)
+            → IsTrue (state S.Store self.new).is_open
+            → OnErr result (IsSaved (state S.Store self.new)) }
+        ensures fault { IfErr result IsOfDatabase }
+        ensures none { HasCleanDisk (state S.Store self.new)
+            → IsTrue (state S.Store self.new).is_open → OnErr result
+            ((state S.Store self.new).now ≡ (state S.Store self.old).now) }
+        ensures was_open { HasCleanDisk (state S.Store self.new)
+            → IsTrue (state S.Store self.new).is_open → IsTrue (state S.Store self.old).is_open }
+        ensures crash { Survives (state S.Store self.old) (state S.Store self.new)
+            (AreEditedAt (state S.Store self.old).now change.now.edits.items
+            (place_row place.now)) }
+    {
+        commit_change_at(&mut self.connection, change, place)
+    }
+}
+
 /// Makes the edits in one transaction, or none.
 fn commit_change<S: Alter>(conn: &mut Connection<S>, change: &Change) -> Result<(), StoreFault>
     ensures mode { conn.old.in_transaction ≡ false → conn.new.in_transaction ≡ false }
     ensures made { HasCleanDisk (state S.Store conn.new) → OnOk result
         (MakesEdits (state S.Store conn.old).now change.now.edits.items
         (state S.Store conn.new).now) }
+    ensures placed { HasCleanDisk (state S.Store conn.new) → OnOk result
+        (KeepsPlace (state S.Store conn.old).now (state S.Store conn.new).now) }
     ensures saved { HasCleanDisk (state S.Store conn.new) → OnOk result
         (IsSaved (state S.Store conn.new)) }
     ensures still_saved { conn.old.in_transaction ≡ false → HasCleanDisk (state S.Store conn.new)

@@ -7,3 +7,4 @@ pub mod TablesRead
 pub mod SameTables
 pub mod Moved
 pub mod TypedEdits
+pub mod Places

@@ -1,7 +1,7 @@
 -- WHAT TABLES READ AS: the rows of a register, or the first table with a row that does not read.
 use Rattle.std.specs.Prelude.{ℕ, ◌+◌, ℤ, pos, ◌==◌, nat_le, Bool, true, false, if◌then◌else◌, List}
 use Rattle.std.specs.Prelude.{[], ◌∷◌, map, find, codes, Option, None, Some, ok_or, Result, Ok, Err}
-use Rattle.std.specs.Str.{bytes_eq}
+use Rattle.std.specs.Str.{bytes_eq, is_utf8}
 use Rattle.sqlite.specs.Order.{Row, column}
 use Rattle.sqlite.specs.declared.types.Value.{Value}
 use Rattle.sqlite.specs.declared.types.Value.TheVariants.{Null, Int, Text}
@@ -13,6 +13,7 @@ use Rattle.clr_net.specs.declared.point.Position.TheVariants.{Opened, Closed}
 use Rattle.clr_net.specs.declared.section.SectionRow.{SectionRow}
 use Rattle.clr_result.specs.Results.{◌>>=◌}
 use Rattle.clr_staff.specs.declared.employee.StaffRow.{StaffRow}
+use Rattle.clr_place.specs.declared.place.Place.{Place}
 use Rattle.clr_rules.specs.HoldKind.{hold_kind_named}
 use Rattle.clr_rules.specs.Id.{Id, new_id}
 use Rattle.clr_rules.specs.Moment.{new_moment}
@@ -41,6 +42,12 @@ number_of t _ = Err t
 
 abbrev pub text_at : TableName → ℕ → Row → Result (List ℕ) TableName
 text_at t place row = text_of t (column row place)
+
+-- a text whose bytes are those of characters
+abbrev pub utf8_at : TableName → ℕ → Row → Result (List ℕ) TableName
+utf8_at t place row = do
+  text ← text_at t place row
+  if is_utf8 text then Ok text else Err t
 
 abbrev pub number_at : TableName → ℕ → Row → Result ℕ TableName
 number_at t place row = number_of t (column row place)
@@ -197,6 +204,21 @@ read_hold row = do
   place ← name_at table.Hold 1 row
   id ← id_at table.Hold 2 row
   Ok (record { kind = kind; place = place; id = id })
+
+-- the place of a register in its journal
+unfoldable pub read_place : Row → Result Place TableName
+read_place row = do
+  id ← utf8_at table.Journal 0 row
+  number ← number_at table.Journal 1 row
+  sum ← utf8_at table.Journal 2 row
+  Ok (record { id = id; number = number; sum = sum })
+
+-- the same of a register that may have none
+abbrev pub place_read : Option Row → Result (Option Place) TableName
+place_read None = Ok None
+place_read (Some row) = do
+  place ← read_place row
+  Ok (Some place)
 
 -- ---- tables
 

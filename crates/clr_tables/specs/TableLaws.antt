@@ -1,5 +1,6 @@
 -- The tables of a register as laws: edits change them as they change the register.
 use Rattle.std.specs.Prelude.{◌≡◌, IsTrue, List, map, not, Ok}
+use Rattle.std.specs.Str.{is_utf8}
 use Rattle.std.specs.List.{list_all}
 use Rattle.clr_net.specs.Grid.{Grid, point_names}
 use Rattle.clr_staff.specs.declared.employee.StaffRow.{StaffRow}
@@ -10,9 +11,10 @@ use Rattle.clr_rules.specs.Run.{after}
 use Rattle.clr_rules.specs.States.{state_key}
 use Rattle.clr_rules.specs.declared.change.Edit.{Edit}
 use Rattle.clr_rules.specs.declared.command.Command.{Command}
-use Rattle.clr_tables.specs.RowsRead.{Rows, rows_of, rows_read}
+use Rattle.clr_place.specs.declared.place.Place.{Place}
+use Rattle.clr_tables.specs.RowsRead.{Rows, read_place, rows_of, rows_read}
 use Rattle.clr_tables.specs.TableEdits.{tables_edited, tables_moved}
-use Rattle.clr_tables.specs.Tables.{tables_by, tables_of, version_one}
+use Rattle.clr_tables.specs.Tables.{place_row, tables_by, tables_of, version_one}
 use Rattle.clr_tables.specs.TypedRows.{IsTyped, is_typed_command, is_typed_employee, is_typed_point}
 use Rattle.clr_tables.specs.TypedRows.{is_typed_section}
 
@@ -70,3 +72,8 @@ TablesAreMoved = (R : Register) → HasNoJumper R
 abbrev pub TablesFollowEdits : Type 0
 TablesFollowEdits = (R : Register) (edits : List Edit) → ListsAreInOrder R → StatesAreThePoints R
     → tables_of (after_edits edits R) ≡ tables_edited edits (tables_of R)
+
+-- THE ROW OF A PLACE READS AS THE PLACE, where its texts are those of characters
+abbrev pub PlacesAreRead : Type 0
+PlacesAreRead = (p : Place) → IsTrue (is_utf8 p.id) → IsTrue (is_utf8 p.sum)
+    → read_place (place_row p) ≡ Ok p

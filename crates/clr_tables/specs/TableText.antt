@@ -3,7 +3,7 @@ use Rattle.std.specs.Prelude.{ℕ, List, codes}
 use Rattle.clr_tables.specs.declared.table_name.TableName.{TableName}
 use Rattle.clr_tables.specs.declared.table_name.TableName.TheVariants.{Meta, Section, Point, Staff}
 use Rattle.clr_tables.specs.declared.table_name.TableName.TheVariants.{Clearance, Step, Hold}
-use Rattle.clr_tables.specs.declared.table_name.TableName.TheVariants.{NetworkPoint}
+use Rattle.clr_tables.specs.declared.table_name.TableName.TheVariants.{NetworkPoint, Journal}
 
 abbrev pub table_text : TableName → List ℕ
 table_text Meta = codes "meta"
@@ -14,3 +14,4 @@ table_text Clearance = codes "clearance"
 table_text Step = codes "step"
 table_text Hold = codes "hold"
 table_text NetworkPoint = codes "network_point"
+table_text Journal = codes "journal"

@@ -10,6 +10,7 @@ use Rattle.clr_net.specs.declared.point.Position.{Position}
 use Rattle.clr_net.specs.declared.point.Position.TheVariants.{Opened, Closed}
 use Rattle.clr_net.specs.declared.section.SectionRow.{SectionRow}
 use Rattle.clr_staff.specs.declared.employee.StaffRow.{StaffRow}
+use Rattle.clr_place.specs.declared.place.Place.{Place}
 use Rattle.clr_rules.specs.HoldKind.{hold_kind_text}
 use Rattle.clr_rules.specs.Id.{Id}
 use Rattle.clr_rules.specs.Phase.{phase_text}
@@ -96,6 +97,11 @@ step_row row =
 
 abbrev pub hold_row : Hold → Row
 hold_row h = Text (hold_kind_text h.kind) ∷ Text h.place ∷ id_values h.id
+
+-- THE PLACE OF A REGISTER IN ITS JOURNAL, the one row of a table of its own, which only a register
+-- with a journal has. It is none of the seven lists
+abbrev pub place_row : Place → Row
+place_row p = Text p.id ∷ number_value p.number ∷ Text p.sum ∷ []
 
 -- A VERSION OF THE TABLES: its number, and how it has a switching point. All else is the same in
 -- every version.

@@ -1,6 +1,7 @@
 //! Laws of the definitions: the contract of each function is the law, and its body is empty.
 ghost use Rattle.clr_tables.specs.TableLaws.{CommandsKeepTyped, GoodAreToldByTables};
-ghost use Rattle.clr_tables.specs.TableLaws.{OpeningsAreTyped, SameTablesSameRegister, TablesAreRead};
+ghost use Rattle.clr_tables.specs.TableLaws.{OpeningsAreTyped, PlacesAreRead};
+ghost use Rattle.clr_tables.specs.TableLaws.{SameTablesSameRegister, TablesAreRead};
 ghost use Rattle.clr_tables.specs.TableLaws.{TablesAreMoved, TablesFollowEdits};
 ghost use Rattle.clr_tables.specs.TableLaws.{TablesReadAsNoOthers};
 
@@ -33,4 +34,9 @@ pub fn tables_are_moved()
 pub fn registers_stay_typed()
     ensures opening { OpeningsAreTyped }
     ensures commands { CommandsKeepTyped }
+{}
+
+/// The row of a place in a journal reads as that place.
+pub fn places_are_read()
+    ensures { PlacesAreRead }
 {}

@@ -19,6 +19,8 @@ pub enum TableName {
     Hold,
     /// The switching points of version 2: as in version 1, and whether each is a jumper.
     NetworkPoint,
+    /// The place of the register in its journal, where it has one.
+    Journal,
 }
 
 impl TableName {
@@ -35,6 +37,7 @@ impl TableName {
             TableName::Step => "step",
             TableName::Hold => "hold",
             TableName::NetworkPoint => "network_point",
+            TableName::Journal => "journal",
         }
     }
 }

@@ -1,15 +1,15 @@
-use Rattle.std.proofs.Common.{◌≡◌, ◌∙◌, ap, arith, inl, refl, rules, subst, sym}
+use Rattle.std.proofs.Common.{◌≡◌, ◌∙◌, ap, arith, inl, refl, rules, subst, sym, true}
 use Rattle.sqlite.specs.Effect.{Database}
 use Rattle.sqlite.specs.Held.{state}
 use Rattle.sqlite.specs.State.{HasCleanDisk}
 use Rattle.clr_tables.specs.declared.table_name.TableName.TheVariants.{Point}
-use Rattle.clr_load.specs.Layout.{AsMoved, tree_in, version_of}
+use Rattle.clr_load.specs.Layout.{is_moved, tree_in, version_of}
 use Rattle.clr_load.specs.Schema.{schema_in}
 use Rattle.clr_load.specs.Stored.{HasVersion}
 use Rattle.clr_load.proofs.Inside.{both_survive}
 use Rattle.clr_load.proofs.Loading.{lists_meta}
 use Rattle.clr_load.proofs.Staying.{then_stays, unchanged_stays}
-use Rattle.clr_load.proofs.Loading.{no_length, none_listed}
+use Rattle.clr_load.proofs.Loading.{in_layout, no_length, none_listed}
 use Rattle.clr_load.proofs.Versioned.{alone, emptied, moved_point}
 use Rattle.clr_load.proofs.expected.expect_rows.Goals as goal
 
@@ -26,11 +26,11 @@ returns-then-not-is_alone-clause-other g c clean is other has =
     search rules
 
 -- no point is looked at
-pub returns-then-ne-clause-stays : goal.returns-then-ne-clause-stays
-returns-then-ne-clause-stays g c clean = unchanged_stays _ _ (c.in_ok-meta.ensures.unchanged clean)
+pub returns-then-not-is_moved-clause-stays : goal.returns-then-not-is_moved-clause-stays
+returns-then-not-is_moved-clause-stays g c clean = unchanged_stays _ _ (c.in_ok-meta.ensures.unchanged clean)
 
-pub returns-then-ne-clause-was_open : goal.returns-then-ne-clause-was_open
-returns-then-ne-clause-was_open g c clean = inl (c.in_ok-meta.ensures.unchanged clean).0.was_open
+pub returns-then-not-is_moved-clause-was_open : goal.returns-then-not-is_moved-clause-was_open
+returns-then-not-is_moved-clause-was_open g c clean = inl (c.in_ok-meta.ensures.unchanged clean).0.was_open
 
 -- `point` has a row
 pub returns-then-not-is_empty-clause-survives : goal.returns-then-not-is_empty-clause-survives
@@ -67,15 +67,15 @@ returns-then-not-is_empty-clause-other g c clean is other has =
     let mid = state g.S.Store c.list_table.new.conn in
     let early : HasCleanDisk mid = omega (arith, c.list_table-2.ensures.survives.clean) in
     let same : mid.now ≡ old.now = (c.in_ok-meta.ensures.unchanged early).0.now_is in
-    let moved : c.args.layout ≡ AsMoved = search rules in
+    let moved : is_moved c.args.layout ≡ true = search rules in
     let has_mid = subst (λ (db : Database). HasVersion (version_of c.args.layout) db) (sym same) has in
-    let schema : mid.now.schema ≡ schema_in AsMoved = ap (λ (db : Database). db.schema) same ∙ is ∙ ap schema_in moved in
-    let none = emptied mid (state g.S.Store c.list_table-2.new.conn) (version_of c.args.layout) has_mid _ schema (c.in_ok-points.ensures.shown clean) in
+    let schema : mid.now.schema ≡ schema_in c.args.layout = ap (λ (db : Database). db.schema) same ∙ is in
+    let none = emptied mid (state g.S.Store c.list_table-2.new.conn) (version_of c.args.layout) has_mid c.args.layout _ moved schema (c.in_ok-points.ensures.shown clean) in
     search rules
 
 -- ---- `meta` is its one row
-pub returns-then-ne-clause-alone : goal.returns-then-ne-clause-alone
-returns-then-ne-clause-alone g c clean meta has =
+pub returns-then-not-is_moved-clause-alone : goal.returns-then-not-is_moved-clause-alone
+returns-then-not-is_moved-clause-alone g c clean meta has =
     let rows = lists_meta (state g.S.Store c.args.conn.now) (state g.S.Store c.list_table.new.conn) meta _ has (c.in_ok-meta.ensures.shown clean) in
     search rules
 
@@ -97,8 +97,8 @@ returns-in_err-meta-clause-same g c clean shown =
 pub returns-then-not-is_alone-clause-same : goal.returns-then-not-is_alone-clause-same
 returns-then-not-is_alone-clause-same g c clean shown = (c.in_ok-meta.ensures.unchanged clean).0.now_is
 
-pub returns-then-ne-clause-same : goal.returns-then-ne-clause-same
-returns-then-ne-clause-same g c clean shown = (c.in_ok-meta.ensures.unchanged clean).0.now_is
+pub returns-then-not-is_moved-clause-same : goal.returns-then-not-is_moved-clause-same
+returns-then-not-is_moved-clause-same g c clean shown = (c.in_ok-meta.ensures.unchanged clean).0.now_is
 
 pub returns-in_err-points-clause-same : goal.returns-in_err-points-clause-same
 returns-in_err-points-clause-same g c clean shown =
@@ -126,8 +126,8 @@ returns-in_err-meta-clause-committed g c clean shown =
 pub returns-then-not-is_alone-clause-committed : goal.returns-then-not-is_alone-clause-committed
 returns-then-not-is_alone-clause-committed g c clean shown = (c.in_ok-meta.ensures.unchanged clean).0.committed_is
 
-pub returns-then-ne-clause-committed : goal.returns-then-ne-clause-committed
-returns-then-ne-clause-committed g c clean shown = (c.in_ok-meta.ensures.unchanged clean).0.committed_is
+pub returns-then-not-is_moved-clause-committed : goal.returns-then-not-is_moved-clause-committed
+returns-then-not-is_moved-clause-committed g c clean shown = (c.in_ok-meta.ensures.unchanged clean).0.committed_is
 
 pub returns-in_err-points-clause-committed : goal.returns-in_err-points-clause-committed
 returns-in_err-points-clause-committed g c clean shown =
@@ -152,7 +152,14 @@ returns-clause-emptied g c clean is moved =
     let mid = state g.S.Store c.list_table.new.conn in
     let early : HasCleanDisk mid = omega (arith, c.list_table-2.ensures.survives.clean) in
     let same : mid.now ≡ (state g.S.Store c.args.conn.now).now = (c.in_ok-meta.ensures.unchanged early).0.now_is in
-    let schema : mid.now.schema ≡ schema_in AsMoved = ap (λ (db : Database). db.schema) same ∙ is ∙ ap schema_in moved in
+    let schema : mid.now.schema ≡ schema_in c.args.layout = ap (λ (db : Database). db.schema) same ∙ is in
     let none = no_length c.in_ok-points.points.items (search rules) in
-    sym (ap (λ (db : Database). db.trees (tree_in AsMoved Point)) same)
-    ∙ none_listed AsMoved mid (state g.S.Store c.list_table-2.new.conn) Point c.in_ok-points.points.items moved_point schema (c.in_ok-points.ensures.shown clean) none
+    sym (ap (λ (db : Database). db.trees (tree_in c.args.layout Point)) same)
+    ∙ none_listed c.args.layout mid (state g.S.Store c.list_table-2.new.conn) Point c.in_ok-points.points.items (in_layout c.args.layout Point (moved_point c.args.layout moved)) schema (c.in_ok-points.ensures.shown clean) none
+
+-- ---- the connection is still open
+pub returns-then-not-is_moved-clause-still_open : goal.returns-then-not-is_moved-clause-still_open
+returns-then-not-is_moved-clause-still_open g c clean = (c.in_ok-meta.ensures.unchanged clean).0.is_open
+
+pub returns-clause-still_open : goal.returns-clause-still_open
+returns-clause-still_open g c clean = (c.in_ok-points.ensures.unchanged clean).0.is_open

@@ -2,7 +2,7 @@ use Rattle.std.proofs.Common.{◌≡◌, Err, Ok, inl, refl, rules, subst, sym}
 use Rattle.sqlite.specs.Held.{state}
 use Rattle.clr_tables.specs.declared.table_name.TableName.TheVariants.{Meta}
 use Rattle.clr_load.specs.Cause.{fault_of}
-use Rattle.clr_load.specs.Layout.{has_table}
+use Rattle.clr_load.specs.Layout.{has_rows}
 use Rattle.clr_load.specs.Loads.{Loads}
 use Rattle.clr_load.proofs.Causes.{read_cause, told_of_database}
 use Rattle.clr_load.proofs.Loading.{lists}
@@ -16,7 +16,7 @@ returns-in_err-rows g c =
     let new = state g.S.Store c.query_all.new.self in
     let fault = fault_of c.in_err-rows.field-0.0 in
     let told : c.from_residual.result ≡ Err fault = search rules in
-    subst (λ r. Loads g.S.Store c.args.conn.now c.query_all.new.self (λ l. has_table l Meta) (λ l t. Ok t.meta) (λ rows meta. rows.items ≡ meta) r) (sym told)
+    subst (λ r. Loads g.S.Store c.args.conn.now c.query_all.new.self (λ l. has_rows l Meta) (λ l t. Ok t.meta) (λ rows meta. rows.items ≡ meta) r) (sym told)
     (stops g.S.Store c.args.conn.now c.query_all.new.self _ _ _ fault c.query_all.ensures.mode (survives_listed Meta old new (rw c.select_sql.ensures at c.query_all.ensures.survives))
     (λ clean. failed_rests Meta old new _ (rw c.select_sql.ensures at (c.in_err-rows.ensures.err clean))) (told_of_database c.in_err-rows.field-0.0 fault refl)
     (λ clean l there t has. read_cause l Meta there old new _ fault has.holds.schema refl (rw c.select_sql.ensures at (c.in_err-rows.ensures.err clean))))

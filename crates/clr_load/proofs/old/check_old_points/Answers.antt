@@ -6,7 +6,7 @@ use Rattle.clr_tables.specs.declared.table_name.TableName.TheVariants.{Point}
 use Rattle.clr_load.specs.Contract.{RefusesPoints, old_points}
 use Rattle.clr_load.specs.Fault.{IsOfDatabase, IsOfPoints}
 use Rattle.clr_load.specs.Found.{Lists}
-use Rattle.clr_load.specs.Layout.{has_table, is_one}
+use Rattle.clr_load.specs.Layout.{has_rows, is_one}
 use Rattle.clr_load.specs.Reading.{old_values}
 use Rattle.clr_load.proofs.Inside.{fails_so}
 use Rattle.clr_load.proofs.Loading.{lists_in}
@@ -65,4 +65,4 @@ returns-in_err-rows-clause-lists g c =
     let told : c.from_residual.result ≡ Err fault = search rules in
     subst (λ r. Lists g.S.Store c.args.tx.now c.list_rows.new.tx IsOfPoints is_one (λ l t. is_ok (old_points t)) (λ _. true) r) (sym told)
     (fails_so g.S.Store c.args.tx.now c.list_rows.new.tx IsOfDatabase IsOfPoints _ _ _ _ fault
-    (lists_in g.S.Store c.args.tx.now c.list_rows.new.tx IsOfDatabase (λ l. has_table l Point) is_one one_has_points _ _ _ c.in_err-rows.ensures.lists) (λ stops. stops) (early_blame fault))
+    (lists_in g.S.Store c.args.tx.now c.list_rows.new.tx IsOfDatabase (λ l. has_rows l Point) is_one one_has_points _ _ _ c.in_err-rows.ensures.lists) (λ stops. stops) (early_blame fault))

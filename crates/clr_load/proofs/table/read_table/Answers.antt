@@ -4,6 +4,7 @@ use Rattle.sqlite.specs.State.{HasCleanDisk}
 use Rattle.clr_load.specs.Cause.{fault_of}
 use Rattle.clr_load.specs.declared.fault.StoreFault.TheVariants.{BadRow, NoMemory}
 use Rattle.clr_load.proofs.Causes.{read_cause, told_of_database}
+use Rattle.clr_load.proofs.Loading.{in_layout}
 use Rattle.clr_load.proofs.Selecting.{failed_rests, survives_listed}
 use Rattle.clr_load.proofs.Staying.{stops, unchanged_stays}
 use Rattle.clr_load.proofs.Streaming.{Reads, advances_not, begins, ends, goes_on, reads_not, runs_out}
@@ -20,7 +21,7 @@ returns-in_err-rows g c =
     subst (Reads g.S.Store name g.T.TableRow.values g.F.Fill.has start new) (sym told)
     (stops g.S.Store start new _ _ g.F.Fill.has _ held.mode (survives_listed name (state g.S.Store start) (state g.S.Store new) (rw c.select_sql.ensures at held.survives))
     (λ clean. failed_rests name (state g.S.Store start) (state g.S.Store new) _ (fails clean)) (told_of_database c.in_err-rows.field-0.0 _ refl)
-    (λ clean l there t has. read_cause l name there (state g.S.Store start) (state g.S.Store new) _ _ has.holds.schema refl (fails clean)))
+    (λ clean l there t has. read_cause l name (in_layout l name there) (state g.S.Store start) (state g.S.Store new) _ _ has.holds.schema refl (fails clean)))
 
 pub rows-init : goal.rows-init
 rows-init g c =

@@ -4,7 +4,7 @@ use Rattle.sqlite.specs.Held.{state}
 use Rattle.sqlite.specs.State.{HasCleanDisk, Survives}
 use Rattle.clr_store.specs.StepsTaken.{AreWithoutSteps, without_steps}
 use Rattle.clr_load.specs.Stored.{HasTables}
-use Rattle.clr_store.proofs.TakenSteps.{taken_crash, taken_tables}
+use Rattle.clr_store.proofs.TakenSteps.{left_tables, taken_crash}
 use Rattle.clr_load.proofs.Causes.{told_of_database}
 use Rattle.clr_store.proofs.steps.take_steps.Goals as goal
 
@@ -18,7 +18,7 @@ returns-clause-taken g c clean t has =
     let late : HasCleanDisk (state g.S.Store end) = search rules in
     let early : HasCleanDisk (state g.S.Store mid) = omega (arith, c.commit.ensures.survives.clean) in
     let changes = rw begun at (c.in_ok-take_each.ensures.step early (rw begun refl)) in
-    let made = taken_tables has.layout has.two (state g.S.Store mid).now c.args.keys.now t has.here.in_order (changes.tables has.layout has.two t has.here.holds) in
+    let made = left_tables (state g.S.Store (record old { in_transaction = true })) (state g.S.Store mid) c.args.keys.now t has changes in
     subst (λ h. HasTables (state g.S.Store h).now (without_steps c.args.keys.now t)) same
     (subst (λ (d : Database). HasTables d (without_steps c.args.keys.now t)) (sym (c.in_ok-commit.ensures.ok late).1.now_is) made)
 

@@ -1,0 +1,30 @@
+-- A CHANGE KEPT WITH ITS PLACE: what is shown after it, and what a crash leaves.
+use Rattle.std.specs.Prelude.{List, Option, Some, Result, OnOk}
+use Rattle.sqlite.specs.Effect.{Database}
+use Rattle.sqlite.specs.State.{HasCleanDisk, State, Survives}
+use Rattle.sqlite.specs.Tree.{Trees}
+use Rattle.clr_place.specs.declared.place.Place.{Place}
+use Rattle.clr_rules.specs.declared.change.Edit.{Edit}
+use Rattle.clr_tables.specs.TableEdits.{tables_edited}
+use Rattle.clr_tables.specs.Tables.{Tables}
+use Rattle.clr_load.specs.Stored.{AreTables, HasTables}
+use Rattle.clr_desk.specs.Commit.{Commits}
+use Rattle.clr_desk.specs.declared.desk_fault.DeskFault.{DeskFault}
+
+-- that trees have a place, or have none
+abbrev pub Placing : Type 1
+Placing = Trees → Option Place → Type 0
+
+-- whatever tables there were, the trees have them with these edits made, and this place
+abbrev pub AreEditedAt : Placing → Database → List Edit → Place → Trees → Type 0
+AreEditedAt has_place before edits place trees = (t : Tables) → HasTables before t
+    → AreTables trees (tables_edited edits t) × has_place trees (Some place)
+
+-- THE EDITS ARE MADE AND COMMITTED, WITH THE PLACE, or none of them and no place; and a crash leaves
+-- what it left before, or the tables with all edits and the place
+pub record CommitsAt {X : Type 0} (has_place : Placing) (old new : State) (edits : List Edit)
+    (place : Place) (result : Result X DeskFault) : Type 0 where
+  pub commits : Commits old new edits result
+  pub placed : HasCleanDisk new
+      → OnOk result ((t : Tables) → HasTables old.now t → has_place new.now.trees (Some place))
+  pub crash : Survives old new (AreEditedAt has_place old.now edits place)

@@ -1,0 +1,53 @@
+//! What keeps a place with the changes of a desk.
+ghost use Rattle.std.specs.Prelude.{◌≡◌, IfErr, Option, option_map, true};
+ghost use Rattle.sqlite.specs.Tree.{Trees};
+ghost use Rattle.clr_answer.specs.Decision.{is_accepted};
+ghost use Rattle.clr_place.specs.declared.place.Place.{Place};
+ghost use Rattle.clr_tables.specs.Tables.{place_row};
+ghost use Rattle.clr_load.specs.Stored.{ArePlaced};
+ghost use Rattle.clr_desk.specs.Faults.{IsOfKeeper};
+ghost use Rattle.clr_desk.specs.Placing.{CommitsAt};
+
+use crate::commit::Commit;
+use crate::desk_fault::DeskFault;
+use clr_place::Place;
+use clr_rules::{Change, Command, Reply};
+use clr_store::Store;
+use sqlite::Alter;
+
+/// Keeps, beside what accepted commands change, the place that the register has in its journal.
+pub trait CommitAt: Commit {
+    /// That trees have this place, or have none.
+    ghost has_place: { Trees → Option Place → Type 0 };
+
+    /// Keeps the change of a command that is accepted with a reply, and the place after it: both, or
+    /// neither.
+    fn commit_at(
+        &mut self,
+        command: &Command,
+        reply: &Reply,
+        change: &Change,
+        place: &Place,
+    ) -> Result<(), DeskFault>
+        requires accepted { is_accepted reply.now ≡ true }
+        ensures commits { CommitsAt has_place (kept self.old) (kept self.new)
+            change.now.edits.items place.now result }
+        ensures fault { IfErr result (IsOfKeeper fails) }
+        ensures taken { takes self.old command.now reply.now result self.new };
+}
+
+/// A store keeps the place in a table of its own, in the transaction of the change.
+impl<S: Alter + Drop> CommitAt for Store<S> {
+    ghost has_place = { λ trees place. ArePlaced trees (option_map place_row place) };
+
+    fn commit_at(
+        &mut self,
+        command: &Command,
+        reply: &Reply,
+        change: &Change,
+        place: &Place,
+    ) -> Result<(), DeskFault> {
+        self.commit_at(change, place)?;
+        Ok(())
+    }
+}

@@ -1,0 +1,6 @@
+//! The place of a register in its journal.
+#![tactic(auto)]
+
+mod place;
+
+pub use place::Place;

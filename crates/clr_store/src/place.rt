@@ -1,0 +1,144 @@
+//! The place of a register in its journal, in its own table, inside a transaction.
+ghost use Rattle.std.specs.Prelude.{◌≡◌, ◌<◌, ◌^◌, ◌↔◌, [], ◌∷◌, false, true, IfErr, IsTrue, None};
+ghost use Rattle.std.specs.Prelude.{OnErr, OnOk};
+ghost use Rattle.sqlite.specs.Held.{state};
+ghost use Rattle.sqlite.specs.State.{HasCleanDisk, Survives};
+ghost use Rattle.sqlite.specs.Values.{bound};
+ghost use Rattle.sqlite_schema.specs.Names.{table_named};
+ghost use Rattle.clr_tables.specs.TableEdits.{tables_edited};
+ghost use Rattle.clr_tables.specs.TableText.{table_text};
+ghost use Rattle.clr_tables.specs.Tables.{place_row};
+ghost use Rattle.clr_tables.specs.declared.table_name.TableName.TheVariants.{Journal};
+ghost use Rattle.clr_load.specs.Contract.{IsSaved};
+ghost use Rattle.clr_load.specs.Fault.{IsOfDatabase};
+ghost use Rattle.clr_load.specs.Layout.{names_in};
+ghost use Rattle.clr_load.specs.Schema.{columns_in};
+ghost use Rattle.clr_load.specs.Stored.{fits_columns};
+ghost use Rattle.clr_load.specs.declared.layout.Layout.TheVariants.{AsMade, AsMadeLogged};
+ghost use Rattle.clr_store.specs.Change.{HasEmpty, MakesAt, PutsPlace, Reaches};
+ghost use Rattle.clr_store.specs.Contract.{AreEditedAt, MakesEditsAt};
+
+use crate::edits::make_all;
+use crate::sql::{create_sql, insert_sql};
+use crate::values::{number_value, text_value};
+use clr_load::StoreFault;
+use clr_place::Place;
+use clr_rules::{Change, Edit};
+use clr_tables::TableName;
+use sqlite::types::ValueRef;
+use sqlite::{Alter, Connection, Transaction};
+use sqlite_schema::schema::Schema;
+
+/// Whether there is a table that could have the place.
+fn has_journal(schema: &Schema) -> bool
+    ensures { IsTrue result ↔ ((table_named schema.now (table_text Journal) ≡ None) → ⊥) }
+{
+    schema.table_named(b"journal").is_some()
+}
+
+/// Whether a column can hold the number of a place.
+pub(crate) fn fits(place: &Place) -> bool
+    ensures { IsTrue result → place.now.number < 2 ^ 63 }
+{
+    place.number <= 0x7fff_ffff_ffff_ffff
+}
+
+/// Makes the table of the journal beside the others, without a row.
+pub(crate) fn make_journal<S: Alter>(tx: &mut Transaction<'_, S>) -> Result<(), StoreFault>
+    ensures { Reaches S.Store tx.old tx.new (HasEmpty AsMade (names_in AsMade))
+        (HasEmpty AsMadeLogged (names_in AsMadeLogged)) result }
+{
+    tx.execute(create_sql(TableName::Journal), &[])?;
+    Ok(())
+}
+
+/// Takes the place away.
+fn clear_place<S: Alter>(tx: &mut Transaction<'_, S>) -> Result<(), StoreFault>
+    ensures { PutsPlace S.Store tx.old tx.new (λ _. []) result }
+{
+    tx.execute("DELETE FROM journal", &[])?;
+    Ok(())
+}
+
+/// Inserts the row of a place.
+fn insert_place<S: Alter>(
+    tx: &mut Transaction<'_, S>,
+    row: &[ValueRef<'_>],
+) -> Result<(), StoreFault>
+    requires fits { fits_columns (columns_in Journal) (bound row.now) ≡ true }
+    ensures { PutsPlace S.Store tx.old tx.new (λ rows. bound row.now ∷ rows) result }
+{
+    tx.execute(insert_sql(TableName::Journal), row)?;
+    Ok(())
+}
+
+/// Puts a place where there is none.
+pub(crate) fn add_place<S: Alter>(
+    tx: &mut Transaction<'_, S>,
+    place: &Place,
+) -> Result<(), StoreFault>
+    requires { place.now.number < 2 ^ 63 }
+    ensures { PutsPlace S.Store tx.old tx.new (λ rows. place_row place.now ∷ rows) result }
+{
+    let row = [
+        text_value(place.id.as_str()),
+        number_value(place.number),
+        text_value(place.sum.as_str()),
+    ];
+    insert_place(tx, &row)
+}
+
+/// Puts a place in place of the one that is there.
+fn set_place<S: Alter>(tx: &mut Transaction<'_, S>, place: &Place) -> Result<(), StoreFault>
+    requires { place.now.number < 2 ^ 63 }
+    ensures { PutsPlace S.Store tx.old tx.new (λ _. place_row place.now ∷ []) result }
+{
+    clear_place(tx)?;
+    add_place(tx, place)
+}
+
+/// Makes all edits, and sets the place.
+fn make_all_at<S: Alter>(
+    tx: &mut Transaction<'_, S>,
+    edits: &[Edit],
+    place: &Place,
+) -> Result<(), StoreFault>
+    requires { place.now.number < 2 ^ 63 }
+    ensures { MakesAt S.Store tx.old tx.new (tables_edited edits.now) (place_row place.now)
+        result }
+{
+    make_all(tx, edits)?;
+    set_place(tx, place)
+}
+
+/// Makes the edits and sets the place in one transaction, or neither.
+pub(crate) fn commit_change_at<S: Alter>(
+    conn: &mut Connection<S>,
+    change: &Change,
+    place: &Place,
+) -> Result<(), StoreFault>
+    ensures mode { conn.old.in_transaction ≡ false → conn.new.in_transaction ≡ false }
+    ensures made { HasCleanDisk (state S.Store conn.new) → OnOk result
+        (MakesEditsAt (state S.Store conn.old).now change.now.edits.items (place_row place.now)
+        (state S.Store conn.new).now) }
+    ensures saved { HasCleanDisk (state S.Store conn.new) → OnOk result
+        (IsSaved (state S.Store conn.new)) }
+    ensures still_saved { conn.old.in_transaction ≡ false → HasCleanDisk (state S.Store conn.new)
+        → IsTrue (state S.Store conn.new).is_open → OnErr result
+        (IsSaved (state S.Store conn.new)) }
+    ensures fault { IfErr result IsOfDatabase }
+    ensures none { HasCleanDisk (state S.Store conn.new) → IsTrue (state S.Store conn.new).is_open
+        → OnErr result ((state S.Store conn.new).now ≡ (state S.Store conn.old).now) }
+    ensures was_open { HasCleanDisk (state S.Store conn.new)
+        → IsTrue (state S.Store conn.new).is_open → IsTrue (state S.Store conn.old).is_open }
+    ensures crash { Survives (state S.Store conn.old) (state S.Store conn.new)
+        (AreEditedAt (state S.Store conn.old).now change.now.edits.items (place_row place.now)) }
+{
+    if !conn.is_autocommit() || !has_journal(conn.schema()) || !fits(place) {
+        return Err(StoreFault::Sql);
+    }
+    let mut tx = conn.transaction();
+    make_all_at(&mut tx, change.edits.as_slice(), place)?;
+    tx.commit()?;
+    Ok(())
+}
