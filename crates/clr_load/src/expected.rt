@@ -1,6 +1,6 @@
 //! Whether a database has the tables of a register, and no others.
-ghost use Rattle.std.specs.Prelude.{◌≡◌, ◌≤◌, ◌↔◌, ◌⊎◌, [], ℕ, false, true, length, pos, Err, IfErr};
-ghost use Rattle.std.specs.Prelude.{IfNone, IfOk, IfSome, IsErrAnd, List};
+ghost use Rattle.std.specs.Prelude.{◌≡◌, ◌≤◌, ◌↔◌, ◌⊎◌, [], ℕ, false, true, length, pos, Err};
+ghost use Rattle.std.specs.Prelude.{IfErr, IfNone, IfOk, IfSome, IsErrAnd, List};
 ghost use Rattle.std.specs.Prelude.{IsTrue, MatchResult, Ok, OnOk};
 ghost use Rattle.sqlite.specs.Held.{state};
 ghost use Rattle.sqlite.specs.Order.{Row as SqlRow};
@@ -27,7 +27,10 @@ use clr_tables::TableName;
 use sqlite::{Alter, Connection, Row};
 
 /// All rows of a table, in the order of its key, outside a transaction.
-pub(crate) fn list_table<S: Alter>(conn: &mut Connection<S>, table: TableName) -> Result<Vec<Row>, StoreFault>
+pub(crate) fn list_table<S: Alter>(
+    conn: &mut Connection<S>,
+    table: TableName,
+) -> Result<Vec<Row>, StoreFault>
     ensures mode { conn.old.in_transaction ≡ false → conn.new.in_transaction ≡ false }
     ensures survives { Survives (state S.Store conn.old) (state S.Store conn.new) (λ _. ⊥) }
     ensures unchanged { HasCleanDisk (state S.Store conn.new) → MatchResult result
@@ -161,14 +164,15 @@ fn known(version: i64) -> Option<u8>
     }
 }
 
-/// Reads the version, and refuses tables that are not those of a register of it, and changes nothing.
-/// Of a version below the oldest, and of one that is not known, the tables are not looked at.
+/// Reads the version, and refuses tables that are not those of a register of it, and changes
+/// nothing. Of a version below the oldest, and of one that is not known, the tables are not looked
+/// at.
 ///
 /// `Sql` where a transaction is open, there is no table `meta`, or the database fails; `NoMemory`
-/// where memory runs out; `BadRow` of `meta` where that has no version. `OtherTables` where there is
-/// another table, index, view or trigger, where one is missing or of another form, where `meta` has
-/// another row, where a `point` that a move has emptied has one, and where the table of the journal
-/// has not one row.
+/// where memory runs out; `BadRow` of `meta` where that has no version. `OtherTables` where there
+/// is another table, index, view or trigger, where one is missing or of another form, where `meta`
+/// has another row, where a `point` that a move has emptied has one, and where the table of the
+/// journal has not one row.
 pub fn expect_version<S: Alter>(conn: &mut Connection<S>, oldest: u8) -> Result<i64, StoreFault>
     ensures mode { conn.old.in_transaction ≡ false → conn.new.in_transaction ≡ false }
     ensures version { HasCleanDisk (state S.Store conn.new) → (meta : List SqlRow)

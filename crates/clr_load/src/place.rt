@@ -42,7 +42,8 @@ fn place_in(alloc: Global, row: &Row) -> Result<Place, StoreFault>
 
 /// The place in the one row of its table.
 fn only_place(alloc: Global, rows: &[Row]) -> Result<Place, StoreFault>
-    ensures { (row : SqlRow) → rows.now ≡ row ∷ [] → Yields (λ place. place) (read_place row) result }
+    ensures { (row : SqlRow) → rows.now ≡ row ∷ []
+        → Yields (λ place. place) (read_place row) result }
 {
     match rows.first() {
         Some(row) => place_in(alloc, row),
@@ -61,8 +62,8 @@ fn is_logged(schema: &Schema) -> bool
     }
 }
 
-/// Reads the place of the register in its journal, and changes nothing. A register without a journal
-/// has none.
+/// Reads the place of the register in its journal, and changes nothing. A register without a
+/// journal has none.
 ///
 /// `BadRow` of `journal` where the place does not read; `Sql` where a transaction is open, or the
 /// database refuses or fails; `NoMemory` where memory runs out.
