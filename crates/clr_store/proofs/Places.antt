@@ -1,12 +1,14 @@
 -- What statements make of the table of the journal, inside a transaction.
 use Rattle.std.proofs.Common.{◌≡◌, ◌∙◌, ◌&&◌, ℕ, List, [], ◌∷◌, Bool, true, false, not, None, Option, Some, Ok, Err, Result, ap, refl, subst, sym}
 use Rattle.std.specs.Prelude.{MatchResult, filter}
+use Rattle.std.proofs.lemmas.Bool.{true≢false}
 use Rattle.sqlite.specs.Effect.{Database}
 use Rattle.sqlite.specs.Held.{Held, state}
 use Rattle.sqlite.specs.Order.{Row}
 use Rattle.sqlite.specs.Schema.{Schema}
 use Rattle.sqlite.specs.State.{ExecutesInside, HasCleanDisk, KeepsCommit, State, Survives}
 use Rattle.sqlite.specs.Store.{Ghosts}
+use Rattle.sqlite.specs.Tree.{Trees}
 use Rattle.sqlite.specs.declared.transaction.Transaction.{Transaction}
 use Rattle.sqlite_schema.specs.Names.{same_name, table_named}
 use Rattle.clr_rules.specs.declared.change.Edit.{Edit}
@@ -19,7 +21,7 @@ use Rattle.clr_load.specs.Fault.{IsOfDatabase}
 use Rattle.clr_load.specs.Layout.{has_rows, has_table, is_of_register, is_two, tree_in}
 use Rattle.clr_load.specs.Schema.{columns_in, schema_in}
 use Rattle.clr_load.specs.Sql.{clear_place_sql, insert_sql}
-use Rattle.clr_load.specs.Stored.{ArePlaced, HasPlaceIn, HasRows, HasTables, Holds, bodies, fits_columns, rows_in}
+use Rattle.clr_load.specs.Stored.{ArePlaced, HasPlaceIn, HasRows, HasTables, Holds, IsPlaced, bodies, fits_columns, rows_in}
 use Rattle.clr_load.specs.declared.fault.StoreFault.{StoreFault}
 use Rattle.clr_load.specs.declared.layout.Layout.{Layout}
 use Rattle.clr_load.specs.declared.layout.Layout.TheVariants.{AsMade, AsMadeLogged, AsMoved, AsMovedLogged, OfOne}
@@ -28,7 +30,6 @@ use Rattle.clr_load.proofs.Inside.{then_runs}
 use Rattle.clr_load.proofs.Loading.{in_layout, then_kept}
 use Rattle.clr_load.proofs.Reopened.{left_of, placed_as}
 use Rattle.clr_load.proofs.Texts.{clear_place_is}
-use Rattle.clr_load.proofs.Versioned.{some_place}
 use Rattle.clr_store.proofs.Creating.{empty_rows}
 use Rattle.clr_store.proofs.Effects.{Wrote, deleted, inserts, is_met}
 use Rattle.clr_store.proofs.Inside.{crash_leaves, edited_tables, put_in}
@@ -128,6 +129,11 @@ journal_there AsMade two db is named = absurd (named (ap (λ (s : Schema). table
 journal_there AsMoved two db is named = absurd (named (ap (λ (s : Schema). table_named s (table_text Journal)) is))
 journal_there AsMadeLogged two db is named = refl
 journal_there AsMovedLogged two db is named = refl
+
+-- a layout with that table has a place in it
+some_place : (l : Layout) (trees : Trees) → has_table l Journal ≡ true → IsPlaced l trees → (place : Row) × HasPlaceIn l trees (Some place)
+some_place l trees there (None, none) = absurd (true≢false (sym there ∙ none))
+some_place l trees there (Some place, has) = (place, has)
 
 pub made_at : (old new : State) (edits : List Edit) (place : Row) (t : Tables) (has : HasTables old.now t) → (table_named old.now.schema (table_text Journal) ≡ None → ⊥)
     → ChangesAt old new (tables_edited edits) place → HasTables new.now (tables_edited edits t) × ArePlaced new.now.trees (Some place)

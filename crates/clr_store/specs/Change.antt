@@ -90,8 +90,8 @@ PutsPlace g old new change result =
     (λ _. ChangesPlace (state g old.conn.now) (state g new.conn.now) change)
     (λ _. KeepsCommit (state g old.conn.now) (state g new.conn.now)) result
 
--- the tables are changed inside the transaction, where there is a table of the journal, and that has
--- this place; nothing is committed
+-- the tables are changed inside the transaction, where there is a table of the journal, and that
+-- has this place; nothing is committed
 pub record ChangesAt (old new : State) (change : Tables → Tables) (place : Row) : Type 0 where
   pub inside : IsTrue new.in_transaction
   pub kept : KeepsCommit old new

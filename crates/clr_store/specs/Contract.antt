@@ -24,8 +24,8 @@ abbrev pub MakesEdits : Database → List Edit → Database → Type 0
 MakesEdits before edits after = (t : Tables) → HasTables before t
     → HasTables after (tables_edited edits t)
 
--- the same with a place in the journal: of each register that was there the edits are made, and it has
--- the place
+-- the same with a place in the journal: of each register that was there the edits are made, and it
+-- has the place
 abbrev pub AreEditedAt : Database → List Edit → Row → Trees → Type 0
 AreEditedAt before edits place trees = (t : Tables) → HasTables before t
     → AreTables trees (tables_edited edits t) × ArePlaced trees (Some place)

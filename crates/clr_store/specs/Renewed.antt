@@ -14,7 +14,7 @@ use Rattle.clr_tables.specs.Tables.{Tables, jumper_row, section_row, staff_row, 
 use Rattle.clr_tables.specs.declared.table_name.TableName.{TableName}
 use Rattle.clr_tables.specs.declared.table_name.TableName.TheVariants.{Meta, Section, Point, Staff}
 use Rattle.clr_tables.specs.declared.table_name.TableName.TheVariants.{Clearance, Step, Hold}
-use Rattle.clr_tables.specs.declared.table_name.TableName.TheVariants.{NetworkPoint}
+use Rattle.clr_tables.specs.declared.table_name.TableName.TheVariants.{NetworkPoint, Journal}
 use Rattle.clr_load.specs.Stored.{AreTables, HasTables}
 use Rattle.clr_store.specs.Change.{added, with_rows}
 
@@ -53,6 +53,7 @@ clear_sql Clearance = codes "DELETE FROM clearance"
 clear_sql Step = codes "DELETE FROM step"
 clear_sql Hold = codes "DELETE FROM hold"
 clear_sql NetworkPoint = codes "DELETE FROM network_point"
+clear_sql Journal = codes "DELETE FROM journal"
 
 -- a row for each point, with its state
 abbrev pub rows_in_state : List PointState → List PointRow → List Row

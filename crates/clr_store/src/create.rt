@@ -1,5 +1,6 @@
 //! The tables are made, with the rows of an opening register, in one transaction.
-ghost use Rattle.std.specs.Prelude.{IfErr, ◌≡◌, [], ◌∷◌, ◌++◌, false, true, IsTrue, OnErr, OnOk, Some, map};
+ghost use Rattle.std.specs.Prelude.{IfErr, ◌≡◌, [], ◌∷◌, ◌++◌, false, true, IsTrue, OnErr, OnOk};
+ghost use Rattle.std.specs.Prelude.{Some, map};
 ghost use Rattle.sqlite.specs.Held.{state};
 ghost use Rattle.sqlite.specs.State.{HasCleanDisk, Survives};
 ghost use Rattle.clr_rules.specs.Register.{first_state, opening};

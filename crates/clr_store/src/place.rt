@@ -19,7 +19,7 @@ ghost use Rattle.clr_store.specs.Change.{HasEmpty, MakesAt, PutsPlace, Reaches};
 ghost use Rattle.clr_store.specs.Contract.{AreEditedAt, MakesEditsAt};
 
 use crate::edits::make_all;
-use crate::sql::{create_sql, insert_sql};
+use crate::sql::{clear_sql, create_sql, insert_sql};
 use crate::values::{number_value, text_value};
 use clr_load::StoreFault;
 use clr_place::Place;
@@ -56,7 +56,7 @@ pub(crate) fn make_journal<S: Alter>(tx: &mut Transaction<'_, S>) -> Result<(), 
 fn clear_place<S: Alter>(tx: &mut Transaction<'_, S>) -> Result<(), StoreFault>
     ensures { PutsPlace S.Store tx.old tx.new (λ _. []) result }
 {
-    tx.execute("DELETE FROM journal", &[])?;
+    tx.execute(clear_sql(TableName::Journal), &[])?;
     Ok(())
 }
 

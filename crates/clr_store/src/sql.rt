@@ -119,5 +119,6 @@ pub(crate) fn clear_sql(table: TableName) -> &'static str
         TableName::Step => "DELETE FROM step",
         TableName::Hold => "DELETE FROM hold",
         TableName::NetworkPoint => "DELETE FROM network_point",
+        TableName::Journal => "DELETE FROM journal",
     }
 }

@@ -1,6 +1,7 @@
 //! The store: the register of a database, over a connection to it.
 ghost use Rattle.std.specs.Prelude.{ℕ, ◌≡◌, ◌≢◌, ◌⊎◌, false, true, is_ok, pos, List, IsTrue, IfErr};
-ghost use Rattle.std.specs.Prelude.{IfOk, IsErrAnd, MatchResult, Ok, OnErr, OnOk, Option, Some, length};
+ghost use Rattle.std.specs.Prelude.{IfOk, IsErrAnd, MatchResult, Ok, OnErr, OnOk, Option, Some};
+ghost use Rattle.std.specs.Prelude.{length};
 ghost use Rattle.sqlite.specs.Held.{state};
 ghost use Rattle.sqlite.specs.Order.{Row};
 ghost use Rattle.sqlite.specs.State.{HasCleanDisk, Survives};
@@ -12,16 +13,15 @@ ghost use Rattle.clr_tables.specs.TableLaws.{HasNoJumper};
 ghost use Rattle.clr_tables.specs.Tables.{Tables, place_row, tables_by, tables_of, version_one};
 ghost use Rattle.clr_tables.specs.TypedRows.{IsTyped};
 ghost use Rattle.clr_load.specs.Schema.{no_schema};
-ghost use Rattle.clr_load.specs.Stored.{ArePlaced, AreTables, HasMeta, HasOldTables, HasTables, HasVersion};
-ghost use Rattle.clr_load.specs.Stored.{HasWholeRows, IsLaidOut, LacksMeta};
+ghost use Rattle.clr_load.specs.Stored.{ArePlaced, AreTables, HasMeta, HasOldTables, HasTables};
+ghost use Rattle.clr_load.specs.Stored.{HasVersion, HasWholeRows, IsLaidOut, LacksMeta};
 ghost use Rattle.clr_load.specs.Cause.{SqlHasCause};
 ghost use Rattle.clr_load.specs.Fault.{IsOfDatabase};
 ghost use Rattle.clr_load.specs.Filling.{GivesInto, IsLoaded};
 ghost use Rattle.clr_load.specs.Contract.{Gives, GivesBack, GivesRows, IsSaved, old_points};
 ghost use Rattle.clr_load.specs.declared.fault.StoreFault.TheVariants.{OtherTables, Sql};
 ghost use Rattle.clr_store.specs.Contract.{AreEdited, AreEditedAt, AreTablesAt, IsOfOpening};
-ghost use Rattle.clr_store.specs.Contract.{KeepsPlace};
-ghost use Rattle.clr_store.specs.Contract.{MakesEdits, MakesEditsAt, RefusesOpening};
+ghost use Rattle.clr_store.specs.Contract.{KeepsPlace, MakesEdits, MakesEditsAt, RefusesOpening};
 ghost use Rattle.clr_store.specs.Contract.{RefusesVersion};
 ghost use Rattle.clr_store.specs.Moving.{IsOfMove, LeavesMoved, RefusesMove, RefusesToMove};
 ghost use Rattle.clr_store.specs.Renewed.{AreRenewed, AreStatesOf, RenewsTables};

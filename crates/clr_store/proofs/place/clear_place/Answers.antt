@@ -9,7 +9,8 @@ pub returns : goal.returns
 returns g c = record {
   same_reference = c.execute.ensures.same_reference;
   step = λ clean inside.
-      clears (state g.S.Store c.args.tx.now.conn.now) (state g.S.Store c.execute.new.self.conn.now) c.in_ok-execute.field-0 (c.in_ok-execute.ensures.runs clean inside);
+      clears (state g.S.Store c.args.tx.now.conn.now) (state g.S.Store c.execute.new.self.conn.now) c.in_ok-execute.field-0
+      (rw c.clear_sql.ensures at (c.in_ok-execute.ensures.runs clean inside));
   fault = tt;
   survives = c.execute.ensures.survives;
 }

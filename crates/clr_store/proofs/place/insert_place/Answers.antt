@@ -10,7 +10,7 @@ pub returns : goal.returns
 returns g c = record {
   same_reference = c.execute.ensures.same_reference;
   step = λ clean inside.
-      puts_row (state g.S.Store c.args.tx.now.conn.now) (state g.S.Store c.execute.new.self.conn.now) (bound c.args.row.now) c.in_ok-execute.field-0 c.requires
+      puts_row (state g.S.Store c.args.tx.now.conn.now) (state g.S.Store c.execute.new.self.conn.now) (bound c.args.row.now) c.in_ok-execute.field-0 c.requires.fits
       (rw c.insert_sql.ensures at (c.in_ok-execute.ensures.runs clean inside));
   fault = tt;
   survives = c.execute.ensures.survives;

@@ -4,7 +4,7 @@ use Rattle.sqlite.specs.Held.{state}
 use Rattle.sqlite.specs.State.{HasCleanDisk, Survives}
 use Rattle.clr_store.specs.Renewed.{AreRenewed, tables_renewed}
 use Rattle.clr_load.specs.Stored.{HasTables}
-use Rattle.clr_store.proofs.Renewing.{renewed_crash, renewed_tables, states_ordered}
+use Rattle.clr_store.proofs.Renewing.{made_renewed, renewed_crash, states_ordered}
 use Rattle.clr_load.proofs.Causes.{told_of_database}
 use Rattle.clr_store.proofs.renew.renew.Goals as goal
 
@@ -16,6 +16,7 @@ returns-clause-renewed g c clean t has =
     let network = c.args.network.now in
     let staff = c.args.staff.now in
     let states = c.args.states.now in
+    let old = c.args.conn.now in
     let mid = c.replace_rows.new.tx.conn.now in
     let end = c.commit.new.self.0 in
     let begun = c.transaction-tx.ensures.begun in
@@ -23,7 +24,7 @@ returns-clause-renewed g c clean t has =
     let late : HasCleanDisk (state g.S.Store end) = search rules in
     let early : HasCleanDisk (state g.S.Store mid) = omega (arith, c.commit.ensures.survives.clean) in
     let changes = rw (begun, c.sections-sections.ensures.rows, c.points-points.ensures.rows, c.rows-employees.ensures.rows) at (c.in_ok-replace_rows.ensures.step early (rw begun refl)) in
-    let made = renewed_tables network staff states c.sections-sections.ensures.network c.rows-employees.ensures.staff has.layout has.two (state g.S.Store mid).now t has.here.in_order (changes.tables has.layout has.two t has.here.holds) in
+    let made = made_renewed network staff states c.sections-sections.ensures.network c.rows-employees.ensures.staff (state g.S.Store (record old { in_transaction = true })) (state g.S.Store mid) t has changes in
     subst (λ h. HasTables (state g.S.Store h).now (tables_renewed network staff states t)) same
     (subst (λ (d : Database). HasTables d (tables_renewed network staff states t)) (sym (c.in_ok-commit.ensures.ok late).1.now_is) made)
 

@@ -7,7 +7,7 @@ use Rattle.clr_place.specs.declared.place.Place.{Place}
 use Rattle.clr_tables.specs.RowsRead.{place_read}
 use Rattle.clr_load.specs.Cause.{SqlHasCause}
 use Rattle.clr_load.specs.Contract.{Gives}
-use Rattle.clr_load.specs.Layout.{Layout}
+use Rattle.clr_load.specs.declared.layout.Layout.{Layout}
 use Rattle.clr_load.specs.Schema.{schema_in}
 use Rattle.clr_load.specs.Stored.{HasPlaceIn, HasTables, IsPlaced}
 use Rattle.clr_load.proofs.Reopened.{placed_as}
