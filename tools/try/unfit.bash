@@ -84,6 +84,7 @@ after 2 "$work/mixed.db"
 cp "$work/mixed.db" "$work/monday.db"
 sed -n 3,21p "$files/shift.jsonl" >"$work/commands"
 bounded run --db "$work/mixed.db" <"$work/commands" >/dev/null
+: >"$work/told"
 "$program" serve "$work/mixed.db" --port "$port" --count 1000 >"$work/told" 2>/dev/null &
 server=$!
 for _ in $(seq 100); do [ -s "$work/told" ] || sleep 0.1; done
