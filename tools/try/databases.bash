@@ -31,6 +31,7 @@ END
 
 # A log that a run leaves that is killed: it has the commands, and the database beside it has none of them.
 new_register "$work/killed.db"
+: >"$work/told"
 "$program" serve "$work/killed.db" --port "$port" --count 1000 >"$work/told" 2>/dev/null &
 server=$!
 for _ in $(seq 100); do [ -s "$work/told" ] || sleep 0.1; done
