@@ -20,7 +20,9 @@ use Rattle.clr_args.specs.declared.asked.OrderArgs.{OrderArgs}
 use Rattle.clr_args.specs.declared.asked.RunArgs.{RunArgs}
 use Rattle.clr_args.specs.declared.asked.RunArgs.TheVariants as over
 use Rattle.clr_args.specs.declared.asked.ServeArgs.{ServeArgs}
+use Rattle.clr_args.specs.declared.asked.UpdateArgs.{UpdateArgs}
 use Rattle.clr_args.specs.declared.asked.VerifyArgs.{VerifyArgs}
+use Rattle.clr_args.specs.declared.asked.VerifyFromArgs.{VerifyFromArgs}
 use Rattle.clr_args.specs.declared.asked.WayBackArgs.{WayBackArgs}
 use Rattle.clr_args.specs.declared.parsing.Parsed.{Parsed}
 use Rattle.clr_args.specs.declared.parsing.Parsed.TheVariants as parsed
@@ -111,10 +113,48 @@ pub record AsksJournal (rows : List Row) (args : JournalArgs) : Type 0 where
   pub offset : args.offset.minutes ≡ offset_in (first_of (codes "offset") rows)
   pub commands : args.commands ≡ flag_in (first_of (codes "commands") rows)
 
+-- a run of a journal begins with the register of three files, where no copy is named
+abbrev pub BeginsWithFiles : Option Text → List Text → Files → Type 0
+BeginsWithFiles None (sections ∷ points ∷ staff ∷ []) files = AreFiles sections points staff files
+BeginsWithFiles copy words files = ⊥
+
 pub record AsksVerify (rows : List Row) (args : VerifyArgs) : Type 0 where
   pub database : args.database.now ≡ word_in rows (codes "DB")
   pub journal : args.journal.now ≡ word_in rows (codes "JOURNAL")
+  pub files : BeginsWithFiles (first_of (codes "from") rows) (words_in rows (codes "FILES"))
+      args.files
+
+-- or with that of a copy, where no files are named
+abbrev pub BeginsWithCopy : Option Text → List Text → Text → Type 0
+BeginsWithCopy (Some copy) [] path = path ≡ copy
+BeginsWithCopy copy words path = ⊥
+
+pub record AsksVerifyFrom (rows : List Row) (args : VerifyFromArgs) : Type 0 where
+  pub database : args.database.now ≡ word_in rows (codes "DB")
+  pub journal : args.journal.now ≡ word_in rows (codes "JOURNAL")
+  pub copy : BeginsWithCopy (first_of (codes "from") rows) (words_in rows (codes "FILES"))
+      args.copy.now
+
+-- either is asked for
+abbrev pub AsksVerified : List Row → Asked → Type 0
+AsksVerified rows (asked.Verify args) = AsksVerify rows args
+AsksVerified rows (asked.VerifyFrom args) = AsksVerifyFrom rows args
+AsksVerified rows what = ⊥
+
+-- nothing is verified: a copy and files are named, or neither, or files that are not three
+abbrev pub IsNoVerifyOver : Option Text → List Text → Type 0
+IsNoVerifyOver (Some copy) [] = ⊥
+IsNoVerifyOver None (sections ∷ points ∷ staff ∷ []) = ⊥
+IsNoVerifyOver copy files = Unit {0}
+
+abbrev pub IsNoVerify : List Row → Type 0
+IsNoVerify rows = IsNoVerifyOver (first_of (codes "from") rows) (words_in rows (codes "FILES"))
+
+pub record AsksUpdate (rows : List Row) (args : UpdateArgs) : Type 0 where
+  pub database : args.database.now ≡ word_in rows (codes "DB")
   pub files : AsksFiles rows args.files
+  pub dry_run : args.dry_run ≡ flag_in (first_of (codes "dry-run") rows)
+  pub without : map (λ word. word.now) args.without.items ≡ words_in rows (codes "without")
 
 pub record AsksArchive (rows : List Row) (args : ArchiveArgs) : Type 0 where
   pub database : args.database.now ≡ word_in rows (codes "DB")
@@ -132,6 +172,8 @@ Asks name rows (asked.WayBack args) = (name ≡ codes "wayback") × AsksWayBack 
 Asks name rows (asked.Serve args) = (name ≡ codes "serve") × AsksServe rows args
 Asks name rows (asked.Journal args) = (name ≡ codes "journal") × AsksJournal rows args
 Asks name rows (asked.Verify args) = (name ≡ codes "verify") × AsksVerify rows args
+Asks name rows (asked.VerifyFrom args) = (name ≡ codes "verify") × AsksVerifyFrom rows args
+Asks name rows (asked.Update args) = (name ≡ codes "update") × AsksUpdate rows args
 Asks name rows (asked.Archive args) = (name ≡ codes "archive") × AsksArchive rows args
 Asks name rows (asked.Migrate path) = (name ≡ codes "migrate")
     × (path.now ≡ word_in rows (codes "DB"))
@@ -148,6 +190,7 @@ pub record IsNoSubcommand (name : Text) : Type 0 where
   pub serve : name ≢ codes "serve"
   pub journal : name ≢ codes "journal"
   pub verify : name ≢ codes "verify"
+  pub update : name ≢ codes "update"
   pub archive : name ≢ codes "archive"
   pub migrate : name ≢ codes "migrate"
 
@@ -187,11 +230,16 @@ run_usage (Some journal) =
 abbrev pub serve_usage : Text
 serve_usage = codes "error: serve takes --logins FILE only with --desk\n"
 
+-- what is said of a `verify` that is not taken
+abbrev pub verify_usage : Text
+verify_usage = codes "error: verify takes three files, or --from COPY and no files\n"
+
 -- words of a subcommand that clap takes and the subcommand does not, and what is said of them
 abbrev pub IsNotTaken : Text → List Row → Text → Type 0
 IsNotTaken name rows said =
     ((name ≡ codes "run") × IsNoRun rows × (said ≡ run_usage (first_of (codes "journal") rows)))
-    ⊎ ((name ≡ codes "serve") × IsNoServe rows × (said ≡ serve_usage))
+    ⊎ (((name ≡ codes "serve") × IsNoServe rows × (said ≡ serve_usage))
+    ⊎ ((name ≡ codes "verify") × IsNoVerify rows × (said ≡ verify_usage)))
 
 -- what the words of the subcommand of this name come to
 abbrev pub IsParsedAs : Text → List Row → Parsed → Type 0

@@ -43,6 +43,10 @@ at_most_rule id most = record (option_rule id) { parser = Some (Unsigned 1 most)
 abbrev pub number_rule : List ℕ → ℕ → Rule
 number_rule id most = record (option_rule id) { required = true; parser = Some (Unsigned 1 most) }
 
+-- an option with a value, which may be given any number of times
+abbrev pub repeated_option_rule : List ℕ → Rule
+repeated_option_rule id = record (option_rule id) { action = Some Append }
+
 -- the arguments of the two files of a network
 abbrev pub with_files : App → App
 with_files app = with_rule (with_rule app (required_rule (codes "SECTIONS")))
@@ -110,12 +114,25 @@ journal =
     (optional_rule (codes "CLEARANCE")))
     offset_rule) (flag_rule (codes "commands"))
 
--- `verify DB JOURNAL SECTIONS POINTS STAFF`
+-- `verify DB JOURNAL [--from COPY] [FILES]...`
 abbrev pub verify : App
 verify =
-    with_rule (with_files (with_rule
+    with_rule (with_rule (with_rule
     (with_rule (new_app (codes "verify")) (required_rule (codes "DB")))
-    (required_rule (codes "JOURNAL")))) (required_rule (codes "STAFF"))
+    (required_rule (codes "JOURNAL")))
+    (option_rule (codes "from")))
+    (repeated_rule (codes "FILES"))
+
+-- `update DB SECTIONS POINTS STAFF`
+abbrev pub plain_update : App
+plain_update =
+    with_rule (with_files (with_rule (new_app (codes "update")) (required_rule (codes "DB"))))
+    (required_rule (codes "STAFF"))
+
+-- the same with `[--dry-run] [--without JUMPER]...`
+abbrev pub update : App
+update = with_rule (with_rule plain_update (flag_rule (codes "dry-run")))
+    (repeated_option_rule (codes "without"))
 
 -- `archive DB --before MOMENT`
 abbrev pub archive : App
@@ -138,5 +155,6 @@ abbrev pub gridclear : App
 gridclear =
     with_subcommand (with_subcommand (with_subcommand (with_subcommand (with_subcommand
     (with_subcommand (with_subcommand (with_subcommand (with_subcommand (with_subcommand
-    (with_subcommand (with_subcommand top fence.top) check.top) init.top) run.top) order.top) board.top) wayback.top)
-    serve.top) journal.top) verify.top) archive.top) migrate.top
+    (with_subcommand (with_subcommand (with_subcommand top fence.top) check.top) init.top) run.top)
+    order.top) board.top) wayback.top) serve.top) journal.top) verify.top) update.top) archive.top)
+    migrate.top

@@ -22,8 +22,12 @@ pub enum Asked<'a> {
     Serve(ServeArgs<'a>),
     /// The commands that a journal keeps, printed.
     Journal(JournalArgs<'a>),
-    /// A register, compared with a run of its journal.
+    /// A register, compared with a run of its journal over the files that it began with.
     Verify(VerifyArgs<'a>),
+    /// The same over a copy of the register, in place of the files.
+    VerifyFrom(VerifyFromArgs<'a>),
+    /// A register whose network and staff become those of three files.
+    Update(UpdateArgs<'a>),
     /// The steps of records that were closed before a moment, printed and then removed.
     Archive(ArchiveArgs<'a>),
     /// The tables of the register at this path, brought to the version that is read.
@@ -145,6 +149,30 @@ pub struct VerifyArgs<'a> {
     pub journal: &'a str,
     /// The files that it began with.
     pub files: Files<'a>,
+}
+
+/// What `verify --from` is asked for.
+#[derive(Clone, Copy)]
+pub struct VerifyFromArgs<'a> {
+    /// The path of the database.
+    pub database: &'a str,
+    /// The path of its journal.
+    pub journal: &'a str,
+    /// The path of a database with the register that the journal began with.
+    pub copy: &'a str,
+}
+
+/// What `update` is asked for.
+#[derive(Drop)]
+pub struct UpdateArgs<'a> {
+    /// The path of the database.
+    pub database: &'a str,
+    /// The files that say what network and staff become.
+    pub files: Files<'a>,
+    /// Whether nothing is written.
+    pub dry_run: bool,
+    /// The names of the jumpers that are taken out.
+    pub without: Vec<&'a str>,
 }
 
 /// What `archive` is asked for.

@@ -2,14 +2,15 @@
 ghost use Rattle.std.specs.Prelude.{◌≡◌, ◌≢◌, IfOk, MatchOption, codes, map};
 ghost use Rattle.clap.specs.Words.{first_of, found_of, kind_of, rows_of};
 ghost use Rattle.clr_args.specs.Parsed.{AsksArchive, AsksBoard, AsksFence, AsksFiles, AsksInit};
-ghost use Rattle.clr_args.specs.Parsed.{AsksJournal, AsksOrder, AsksRun, AsksServe, AsksVerify};
-ghost use Rattle.clr_args.specs.Parsed.{AsksWayBack};
-ghost use Rattle.clr_args.specs.Parsed.{IsNoRun, IsNoServe, IsParsedAs, IsSaid, IsUnreadAs, Parses};
+ghost use Rattle.clr_args.specs.Parsed.{AsksJournal, AsksOrder, AsksRun, AsksServe, AsksUpdate};
+ghost use Rattle.clr_args.specs.Parsed.{AsksVerified, AsksWayBack};
+ghost use Rattle.clr_args.specs.Parsed.{IsNoRun, IsNoServe, IsNoVerify, IsParsedAs, IsSaid};
+ghost use Rattle.clr_args.specs.Parsed.{IsUnreadAs, Parses};
 ghost use Rattle.clr_args.specs.Parsed.{run_usage};
 
 use crate::asked::{
     ArchiveArgs, Asked, BoardArgs, FenceArgs, Files, InitArgs, JournalArgs, OrderArgs, RunArgs,
-    ServeArgs, StoredArgs, VerifyArgs, WayBackArgs,
+    ServeArgs, StoredArgs, UpdateArgs, VerifyArgs, VerifyFromArgs, WayBackArgs,
 };
 use crate::syntax;
 use crate::words::{
@@ -30,6 +31,10 @@ const RUN_JOURNAL_USAGE: &str =
 
 /// Why a `serve` is not taken that names a file of logins without a desk.
 const SERVE_USAGE: &str = "error: serve takes --logins FILE only with --desk\n";
+
+/// Why a `verify` is not taken that names both a copy and files, or neither, or files that are not
+/// three.
+const VERIFY_USAGE: &str = "error: verify takes three files, or --from COPY and no files\n";
 
 /// What the words of a command line come to.
 #[derive(Drop)]
@@ -99,7 +104,14 @@ fn asked<'a>(alloc: Global, name: &str, matches: &ArgMatches<'a>) -> Result<Pars
             None => unread(alloc, SERVE_USAGE),
         },
         "journal" => Ok(Parsed::Asked(Asked::Journal(journal_args(matches)))),
-        "verify" => Ok(Parsed::Asked(Asked::Verify(verify_args(matches)))),
+        "verify" => match verify_asked(alloc, matches)? {
+            Some(asked) => Ok(Parsed::Asked(asked)),
+            None => unread(alloc, VERIFY_USAGE),
+        },
+        "update" => {
+            let args = update_args(alloc, matches)?;
+            Ok(Parsed::Asked(Asked::Update(args)))
+        }
         "archive" => Ok(Parsed::Asked(Asked::Archive(archive_args(matches)))),
         "migrate" => Ok(Parsed::Asked(Asked::Migrate(word_of(matches, "DB")))),
         _ => {
@@ -250,15 +262,52 @@ fn journal_args<'a>(matches: &ArgMatches<'a>) -> JournalArgs<'a>
     }
 }
 
-/// What `verify DB JOURNAL SECTIONS POINTS STAFF` asks for.
-fn verify_args<'a>(matches: &ArgMatches<'a>) -> VerifyArgs<'a>
-    ensures { AsksVerify (rows_of (found_of matches.now)) result }
+/// What `verify DB JOURNAL [--from COPY] [FILES]...` asks for, if it names a copy and no files, or
+/// three files alone.
+fn verify_asked<'a>(
+    alloc: Global,
+    matches: &ArgMatches<'a>,
+) -> Result<Option<Asked<'a>>, AllocError>
+    ensures { IfOk result (λ asked. MatchOption asked
+        (IsNoVerify (rows_of (found_of matches.now)))
+        (AsksVerified (rows_of (found_of matches.now)))) }
 {
-    VerifyArgs {
-        database: word_of(matches, "DB"),
-        journal: word_of(matches, "JOURNAL"),
-        files: three_files(matches),
+    let database = word_of(matches, "DB");
+    let journal = word_of(matches, "JOURNAL");
+    let files = words_of(alloc, matches, "FILES")?;
+    match (option_of(matches, "from"), files.as_slice()) {
+        (Some(copy), []) => Ok(Some(Asked::VerifyFrom(VerifyFromArgs {
+            database,
+            journal,
+            copy,
+        }))),
+        (None, [sections, points, staff]) => Ok(Some(Asked::Verify(VerifyArgs {
+            database,
+            journal,
+            files: Files {
+                sections: *sections,
+                points: *points,
+                staff: *staff,
+            },
+        }))),
+        _ => Ok(None),
     }
+}
+
+/// What `update DB SECTIONS POINTS STAFF [--dry-run] [--without JUMPER]...` asks for.
+fn update_args<'a>(alloc: Global, matches: &ArgMatches<'a>) -> Result<UpdateArgs<'a>, AllocError>
+    ensures { IfOk result (AsksUpdate (rows_of (found_of matches.now))) }
+{
+    let database = word_of(matches, "DB");
+    let files = three_files(matches);
+    let dry_run = flag_of(matches, "dry-run");
+    let without = words_of(alloc, matches, "without")?;
+    Ok(UpdateArgs {
+        database,
+        files,
+        dry_run,
+        without,
+    })
 }
 
 /// What `archive DB --before MOMENT` asks for.

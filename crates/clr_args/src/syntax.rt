@@ -51,8 +51,10 @@ pub fn command<'a>(alloc: Global) -> Result<Command<'a>, AllocError>
     let with_journal = with_serve.subcommand(journal)?;
     let verify = subcommands::verify(alloc)?;
     let with_verify = with_journal.subcommand(verify)?;
+    let update = subcommands::update(alloc)?;
+    let with_update = with_verify.subcommand(update)?;
     let archive = subcommands::archive(alloc)?;
-    let with_archive = with_verify.subcommand(archive)?;
+    let with_archive = with_update.subcommand(archive)?;
     let migrate = subcommands::migrate(alloc)?;
     let command = with_archive.subcommand(migrate)?;
     Ok(command)

@@ -143,6 +143,9 @@ own_other owns (asked.Serve args) fault (inr (inl (own, is))) e = cc (sym is ∙
 own_other owns (asked.Serve args) fault (inr (inr (own, is))) e = cc (sym is ∙ e)
 own_other owns (asked.Verify args) fault (inr (inl (own, is))) e = cc (sym is ∙ e)
 own_other owns (asked.Verify args) fault (inr (inr own)) e = file_other owns args.database.now args.files fault own e
+own_other owns (asked.VerifyFrom args) fault (inr (inl (own, is))) e = cc (sym is ∙ e)
+own_other owns (asked.VerifyFrom args) fault (inr (inr (own, is))) e = cc (sym is ∙ e)
+own_other owns (asked.Update args) fault (inr own) e = file_other owns args.database.now args.files fault own e
 own_other owns what fault (inr own) e = absurd own
 
 module _ {M D L R W I J C : Type 0} (by : Steps M D L R W J C) (around : Around I) where
@@ -165,6 +168,8 @@ module _ {M D L R W I J C : Type 0} (by : Steps M D L R W J C) (around : Around 
       before.machine after.machine serves) reports
   carried_out (asked.Journal args) status before after (answer, does, own, untouched, reports) = reported answer status _ _ _ _ own reports
   carried_out (asked.Verify args) status before after (answer, does, own, untouched, reports) = reported answer status _ _ _ _ own reports
+  carried_out (asked.VerifyFrom args) status before after (answer, does, own, untouched, reports) = reported answer status _ _ _ _ own reports
+  carried_out (asked.Update args) status before after (answer, does, own, untouched, reports) = reported answer status _ _ _ _ own reports
   carried_out (asked.Archive args) status before after (archived, untouched, archives, reports) =
       reported_archive archived status _ _ _ _
       (archive_written before.output after.output medium opens shuts ends args archived before.machine after.machine archives) reports

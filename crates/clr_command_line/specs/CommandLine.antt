@@ -26,7 +26,8 @@ use Rattle.clr_commands.specs.Paths.{AtPaths}
 use Rattle.clr_commands.specs.Run.{ReadsInput, RunsAsked, RunsKept}
 use Rattle.clr_commands.specs.Serve.{ServesAt}
 use Rattle.clr_commands.specs.Stored.{PrintsBoard, PrintsOrder}
-use Rattle.clr_commands.specs.Verify.{Verifies, VerifiesAt}
+use Rattle.clr_commands.specs.Verify.{Copies, Verifies, VerifiesAt, VerifiesFromAt}
+use Rattle.clr_commands.specs.Update.{UpdatesFiles}
 use Rattle.clr_commands.specs.WayBack.{PrintsWayBack}
 use Rattle.clr_commands.specs.declared.replies.Printed.{Printed}
 use Rattle.clr_commands.specs.Journal.{GivesJournal}
@@ -109,6 +110,11 @@ module _ {M D L R W I J C : Type 0} (by : Steps M D L R W J C) (around : Around 
   CarriesOut (asked.Verify args) status before after = ComesTo
       (VerifiesAt files args (λ run. Comes medium opens shuts ends args.database.now (Verifies run)))
       status before after
+  CarriesOut (asked.VerifyFrom args) status before after = ComesTo
+      (VerifiesFromAt files args (Comes medium opens shuts ends args.copy.now Copies)
+      (λ run. Comes medium opens shuts ends args.database.now (Verifies run))) status before after
+  CarriesOut (asked.Update args) status before after = ComesTo
+      (UpdatesFiles files medium opens shuts ends args) status before after
   CarriesOut (asked.Archive args) status before after =
       (archived : Done) × (after.input ≡ before.input)
       × ArchivesAt medium opens shuts ends args before.output after.output archived before.machine

@@ -9,6 +9,7 @@ use Rattle.clr_args.specs.declared.asked.RunArgs.{RunArgs}
 use Rattle.clr_args.specs.declared.asked.RunArgs.TheVariants as run
 use Rattle.clr_args.specs.declared.asked.ServeArgs.{ServeArgs}
 use Rattle.clr_args.specs.declared.asked.VerifyArgs.{VerifyArgs}
+use Rattle.clr_args.specs.declared.asked.VerifyFromArgs.{VerifyFromArgs}
 use Rattle.clr_edge.specs.declared.fault.Fault.{Fault}
 use Rattle.clr_edge.specs.declared.fault.Fault.TheVariants.{Journal, Memory, SameFile}
 use Rattle.clr_edge.specs.declared.fault.ImportFile.TheVariants.{Logins, Points, Sections, Staff}
@@ -36,6 +37,10 @@ module _ (spares : List ℕ → List ℕ → Type 0) where
   SparesVerified args = spares args.database.now args.journal.now
       × SparesFiles args.database.now args.files
 
+  abbrev pub SparesVerifiedFrom : VerifyFromArgs → Type 0
+  SparesVerifiedFrom args = spares args.database.now args.journal.now
+      × spares args.copy.now args.journal.now
+
   abbrev pub SparesRun : RunArgs → Type 0
   SparesRun (run.Files files) = Unit {0}
   SparesRun (run.Stored args) = SparesOne args.database.now args.journal
@@ -46,6 +51,8 @@ module _ (spares : List ℕ → List ℕ → Type 0) where
   NamesOthers (asked.Run args) = SparesRun args
   NamesOthers (asked.Serve args) = SparesServed args
   NamesOthers (asked.Verify args) = SparesVerified args
+  NamesOthers (asked.VerifyFrom args) = SparesVerifiedFrom args
+  NamesOthers (asked.Update args) = SparesFiles args.database.now args.files
   NamesOthers what = Unit {0}
 
 -- ---- one of them is, and the fault names it
@@ -69,6 +76,11 @@ module _ (owns : List ℕ → List ℕ → Type 0) where
       (owns args.database.now args.journal.now × (fault ≡ Journal journal.SameFile))
       ⊎ OwnsFile args.database.now args.files fault
 
+  abbrev pub OwnsVerifiedFrom : VerifyFromArgs → Fault → Type 0
+  OwnsVerifiedFrom args fault =
+      (owns args.database.now args.journal.now × (fault ≡ Journal journal.SameFile))
+      ⊎ (owns args.copy.now args.journal.now × (fault ≡ Journal journal.SameFile))
+
   abbrev pub OwnsRun : RunArgs → Fault → Type 0
   OwnsRun (run.Files files) fault = ⊥
   OwnsRun (run.Stored args) fault =
@@ -80,4 +92,6 @@ module _ (owns : List ℕ → List ℕ → Type 0) where
   NamesOwn (asked.Run args) fault = OwnsRun args fault
   NamesOwn (asked.Serve args) fault = OwnsServed args fault
   NamesOwn (asked.Verify args) fault = OwnsVerified args fault
+  NamesOwn (asked.VerifyFrom args) fault = OwnsVerifiedFrom args fault
+  NamesOwn (asked.Update args) fault = OwnsFile args.database.now args.files fault
   NamesOwn what fault = ⊥

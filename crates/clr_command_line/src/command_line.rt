@@ -24,7 +24,8 @@ use clr_commands::migrate::migrate;
 use clr_commands::order::order;
 use clr_commands::run::run;
 use clr_commands::serve::serve;
-use clr_commands::verify::verify;
+use clr_commands::update::update;
+use clr_commands::verify::{verify, verify_from};
 use clr_commands::wayback::wayback;
 use clr_edge::database::Makes;
 use clr_edge::fault::Fault;
@@ -190,6 +191,8 @@ where
         }
         Asked::Journal(args) => report(journal(alloc, paths, args), output, errors),
         Asked::Verify(args) => report(verify(alloc, rt, paths, args), output, errors),
+        Asked::VerifyFrom(args) => report(verify_from(alloc, rt, paths, args), output, errors),
+        Asked::Update(args) => report(update(alloc, rt, paths, args), output, errors),
         Asked::Archive(args) => report_served(archive(alloc, rt, args, output), errors),
         Asked::Migrate(path) => report(migrate(alloc, rt, *path), output, errors),
     }

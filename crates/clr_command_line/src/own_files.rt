@@ -1,11 +1,11 @@
 //! Files that are named beside a database, none of which is to be one of the database's own.
 ghost use Rattle.std.specs.Prelude.{◌≡◌, IfErr, OnOk};
 ghost use Rattle.clr_command_line.specs.OwnFiles.{NamesOthers, NamesOwn, OwnsFile, OwnsOne};
-ghost use Rattle.clr_command_line.specs.OwnFiles.{OwnsServed, OwnsVerified, SparesFiles};
-ghost use Rattle.clr_command_line.specs.OwnFiles.{SparesOne, SparesServed, SparesVerified};
-ghost use Rattle.clr_command_line.specs.OwnFiles.{UnlessMemory};
+ghost use Rattle.clr_command_line.specs.OwnFiles.{OwnsServed, OwnsVerified, OwnsVerifiedFrom};
+ghost use Rattle.clr_command_line.specs.OwnFiles.{SparesFiles, SparesOne, SparesServed};
+ghost use Rattle.clr_command_line.specs.OwnFiles.{SparesVerified, SparesVerifiedFrom, UnlessMemory};
 
-use clr_args::asked::{Asked, Files, RunArgs, ServeArgs, StoredArgs, VerifyArgs};
+use clr_args::asked::{Asked, Files, RunArgs, ServeArgs, StoredArgs, VerifyArgs, VerifyFromArgs};
 use clr_edge::fault::{Fault, ImportFile, JournalFault};
 use clr_edge::paths::Opens;
 use std::alloc::{AllocError, Global};
@@ -28,6 +28,8 @@ pub(crate) fn expect_others<'a, O: Opens<'a>>(
         Asked::Run(RunArgs::Stored(args)) => expect_journal(alloc, paths, args),
         Asked::Serve(args) => expect_served(alloc, paths, args),
         Asked::Verify(args) => expect_verified(alloc, paths, args),
+        Asked::VerifyFrom(args) => expect_verified_from(alloc, paths, args),
+        Asked::Update(args) => expect_files(alloc, paths, args.database, &args.files),
         _ => Ok(()),
     }
 }
@@ -85,6 +87,21 @@ fn expect_verified<'a, O: Opens<'a>>(
     };
     expect_journal(alloc, paths, &stored)?;
     expect_files(alloc, paths, args.database, &args.files)
+}
+
+/// Refuses a journal that is a file of the database, or of the copy to begin with.
+fn expect_verified_from<'a, O: Opens<'a>>(
+    alloc: Global,
+    paths: &O,
+    args: &VerifyFromArgs<'a>,
+) -> Result<(), Fault>
+    ensures others { OnOk result (SparesVerifiedFrom (O.spares paths.now) args.now) }
+    ensures own { IfErr result (UnlessMemory (OwnsVerifiedFrom (O.owns paths.now) args.now)) }
+{
+    let of_database = Fault::Journal(JournalFault::SameFile);
+    expect_other(alloc, paths, args.database, args.journal, of_database)?;
+    let of_copy = Fault::Journal(JournalFault::SameFile);
+    expect_other(alloc, paths, args.copy, args.journal, of_copy)
 }
 
 /// Refuses three files of which one is a file of the database.

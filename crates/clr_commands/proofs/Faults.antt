@@ -17,7 +17,8 @@ use Rattle.clr_edge.specs.Database.{IsOfLine, IsOfStore}
 use Rattle.clr_edge.specs.Fault.{IsOfFile, of_desk, of_file, of_name, of_network, of_staff, of_store}
 use Rattle.clr_edge.specs.Journals.{IsOfTakingUp}
 use Rattle.clr_edge.specs.declared.fault.Fault.{Fault}
-use Rattle.clr_edge.specs.declared.fault.Fault.TheVariants.{Accept, Listen, Memory, Output, SameFile}
+use Rattle.clr_edge.specs.declared.fault.Fault.TheVariants.{Accept, Listen, Memory, Output, SameFile, Update}
+use Rattle.clr_update.specs.declared.obstacle.Obstacle.{Obstacle}
 use Rattle.clr_edge.specs.declared.fault.ImportFile.{ImportFile}
 use Rattle.clr_commands.specs.Faults.{IsOfSubcommand}
 use Rattle.clr_rules.specs.Register.{Register}
@@ -101,6 +102,9 @@ memory_plain fault e = plain_as fault Memory e refl
 pub line_plain : (fault : Fault) → IsOfLine fault → IsOfSubcommand fault
 line_plain fault (inl memory) = memory_plain fault memory
 line_plain fault (inr refused) = plain_as fault _ refused refl
+
+pub obstacle_plain : (fault : Fault) (cause : Obstacle) → fault ≡ Update cause → IsOfSubcommand fault
+obstacle_plain fault cause is = plain_as fault (Update cause) is refl
 
 pub order_plain : (fault : Fault) → IsOfOrder fault → IsOfSubcommand fault
 order_plain fault (inl memory) = memory_plain fault memory

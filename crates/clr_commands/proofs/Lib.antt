@@ -4,6 +4,7 @@ pub mod Archived
 pub mod Taken
 pub mod Connections
 pub mod ConnectionRuns
+pub mod Copied
 pub mod Databases
 pub mod Faults
 pub mod Found
@@ -19,3 +20,4 @@ pub mod Verifies
 pub mod WaysBack
 pub mod Written
 pub mod NoWord
+pub mod Updating

@@ -1,4 +1,4 @@
--- What comes of a journal that is run again over the opening register of rows.
+-- What comes of a journal that is run again over a register, as the opening one of rows.
 use Rattle.std.proofs.Common.{◌≡◌, ◌≢◌, ◌∙◌, ◌⊎◌, ap, refl, inl, inr, length, nat_lt, subst, sym, ℕ, Bool, false, List, Result, Ok, Err, if◌then◌else◌}
 use Rattle.std.specs.Prelude.{IfSome, IsErrAnd, IsErrOf, None, Option, Some, Vec}
 use Rattle.std.specs.declared.alloc.Global.{Global}
@@ -22,7 +22,7 @@ use Rattle.clr_commands.specs.Answers.{Answers}
 use Rattle.clr_commands.specs.Import.{FileRows}
 use Rattle.clr_commands.specs.Paths.{AtPaths}
 use Rattle.clr_commands.specs.Run.{IsOpeningOf, rows_fault}
-use Rattle.clr_commands.specs.Verify.{GoesUnread, IsOfJournal, IsRunOfJournal, IsVerified, RunsAgain, verified_text}
+use Rattle.clr_commands.specs.Verify.{GoesUnread, IsRunOfJournal, IsRunOver, IsSaidFrom, IsVerified, RunsOver, verified_text}
 
 -- the rows are no network and no staff
 pub of_rows : (at : AtPaths) (path : List ℕ) (rows : FileRows) (result : Result Rerun Fault) (fault : Fault) → IsErrAnd result (λ cause. cause ≡ fault)
@@ -45,18 +45,15 @@ too_long (Some bytes) fault gives memory unopened unread =
     by (inr (inr is)) = unread is
 
 -- the file of the journal goes unread, or is too long
-pub of_bytes : (at : AtPaths) (path : List ℕ) (rows : FileRows) (result : Result Rerun Fault) (fault : Fault) → IsErrAnd result (λ cause. cause ≡ fault)
-    → rows_fault rows ≡ Ok tt → IfSome (at.bytes path) (λ bytes. GivesBytes bytes (Err fault))
+pub of_bytes : (at : AtPaths) (path : List ℕ) (began : Register) (result : Result Rerun Fault) (fault : Fault) → IsErrAnd result (λ cause. cause ≡ fault)
+    → IfSome (at.bytes path) (λ bytes. GivesBytes bytes (Err fault))
     → (IsErrOf {T = Vec ℕ Global} (Err fault) (Journal OpenFailed) → at.fails path) → (IsErrOf {T = Vec ℕ Global} (Err fault) (Journal ReadFailed) → at.fails path)
-    → Answers (GoesUnread at path) (λ run. run) (IsRunOfJournal (at.bytes path) rows) result
-of_bytes at path rows (Ok run) fault is fits gives unopened unread = absurd is
-of_bytes at path rows (Err cause) fault is fits gives unopened unread =
-    λ other. inr (inl (
-      fits,
-      subst (λ (f : Fault). IfSome (at.bytes path) (λ bytes. lines_of bytes ≡ Err f)) (sym is)
-          (too_long (at.bytes path) fault gives (λ e. other (inl (is ∙ e))) (λ e. other (inr (inl (is ∙ e), unopened (ap Err e))))
-          (λ e. other (inr (inr (is ∙ e), unread (ap Err e))))),
-    ))
+    → Answers (GoesUnread at path) (λ run. run) (IsRunOver (at.bytes path) began) result
+of_bytes at path began (Ok run) fault is gives unopened unread = absurd is
+of_bytes at path began (Err cause) fault is gives unopened unread =
+    λ other. inl (subst (λ (f : Fault). IfSome (at.bytes path) (λ bytes. lines_of bytes ≡ Err f)) (sym is)
+    (too_long (at.bytes path) fault gives (λ e. other (inl (is ∙ e))) (λ e. other (inr (inl (is ∙ e), unopened (ap Err e))))
+    (λ e. other (inr (inr (is ∙ e), unread (ap Err e))))))
 
 -- the lines of bytes that are not too many
 lines_are : (bytes : List ℕ) → nat_lt 1073741824 (length bytes) ≡ false → lines_of bytes ≡ lines_or_fault (read_journal bytes)
@@ -72,13 +69,10 @@ bytes_are None read gives = tt
 bytes_are (Some bytes) read gives = gives.0
 
 -- the lines are run again
-pub of_run : (at : AtPaths) (path : List ℕ) (rows : FileRows) (read : Vec ℕ Global) (began : Register) (run : Rerun) → rows_fault rows ≡ Ok tt → IsOpeningOf rows began
+pub of_run : (at : AtPaths) (path : List ℕ) (read : Vec ℕ Global) (began : Register) (run : Rerun)
     → IfSome (at.bytes path) (λ bytes. GivesBytes bytes (Ok read)) → Reruns began (read_journal read.items) (Ok run)
-    → Answers (GoesUnread at path) (λ run. run) (IsRunOfJournal (at.bytes path) rows) (Ok run)
-of_run at path rows read began run fits is_opening gives ran = record {
-  fits = fits;
-  began = began;
-  is_opening = is_opening;
+    → Answers (GoesUnread at path) (λ run. run) (IsRunOver (at.bytes path) began) (Ok run)
+of_run at path read began run gives ran = record {
   entries = ran.0;
   bytes = read.items;
   is_file = bytes_are (at.bytes path) read gives;
@@ -87,38 +81,40 @@ of_run at path rows read began run fits is_opening gives ran = record {
   runs = ran.2;
 }
 
-pub of_bad_line : (at : AtPaths) (path : List ℕ) (rows : FileRows) (read : Vec ℕ Global) (began : Register) (place : ℕ) → rows_fault rows ≡ Ok tt
+pub of_bad_line : (at : AtPaths) (path : List ℕ) (read : Vec ℕ Global) (began : Register) (place : ℕ)
     → IfSome (at.bytes path) (λ bytes. GivesBytes bytes (Ok read)) → Reruns began (read_journal read.items) (Err (rerun.BadLine place))
-    → Answers {T = Rerun} (GoesUnread at path) (λ run. run) (IsRunOfJournal (at.bytes path) rows) (Err (Journal (edge.BadLine place)))
-of_bad_line at path rows read began place fits gives bad = λ other. inr (inl (fits, lines_come (at.bytes path) read (Err (BadLine place)) gives bad))
+    → Answers {T = Rerun} (GoesUnread at path) (λ run. run) (IsRunOver (at.bytes path) began) (Err (Journal (edge.BadLine place)))
+of_bad_line at path read began place gives bad = λ other. inl (lines_come (at.bytes path) read (Err (BadLine place)) gives bad)
 
-pub of_reply : (at : AtPaths) (path : List ℕ) (rows : FileRows) (read : Vec ℕ Global) (began : Register) (number : ℕ) → rows_fault rows ≡ Ok tt → IsOpeningOf rows began
+pub of_reply : (at : AtPaths) (path : List ℕ) (read : Vec ℕ Global) (began : Register) (number : ℕ)
     → IfSome (at.bytes path) (λ bytes. GivesBytes bytes (Ok read)) → Reruns began (read_journal read.items) (Err (rerun.Reply number))
-    → Answers {T = Rerun} (GoesUnread at path) (λ run. run) (IsRunOfJournal (at.bytes path) rows) (Err (Verify (Reply number)))
-of_reply at path rows read began number fits is_opening gives differs = λ other. inr (inr (
+    → Answers {T = Rerun} (GoesUnread at path) (λ run. run) (IsRunOver (at.bytes path) began) (Err (Verify (Reply number)))
+of_reply at path read began number gives differs = λ other. inr (
   number,
   refl,
   record {
-    fits = fits;
-    began = began;
-    is_opening = is_opening;
     entries = differs.0;
     has_lines = lines_come (at.bytes path) read (Ok differs.0) gives differs.1;
     differs = differs.2;
   },
-))
+)
+
+-- what comes of them over the opening register of rows
+pub over_rows : (at : AtPaths) (path : List ℕ) (rows : FileRows) (began : Register) (result : Result Rerun Fault) → rows_fault rows ≡ Ok tt → IsOpeningOf rows began
+    → Answers (GoesUnread at path) (λ run. run) (IsRunOver (at.bytes path) began) result
+    → Answers (GoesUnread at path) (λ run. run) (IsRunOfJournal (at.bytes path) rows) result
+over_rows at path rows began (Ok run) fits is_opening answers = inr (fits, began, is_opening, answers)
+over_rows at path rows began (Err fault) fits is_opening answers = λ other. inr (fits, began, is_opening, answers other)
 
 -- what a yes says
-pub yes_is_of_journal : (file : Option (List ℕ)) (rows : FileRows) (run : Rerun) (R : Register) (text : List ℕ) → RunsAgain file rows run
-    → IsVerified run R (Ok text) → (bytes : List ℕ) × IfSome file (λ known. bytes ≡ known) × (count : ℕ) × (text ≡ verified_text count) × IsOfJournal bytes rows R count
-yes_is_of_journal file rows run R text again verified = (
+pub yes_is_of_journal : (file : Option (List ℕ)) (began : Register) (run : Rerun) (R : Register) (text : List ℕ) → RunsOver file began run
+    → IsVerified run R (Ok text) → (bytes : List ℕ) × IfSome file (λ known. bytes ≡ known) × (count : ℕ) × (text ≡ verified_text count) × IsSaidFrom bytes began R count
+yes_is_of_journal file began run R text again verified = (
   again.bytes,
   again.is_file,
   run.count,
   verified.1,
   record {
-    began = again.began;
-    is_opening = again.is_opening;
     entries = again.entries;
     lines = again.read;
     tables = verified.0 ∙ ap tables_of again.runs.register;

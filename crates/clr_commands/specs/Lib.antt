@@ -22,3 +22,4 @@ pub mod Serve
 pub mod Stored
 pub mod Verify
 pub mod WayBack
+pub mod Update

@@ -1,15 +1,21 @@
 -- WHAT `verify` ANSWERS: the tables of a database, compared with those that a journal's commands
 -- leave over the opening register of the files.
 use Rattle.std.specs.Prelude.{◌≡◌, ◌⊎◌, ℕ, List, ◌++◌, Option, Some, Result, Ok, Err, IfSome}
-use Rattle.std.specs.Prelude.{OnErr, String, codes, decimal, length, map}
+use Rattle.std.specs.Prelude.{IsErrAnd, OnErr, String, codes, decimal, length, map}
 use Rattle.std.specs.declared.alloc.Global.{Global}
 use Rattle.sqlite.specs.Files.{over_files}
+use Rattle.sqlite.specs.Held.{Held}
 use Rattle.sqlite_disk.specs.declared.Disk as disk
+use Rattle.sqlite_trees.specs.declared.store.Store.{Ghosts}
 use Rattle.clr_rules.specs.Register.{Register}
 use Rattle.clr_rules.specs.Run.{after_all, replies}
 use Rattle.clr_tables.specs.Tables.{tables_of}
+use Rattle.clr_desk.specs.declared.commit.Unkept.{Unkept}
+use Rattle.clr_desk.specs.declared.desk.Desk.{Desk}
 use Rattle.clr_args.specs.declared.asked.VerifyArgs.{VerifyArgs}
+use Rattle.clr_args.specs.declared.asked.VerifyFromArgs.{VerifyFromArgs}
 use Rattle.clr_edge.specs.Answers.{After}
+use Rattle.clr_edge.specs.Keeping.{IsNotRead, IsReadFrom}
 use Rattle.clr_edge.specs.Visit.{Done, Over}
 use Rattle.clr_edge.specs.declared.fault.Fault.{Fault}
 use Rattle.clr_edge.specs.declared.fault.Fault.TheVariants.{Journal, Memory, Verify}
@@ -37,11 +43,8 @@ use Rattle.clr_commands.specs.Stored.{AnswersOf, WhileOpen}
 abbrev pub HasLines : Option (List ℕ) → List Entry → Type 0
 HasLines file entries = IfSome file (λ bytes. lines_of bytes ≡ Ok entries)
 
--- THE JOURNAL WAS RUN AGAIN over the opening register of these rows
-pub record RunsAgain (file : Option (List ℕ)) (rows : FileRows) (run : Rerun) : Type 0 where
-  pub fits : rows_fault rows ≡ Ok tt
-  pub began : Register
-  pub is_opening : IsOpeningOf rows began
+-- THE JOURNAL WAS RUN AGAIN over this register
+pub record RunsOver (file : Option (List ℕ)) (began : Register) (run : Rerun) : Type 0 where
   pub entries : List Entry
   pub bytes : List ℕ
   pub is_file : IfSome file (λ known. bytes ≡ known)
@@ -50,21 +53,22 @@ pub record RunsAgain (file : Option (List ℕ)) (rows : FileRows) (run : Rerun) 
   pub runs : IsRerun began entries run
 
 -- the command of this number has another reply in that run than in its line
-pub record RepliesElse (file : Option (List ℕ)) (rows : FileRows) (number : ℕ) : Type 0 where
-  pub fits : rows_fault rows ≡ Ok tt
-  pub began : Register
-  pub is_opening : IsOpeningOf rows began
+pub record RepliesElse (file : Option (List ℕ)) (began : Register) (number : ℕ) : Type 0 where
   pub entries : List Entry
   pub has_lines : HasLines file entries
   pub differs : FailsToRerun began entries (rerun.Reply number)
 
--- the run, or why there is none: the rows are no network and no staff, a line of the journal is bad,
--- or a command has another reply
+-- the run, or why there is none: a line of the journal is bad, or a command has another reply
+abbrev pub IsRunOver : Option (List ℕ) → Register → Result Rerun Fault → Type 0
+IsRunOver file began (Ok run) = RunsOver file began run
+IsRunOver file began (Err fault) = IfSome file (λ bytes. lines_of bytes ≡ Err fault)
+    ⊎ ((number : ℕ) × (fault ≡ Verify (Reply number)) × RepliesElse file began number)
+
+-- the same over the opening register of these rows, if they are a network and a staff
 abbrev pub IsRunOfJournal : Option (List ℕ) → FileRows → Result Rerun Fault → Type 0
-IsRunOfJournal file rows (Ok run) = RunsAgain file rows run
-IsRunOfJournal file rows (Err fault) = (rows_fault rows ≡ Err fault)
-    ⊎ ((rows_fault rows ≡ Ok tt) × IfSome file (λ bytes. lines_of bytes ≡ Err fault))
-    ⊎ ((number : ℕ) × (fault ≡ Verify (Reply number)) × RepliesElse file rows number)
+IsRunOfJournal file rows result = IsErrAnd result (λ fault. rows_fault rows ≡ Err fault)
+    ⊎ ((rows_fault rows ≡ Ok tt) × (began : Register) × IsOpeningOf rows began
+    × IsRunOver file began result)
 
 -- why the file at a path gives no lines, whatever its bytes are: memory ran out, or it could not be
 -- opened or read
@@ -110,14 +114,40 @@ pub record VerifiesAt {M : Type 0} (at : AtPaths) (args : VerifyArgs)
   pub visit : After run (λ rerun answer. Visits rerun answer old new) result
   pub unvisited : OnErr run (new ≡ old)
 
+-- ---- from a copy
+
+-- A REGISTER WAS READ FROM A COPY, which was not changed; or it was not, and why
+abbrev pub IsCopied : {S : Type 0} → Ghosts S → Result (Desk Unkept) Fault → Held S → Held S
+    → Type 0
+IsCopied g (Ok desk) before after = IsReadFrom g before after desk.book.register
+IsCopied g (Err fault) before after = IsNotRead g before fault after
+
+-- while the copy is open
+abbrev pub Copies : {M D : Type 0} {g : disk.Ghosts D} → Result (Desk Unkept) Fault → M → Over g
+    → Over g → Done → M → Type 0
+Copies = WhileOpen (IsCopied over_files)
+
+-- WHAT `verify --from` DOES: the register of the copy is read, the journal is run again over it, and
+-- only then the database is opened
+pub record VerifiesFromAt {M : Type 0} (at : AtPaths) (args : VerifyFromArgs)
+    (CopyIs : Result (Desk Unkept) Fault → M → M → Type 0)
+    (Visits : Rerun → Result (String Global) Fault → M → M → Type 0)
+    (result : Result (String Global) Fault) (old new : M) : Type 0 where
+  pub copy : Result (Desk Unkept) Fault
+  pub middle : M
+  pub copied : CopyIs copy old middle
+  pub run : Result Rerun Fault
+  pub runs : After copy (λ desk run. Answers (GoesUnread at args.journal.now) (λ run. run)
+      (IsRunOver (at.bytes args.journal.now) desk.book.register) run) run
+  pub visit : After run (λ rerun answer. Visits rerun answer middle new) result
+  pub unvisited : OnErr run (new ≡ middle)
+
 -- ---- what its yes says
 
--- A REGISTER IS WHAT A JOURNAL SAYS: its tables are those that the commands of the journal leave over
--- the opening register of these rows, those that were accepted and not withdrawn; and each has the
--- reply there that it has in its line
-pub record IsOfJournal (bytes : List ℕ) (rows : FileRows) (R : Register) (n : ℕ) : Type 0 where
-  pub began : Register
-  pub is_opening : IsOpeningOf rows began
+-- A REGISTER IS WHAT A JOURNAL SAYS of the register that it began with: its tables are those that the
+-- commands of the journal leave, those that were accepted and not withdrawn; and each has the reply
+-- there that it has in its line
+pub record IsSaidFrom (bytes : List ℕ) (began R : Register) (n : ℕ) : Type 0 where
   pub entries : List Entry
   pub lines : read_journal bytes ≡ Ok entries
   pub tables : tables_of R ≡ tables_of (after_all began (commands_of entries))
@@ -127,7 +157,7 @@ pub record IsOfJournal (bytes : List ℕ) (rows : FileRows) (R : Register) (n : 
 
 -- A YES SAYS SO, and of how many commands
 abbrev pub YesIsOfJournal : Type 0
-YesIsOfJournal = (file : Option (List ℕ)) (rows : FileRows) (run : Rerun) (R : Register)
-    (text : List ℕ) → RunsAgain file rows run → IsVerified run R (Ok text)
+YesIsOfJournal = (file : Option (List ℕ)) (began : Register) (run : Rerun) (R : Register)
+    (text : List ℕ) → RunsOver file began run → IsVerified run R (Ok text)
     → (bytes : List ℕ) × IfSome file (λ known. bytes ≡ known)
-    × (count : ℕ) × (text ≡ verified_text count) × IsOfJournal bytes rows R count
+    × (count : ℕ) × (text ≡ verified_text count) × IsSaidFrom bytes began R count

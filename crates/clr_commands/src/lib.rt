@@ -17,5 +17,6 @@ pub mod replies;
 pub mod run;
 pub mod serve;
 pub mod serve_line;
+pub mod update;
 pub mod verify;
 pub mod wayback;

@@ -1,17 +1,19 @@
 //! The subcommand `verify`: whether a database is what the run of its journal leaves.
-ghost use Rattle.std.specs.Prelude.{IfErr};
-ghost use Rattle.clr_commands.specs.Answers.{IsMemory, Prints};
+ghost use Rattle.std.specs.Prelude.{IfErr, IfOk};
+ghost use Rattle.clr_rules.specs.Good.{IsGood};
+ghost use Rattle.clr_commands.specs.Answers.{Answers, IsMemory, Prints};
 ghost use Rattle.clr_commands.specs.Faults.{IsOfSubcommand};
 ghost use Rattle.clr_commands.specs.Paths.{at_paths};
-ghost use Rattle.clr_commands.specs.Verify.{IsOfVerify, IsVerified, RunsJournalAt, Verifies};
-ghost use Rattle.clr_commands.specs.Verify.{VerifiesAt};
+ghost use Rattle.clr_commands.specs.Verify.{Copies, GoesUnread, IsOfVerify, IsRunOver, IsVerified};
+ghost use Rattle.clr_commands.specs.Verify.{RunsJournalAt, Verifies, VerifiesAt, VerifiesFromAt};
+ghost use Rattle.clr_edge.specs.Journals.{IsOfTakingUp};
 ghost use Rattle.clr_edge.specs.Visit.{Comes};
 
 use crate::file::bytes_at;
 use crate::import::rows_at;
 use crate::run::desk_of_rows;
-use clr_args::asked::VerifyArgs;
-use clr_desk::DeskBook;
+use clr_args::asked::{VerifyArgs, VerifyFromArgs};
+use clr_desk::{Desk, DeskBook, Unkept};
 use clr_edge::database::{Databases, close};
 use clr_edge::fault::{Fault, JournalFault, VerifyFault};
 use clr_edge::paths::Opens;
@@ -39,6 +41,39 @@ pub fn verify<'a, R: Databases, O: Opens<'a>>(
 {
     let rerun = run_of_journal(alloc, paths, args)?;
     verify_register(alloc, rt, &rerun, args.database)
+}
+
+/// What `verify DB JOURNAL --from COPY` prints: the same, where the run begins with the register that
+/// the database at a path has. It is opened first, and only read.
+pub fn verify_from<'a, R: Databases, O: Opens<'a>>(
+    alloc: Global,
+    rt: &mut R,
+    paths: &O,
+    args: &VerifyFromArgs<'a>,
+) -> Result<String, Fault>
+    ensures visit { VerifiesFromAt
+        (at_paths O.File.remaining O.File.failure_count (O.bytes_at paths.now)) args.now
+        (Comes R.Medium.Disk R.opens R.shuts R.ends args.now.copy.now Copies)
+        (λ run. Comes R.Medium.Disk R.opens R.shuts R.ends args.now.database.now
+        (Verifies run)) result rt.old rt.new }
+    ensures faults { IfErr result IsOfSubcommand }
+{
+    let desk = copied_desk(alloc, rt, args.copy)?;
+    let rerun = run_over(alloc, paths, desk, args.journal)?;
+    verify_register(alloc, rt, &rerun, args.database)
+}
+
+/// A desk that keeps its changes nowhere, with the register that the database at a path has.
+fn copied_desk<R: Databases>(alloc: Global, rt: &mut R, path: &str) -> Result<Desk<Unkept>, Fault>
+    ensures copied { Comes R.Medium.Disk R.opens R.shuts R.ends path.now Copies result
+        rt.old rt.new }
+    ensures good { IfOk result (λ desk. IsGood desk.book.register) }
+    ensures faults { IfErr result IsOfTakingUp }
+{
+    let desk = open_desk(alloc, rt, path)?;
+    let (book, store) = desk.parted();
+    let _closed = close(rt, store.end());
+    Ok(Desk::of(book, Unkept, 0))
 }
 
 /// The register of the database at a path, compared with that of a run.
@@ -71,7 +106,23 @@ fn run_of_journal<'a, O: Opens<'a>>(
 {
     let rows = rows_at(alloc, paths, &args.files)?;
     let desk = desk_of_rows(alloc, rows)?;
-    let bytes = bytes_at(alloc, paths, args.journal)?;
+    run_over(alloc, paths, desk, args.journal)
+}
+
+/// The journal at a path, run again over a good register.
+fn run_over<'a, O: Opens<'a>>(
+    alloc: Global,
+    paths: &O,
+    desk: Desk<Unkept>,
+    path: &'a str,
+) -> Result<Rerun, Fault>
+    requires { IsGood desk.book.register }
+    ensures runs { Answers (GoesUnread
+        (at_paths O.File.remaining O.File.failure_count (O.bytes_at paths.now)) path.entry.now)
+        (λ run. run) (IsRunOver (O.bytes_at paths.now path.entry.now) desk.book.register) result }
+    ensures faults { IfErr result IsOfSubcommand }
+{
+    let bytes = bytes_at(alloc, paths, path)?;
     match run_again(alloc, desk, &bytes) {
         Ok(rerun) => Ok(rerun),
         Err(RerunFault::BadLine(place)) => Err(Fault::Journal(JournalFault::BadLine(place))),

@@ -28,8 +28,8 @@ use Rattle.clr_commands.specs.Answers.{Answers, Gives, GivesText, Prints}
 use Rattle.clr_commands.specs.Files.{IsUnread, lines_of}
 use Rattle.clr_commands.specs.Import.{FileRows, IsUnreadFile, rows_of}
 use Rattle.clr_commands.specs.Paths.{AtPaths}
-use Rattle.clr_commands.specs.Run.{rows_fault}
-use Rattle.clr_commands.specs.Verify.{GoesUnread, HasLines, IsRunOfJournal, IsVerified, RepliesElse, RunsAgain, RunsJournalAt, Verifies, VerifiesAt, verified_text}
+use Rattle.clr_commands.specs.Run.{IsOpeningOf, rows_fault}
+use Rattle.clr_commands.specs.Verify.{GoesUnread, HasLines, IsRunOfJournal, IsVerified, RepliesElse, RunsJournalAt, RunsOver, Verifies, VerifiesAt, verified_text}
 use Rattle.clr_known.specs.JonesJournal.{jones_entries, jones_journal, jones_verified}
 use Rattle.clr_known.specs.Known.{IsAlwaysClean, IsNotHad, KnowsJones, jones_register, point_file, section_file, staff_file}
 use Rattle.clr_known.proofs.JonesJournal.{commands_known, left_known, lines_known, replies_known}
@@ -67,36 +67,37 @@ IsKnownRun (Ok run) = (run.book.register ≡ jones_register) × (run.count ≡ 5
 IsKnownRun (Err fault) = (IsNotHad fault → ⊥) → ⊥
 
 module _ (file : Option (List ℕ)) (known : file ≡ Some jones_journal) where
-  ran_again : (run : Rerun) → RunsAgain file worked_rows run → IsKnownRun (Ok run)
-  ran_again run again =
-      let began = opening_given again.began again.is_opening in
+  ran_again : (first : Register) → IsOpeningOf worked_rows first → (run : Rerun) → RunsOver file first run → IsKnownRun (Ok run)
+  ran_again first is_opening run again =
+      let began = opening_given first is_opening in
       let lines = same_lines file again.entries known again.has_lines in (
         again.runs.register ∙ (λ i. after_all (began i) (commands_of (lines i))) ∙ left_known,
         again.runs.count ∙ ap (λ (entries : List Entry). length (commands_of entries)) lines ∙ ap (λ (commands : List Command). length commands) commands_known,
       )
 
-  replied_so : (number : ℕ) → RepliesElse file worked_rows number → ⊥
-  replied_so number it =
-      let began = opening_given it.began it.is_opening in
+  replied_so : (first : Register) → IsOpeningOf worked_rows first → (number : ℕ) → RepliesElse file first number → ⊥
+  replied_so first is_opening number it =
+      let began = opening_given first is_opening in
       let lines = same_lines file it.entries known it.has_lines in
-      let same : map (λ line. line.1) (map due_answered (answered_in it.entries)) ≡ map reply_data (replies it.began (commands_of it.entries)) =
-      subst (λ (entries : List Entry). map (λ line. line.1) (map due_answered (answered_in entries)) ≡ map reply_data (replies it.began (commands_of entries))) (sym lines)
+      let same : map (λ line. line.1) (map due_answered (answered_in it.entries)) ≡ map reply_data (replies first (commands_of it.entries)) =
+      subst (λ (entries : List Entry). map (λ line. line.1) (map due_answered (answered_in entries)) ≡ map reply_data (replies first (commands_of entries))) (sym lines)
       (subst (λ (R : Register). map (λ line. line.1) (map due_answered (answered_in jones_entries)) ≡ map reply_data (replies R (commands_of jones_entries))) (sym began) replies_known) in
       never_differs _ _ number same it.differs
 
   never_fails : (fault : Fault) → IsRunOfJournal file worked_rows (Err fault) → ⊥
   never_fails fault (inl unfit) = cc (sym rows_fit ∙ unfit)
-  never_fails fault (inr (inl (fits, bad))) =
+  never_fails fault (inr (fits, first, is_opening, inl bad)) =
       let read : lines_of jones_journal ≡ Err fault = subst (λ (o : Option (List ℕ)). IfSome o (λ bytes. lines_of bytes ≡ Err fault)) known bad in
       cc (sym lines_known ∙ read)
-  never_fails fault (inr (inr (number, is, it))) = replied_so number it
+  never_fails fault (inr (fits, first, is_opening, inr (number, is, it))) = replied_so first is_opening number it
 
   gone : (at : AtPaths) (path : List ℕ) (fault : Fault) → GoesUnread at path fault → IsUnread fault
   gone at path fault (inl memory) = inl memory
   gone at path fault (inr (unread, fails)) = inr unread
 
   ran_of : (at : AtPaths) (path : List ℕ) (run : Result Rerun Fault) → Answers (GoesUnread at path) (λ run. run) (IsRunOfJournal file worked_rows) run → IsKnownRun run
-  ran_of at path (Ok run) again = ran_again run again
+  ran_of at path (Ok run) (inl none) = absurd none
+  ran_of at path (Ok run) (inr (fits, first, is_opening, again)) = ran_again first is_opening run again
   ran_of at path (Err fault) why = λ other. never_fails fault (why (λ unread. other (inr (inl (gone at path fault unread)))))
 
   read_first : (at : AtPaths) (path : List ℕ) (read : Result FileRows Fault) (run : Result Rerun Fault) → Gives IsUnreadFile (λ rows. rows) (rows_of worked_files) read

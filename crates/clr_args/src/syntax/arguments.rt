@@ -3,7 +3,7 @@ ghost use Rattle.std.specs.Prelude.{◌≡◌, codes, false};
 ghost use Rattle.clap.specs.Words.{rule_of};
 ghost use Rattle.clr_args.specs.Syntax.{at_most_rule, before_rule, flag_rule, number_rule};
 ghost use Rattle.clr_args.specs.Syntax.{offset_rule, option_rule, optional_rule, repeated_rule};
-ghost use Rattle.clr_args.specs.Syntax.{required_rule};
+ghost use Rattle.clr_args.specs.Syntax.{repeated_option_rule, required_rule};
 
 use clap::builder::ValueParser;
 use clap::{Arg, ArgAction};
@@ -39,6 +39,14 @@ pub fn option<'a>(alloc: Global, id: &'a str, value: &'a str, help: &'a str) -> 
     ensures local { result.global ≡ false }
 {
     Arg::new(alloc, id).long(id).value_name(value).help(help)
+}
+
+/// An option with a value, which may be given any number of times.
+pub fn repeated_option<'a>(alloc: Global, id: &'a str, value: &'a str, help: &'a str) -> Arg<'a>
+    ensures rule { rule_of result ≡ repeated_option_rule id.entry.now }
+    ensures local { result.global ≡ false }
+{
+    option(alloc, id, value, help).action(ArgAction::Append)
 }
 
 /// A word that may be given once, as `--desk`, and has no value.

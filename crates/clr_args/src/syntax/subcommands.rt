@@ -2,10 +2,12 @@
 ghost use Rattle.std.specs.Prelude.{◌≡◌, IfOk};
 ghost use Rattle.clap.specs.Words.{app_of};
 ghost use Rattle.clr_args.specs.Syntax.{archive, board, check, fence, init, journal, migrate};
-ghost use Rattle.clr_args.specs.Syntax.{order, plain_serve, run, serve, verify, wayback};
+ghost use Rattle.clr_args.specs.Syntax.{order, plain_serve, plain_update, run, serve, update};
+ghost use Rattle.clr_args.specs.Syntax.{verify, wayback};
 
 use super::arguments::{
-    at_most, flag, moment_before, number, offset, option, optional, repeated, required,
+    at_most, flag, moment_before, number, offset, option, optional, repeated, repeated_option,
+    required,
 };
 use clap::Command;
 use std::alloc::{AllocError, Global};
@@ -175,17 +177,60 @@ pub fn journal<'a>(alloc: Global) -> Result<Command<'a>, AllocError>
     Ok(command)
 }
 
-/// `verify DB JOURNAL SECTIONS POINTS STAFF`
+/// `verify DB JOURNAL [--from COPY] [FILES]...`
 pub fn verify<'a>(alloc: Global) -> Result<Command<'a>, AllocError>
     ensures { IfOk result (λ c. app_of c ≡ verify) }
 {
     let command = Command::new(alloc, "verify")
-        .about("Compares a register with a run of its journal over the files that it began with")
+        .about("Compares a register with a run of its journal over what it began with")
         .arg(required(alloc, "DB", "The database of the register"))?
         .arg(required(alloc, "JOURNAL", "The journal of the register"))?
+        .arg(option(
+            alloc,
+            "from",
+            "COPY",
+            "A copy of the database from when the journal began, in place of FILES",
+        ))?
+        .arg(repeated(
+            alloc,
+            "FILES",
+            "The files of sections, points and staff that the register began with",
+        ))?;
+    Ok(command)
+}
+
+/// `update DB SECTIONS POINTS STAFF`
+fn plain_update<'a>(alloc: Global) -> Result<Command<'a>, AllocError>
+    ensures { IfOk result (λ c. app_of c ≡ plain_update) }
+{
+    let command = Command::new(alloc, "update")
+        .about(
+            "Makes network and staff of a register those of three files, and prints what changes",
+        )
+        .arg(required(alloc, "DB", "The database of the register"))?
         .arg(required(alloc, "SECTIONS", "The file of sections"))?
         .arg(required(alloc, "POINTS", "The file of switching points"))?
         .arg(required(alloc, "STAFF", "The file of the staff"))?;
+    Ok(command)
+}
+
+/// `update DB SECTIONS POINTS STAFF [--dry-run] [--without JUMPER]...`
+pub fn update<'a>(alloc: Global) -> Result<Command<'a>, AllocError>
+    ensures { IfOk result (λ c. app_of c ≡ update) }
+{
+    let plain = plain_update(alloc)?;
+    let command = plain
+        .arg(flag(
+            alloc,
+            "dry-run",
+            "Prints what would change, and writes nothing",
+        ))?
+        .arg(repeated_option(
+            alloc,
+            "without",
+            "JUMPER",
+            "A jumper that is taken out; may be given again",
+        ))?;
     Ok(command)
 }
 

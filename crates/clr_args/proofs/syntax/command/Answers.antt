@@ -1,7 +1,7 @@
 use Rattle.std.proofs.Common.{◌≡◌, ◌∙◌, ap, ap₂}
 use Rattle.clap.specs.Words.{App, Shape, shape_of, with_subcommand}
 use Rattle.clap.proofs.SimpleLemmas.{plain_fields}
-use Rattle.clr_args.specs.Syntax.{archive, board, check, fence, init, journal, migrate, order, run, serve, verify, wayback}
+use Rattle.clr_args.specs.Syntax.{archive, board, check, fence, init, journal, migrate, order, run, serve, update, verify, wayback}
 use Rattle.clr_args.proofs.syntax.command.Goals as goal
 
 -- each subcommand is a plain one, so it has no global argument
@@ -27,6 +27,8 @@ returns c =
     let journal_plain = plain_fields c.in_ok-journal.journal (ap (λ (s : Shape). s.is_plain) journal_is) in
     let verify_is : shape_of c.in_ok-verify.verify ≡ verify.top = ap (λ (a : App). a.top) c.in_ok-verify.ensures in
     let verify_plain = plain_fields c.in_ok-verify.verify (ap (λ (s : Shape). s.is_plain) verify_is) in
+    let update_is : shape_of c.in_ok-update.update ≡ update.top = ap (λ (a : App). a.top) c.in_ok-update.ensures in
+    let update_plain = plain_fields c.in_ok-update.update (ap (λ (s : Shape). s.is_plain) update_is) in
     let archive_is : shape_of c.in_ok-archive.archive ≡ archive.top = ap (λ (a : App). a.top) c.in_ok-archive.ensures in
     let archive_plain = plain_fields c.in_ok-archive.archive (ap (λ (s : Shape). s.is_plain) archive_is) in
     let migrate_is : shape_of c.in_ok-migrate.migrate ≡ migrate.top = ap (λ (a : App). a.top) c.in_ok-migrate.ensures in
@@ -41,5 +43,6 @@ returns c =
     let with_serve = c.in_ok-with_serve.ensures.shape serve_plain.globals ∙ ap₂ with_subcommand with_wayback serve_is in
     let with_journal = c.in_ok-with_journal.ensures.shape journal_plain.globals ∙ ap₂ with_subcommand with_serve journal_is in
     let with_verify = c.in_ok-with_verify.ensures.shape verify_plain.globals ∙ ap₂ with_subcommand with_journal verify_is in
-    let with_archive = c.in_ok-with_archive.ensures.shape archive_plain.globals ∙ ap₂ with_subcommand with_verify archive_is in
+    let with_update = c.in_ok-with_update.ensures.shape update_plain.globals ∙ ap₂ with_subcommand with_verify update_is in
+    let with_archive = c.in_ok-with_archive.ensures.shape archive_plain.globals ∙ ap₂ with_subcommand with_update archive_is in
     c.in_ok-command.ensures.shape migrate_plain.globals ∙ ap₂ with_subcommand with_archive migrate_is

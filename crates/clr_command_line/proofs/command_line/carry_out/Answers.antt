@@ -31,6 +31,12 @@ returns-in-Serve g c =
 pub returns-in-Verify : goal.returns-in-Verify
 returns-in-Verify g c = rw c.in-Verify.is (c.verify.result, c.verify.ensures.visit, c.verify.ensures.faults, refl, c.report-in-Verify.ensures)
 
+pub returns-in-VerifyFrom : goal.returns-in-VerifyFrom
+returns-in-VerifyFrom g c = rw c.in-VerifyFrom.is (c.verify_from.result, c.verify_from.ensures.visit, c.verify_from.ensures.faults, refl, c.report-in-VerifyFrom.ensures)
+
+pub returns-in-Update : goal.returns-in-Update
+returns-in-Update g c = rw c.in-Update.is (c.update.result, c.update.ensures.visit, c.update.ensures.faults, refl, c.report-in-Update.ensures)
+
 pub returns-in-Migrate : goal.returns-in-Migrate
 returns-in-Migrate g c = rw c.in-Migrate.is (c.migrate.result, c.migrate.ensures.visit, c.migrate.ensures.faults, refl, c.report-in-Migrate.ensures)
 

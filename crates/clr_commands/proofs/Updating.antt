@@ -1,0 +1,167 @@
+-- An update over a register that was read from a database: what is asked for, and what comes of it.
+use Rattle.std.proofs.Common.{◌≡◌, ◌≢◌, ◌⊎◌, ◌∙◌, ap, inl, inr, refl, subst, sym, ℕ, Bool, List, [], ◌∷◌, ◌++◌, Result, Ok, Err, OnOk, OnErr, IsTrue, append_assoc}
+use Rattle.std.specs.Prelude.{IfErr, IfOk, IsErrAnd, None}
+use Rattle.std.proofs.lemmas.List.{append-nil}
+use Rattle.sqlite.specs.Files.{over_files}
+use Rattle.sqlite.specs.Held.{Held, state}
+use Rattle.sqlite.specs.State.{HasCleanDisk, Survives}
+use Rattle.sqlite_disk.specs.declared.Disk as disk
+use Rattle.sqlite_trees.specs.declared.store.Store.{Ghosts}
+use Rattle.clr_net.specs.NameText.{read_name}
+use Rattle.clr_result.specs.Results.{◌>>=◌}
+use Rattle.clr_rules.specs.Fit.{IsFit}
+use Rattle.clr_rules.specs.Good.{IsGood}
+use Rattle.clr_rules.specs.Register.{Register}
+use Rattle.clr_rules.specs.Staffed.{IsStaffed}
+use Rattle.clr_update.specs.Laws.{UpdatesKeepGood}
+use Rattle.clr_update.specs.Update.{IsRead, Update, after_update, in_the_way, unless_obstacle, updated}
+use Rattle.clr_changes.specs.Told.{IsTold}
+use Rattle.clr_changes.specs.declared.told.Told.{Told}
+use Rattle.clr_changes.specs.declared.told.Told.TheVariants.{Changes, InTheWay}
+use Rattle.clr_tables.specs.Tables.{tables_of}
+use Rattle.clr_load.specs.Stored.{HasTables}
+use Rattle.clr_load.specs.declared.fault.StoreFault.TheVariants as store
+use Rattle.clr_desk.specs.Faults.{IsOfCommand}
+use Rattle.clr_desk.specs.Updating.{AreUpdated, SavesIfAccepted}
+use Rattle.clr_desk.specs.declared.desk.Desk.{Desk}
+use Rattle.clr_desk.specs.declared.desk_fault.DeskFault.{DeskFault}
+use Rattle.clr_desk.specs.declared.desk_fault.DeskFault.TheVariants as desk
+use Rattle.clr_edge.specs.Database.{IsOfLine}
+use Rattle.clr_edge.specs.Fault.{of_desk}
+use Rattle.clr_edge.specs.Keeping.{IsNotUp, IsUp, plain}
+use Rattle.clr_edge.specs.Visit.{Done, Ending, Ends, Opening, Over, Shutting}
+use Rattle.clr_edge.specs.declared.fault.Fault.{Fault}
+use Rattle.clr_edge.specs.declared.fault.Fault.TheVariants.{Memory}
+use Rattle.clr_commands.specs.Faults.{IsOfSubcommand}
+use Rattle.clr_commands.specs.Fence.{argument}
+use Rattle.clr_commands.specs.Import.{FileRows}
+use Rattle.clr_commands.specs.Update.{IsDone, IsUpdated, RefusesUpdate, TellsUpdate, Texts, UpdatesAt, names_said, text_or, text_told, update_fault}
+use Rattle.clr_commands.proofs.Faults.{line_plain, obstacle_plain}
+use Rattle.clr_commands.proofs.PointsNamed.{names_after}
+
+-- ---- the names that words say, one by one from the left
+pub names_said-more : (word : List ℕ) (words names : List (List ℕ)) (name : List ℕ) → argument (read_name word) ≡ Ok name
+    → names_after names (names_said (word ∷ words)) ≡ names_after (names ++ name ∷ []) (names_said words)
+unfolding names_said
+names_said-more word words names name e = rw e (by (names_said words))
+  where
+    by : (rest : Result (List (List ℕ)) Fault) → names_after names (rest >>= (λ more. Ok (name ∷ more))) ≡ names_after (names ++ name ∷ []) rest
+    by (Ok more) = rw append_assoc
+    by (Err fault) = refl
+
+pub names_said-fault : (word : List ℕ) (words names : List (List ℕ)) (fault : Fault) → argument (read_name word) ≡ Err fault
+    → names_after names (names_said (word ∷ words)) ≡ Err fault
+unfolding names_said
+names_said-fault word words names fault e = rw e
+
+pub names_said-nil : (names : List (List ℕ)) → names_after names (names_said []) ≡ Ok names
+unfolding names_said
+names_said-nil names = rw append-nil
+
+-- rows and words that say no update
+pub refused-fault : {T U : Type 0} (rows : FileRows) (words : List (List ℕ)) (result : Result T Fault) (told : Result U Fault) (fault : Fault) → IsErrAnd result (λ cause. cause ≡ fault)
+    → told ≡ Err fault → RefusesUpdate rows words told → RefusesUpdate rows words result
+refused-fault rows words (Ok value) told fault is same refuses = absurd is
+refused-fault {U = U} rows words (Err cause) told fault is same refuses =
+    subst (λ (f : Fault). f ≢ Memory → update_fault rows words ≡ Err f) (sym is) (subst (λ (it : Result U Fault). RefusesUpdate rows words it) same refuses)
+
+-- ---- what comes of it
+of_command : (cause : DeskFault) → IsOfCommand cause → IsOfLine (of_desk cause)
+of_command desk.NoMemory of = inl refl
+of_command desk.Journal of = absurd of
+of_command (desk.Store store.Sql) of = inr refl
+of_command (desk.Store (store.WrongVersion n)) of = absurd of
+of_command (desk.Store (store.BadRow table)) of = absurd of
+of_command (desk.Store store.OtherTables) of = absurd of
+of_command (desk.Store store.NoMemory) of = absurd of
+
+pub told_tells : (R : Register) (u : Update) (told : Result Told DeskFault) → IfOk told (IsTold R u) → IfErr told IsOfCommand → TellsUpdate R u (text_told told)
+told_tells R u (Ok (Changes lines)) is of = is
+told_tells R u (Ok (InTheWay cause)) is of = inl (cause, refl, is)
+told_tells R u (Err cause) is of = inr (of_command cause of)
+
+after_is : (R : Register) (u : Update) → in_the_way R u ≡ None → after_update R u ≡ updated R u
+after_is R u none = ap (λ o. unless_obstacle o R (updated R u)) none
+
+module _ {S : Type 0} (g : Ghosts S) (R : Register) (u : Update) (read after : Held S) where
+  pub updated_by : (told : Result Told DeskFault) → IsFit R → IsRead u → UpdatesKeepGood → IfOk told (IsTold R u)
+      → (HasCleanDisk (state g after) → HasTables (state g read).now (tables_of R) → OnOk told (HasTables (state g after).now (tables_of (after_update R u))))
+      → IfOk told (λ it. SavesIfAccepted g it read after)
+      → (HasCleanDisk (state g after) → IsTrue (state g after).is_open → OnErr told ((state g after).now ≡ (state g read).now))
+      → Survives (state g read) (state g after) (AreUpdated (state g read).now R u)
+      → IsUpdated g R u (text_told told) read after
+  updated_by (Ok (Changes lines)) fit is_read law is tables saved none crash = record {
+    tables = λ clean has. subst (λ (Q : Register). HasTables (state g after).now (tables_of Q)) (after_is R u is.0) (tables clean has);
+    saved = saved;
+    fit = (subst (λ (Q : Register). IsGood Q) (after_is R u is.0) (law.good R u fit.0 is_read), subst (λ (Q : Register). IsStaffed Q) (after_is R u is.0) (law.staffed R u fit.0 fit.1 is_read));
+    none = λ _ _. tt;
+    crash = crash;
+  }
+  updated_by (Ok (InTheWay cause)) fit is_read law is tables saved none crash = record {
+    tables = λ _ _. tt;
+    saved = λ _. tt;
+    fit = tt;
+    none = λ _ _. ap (λ (h : Held S). (state g h).now) saved;
+    crash = crash;
+  }
+  updated_by (Err cause) fit is_read law is tables saved none crash = record {
+    tables = λ _ _. tt;
+    saved = λ _. tt;
+    fit = tt;
+    none = none;
+    crash = crash;
+  }
+
+-- ---- over a database
+pub answer_plain : (R : Register) (u : Update) (told : Texts) (closed : Done) (result : Texts) → TellsUpdate R u told → IfErr closed IsOfLine → result ≡ text_or told closed
+    → IfErr result IsOfSubcommand
+answer_plain R u told closed result tells line is = subst (λ (it : Texts). IfErr it IsOfSubcommand) (sym is) (by told closed tells line)
+  where
+    by : (told : Texts) (closed : Done) → TellsUpdate R u told → IfErr closed IsOfLine → IfErr (text_or told closed) IsOfSubcommand
+    by (Ok text) (Ok value) tells line = tt
+    by (Ok text) (Err fault) tells line = line_plain fault line
+    by (Err fault) closed (inl (cause, is, way)) line = obstacle_plain fault cause is
+    by (Err fault) closed (inr of) line = line_plain fault of
+
+module _ {M D : Type 0} (g : disk.Ghosts D) (opens : Opening M D) (shuts : Shutting M) (ends : Ending M D) (path : List ℕ) (dry_run : Bool) (u : Update) where
+  -- the register of the database at the path was updated, or something was in the way
+  pub updated_at : (told result : Texts) (closed : Done) (old between new : M) (desk : Desk (Over g)) (store after : Over g)
+      → IsUp g opens path (plain over_files) old between desk → TellsUpdate desk.book.register u told
+      → IsDone over_files dry_run desk.book.register u told desk.store store → after ≡ store → Ends ends after closed between new → IfErr closed IsOfLine
+      → result ≡ text_or told closed → UpdatesAt g opens shuts ends path dry_run u result old new
+  updated_at told result closed old between new desk store after up tells done same ended line is = inr (record {
+    before = up.before;
+    after = store;
+    closed = closed;
+    middle = up.middle;
+    later = between;
+    opened = up.opened;
+    mode = up.mode;
+    does = (
+      up.taken_up.0,
+      record {
+        told = told;
+        did = inr (record { register = desk.book.register; read = desk.store; is_read = up.taken_up.1; tells = tells; is_done = done });
+        closing = line;
+        result_is = is;
+      },
+    );
+    ended = subst (λ (h : Over g). Ends ends h closed between new) same ended;
+  })
+
+  -- or it was not read
+  pub not_updated_at : (result : Texts) (old new : M) (fault : Fault) → IsErrAnd result (λ cause. cause ≡ fault)
+      → IsNotUp g opens shuts ends path (plain over_files) old new fault → UpdatesAt g opens shuts ends path dry_run u result old new
+  not_updated_at (Ok value) old new fault is not = absurd is
+  not_updated_at (Err cause) old new fault is (inl (line, shut)) = inl (fault, ap Err is, line, shut)
+  not_updated_at (Err cause) old new fault is (inr visit) = inr (record {
+    before = visit.before;
+    after = visit.after;
+    closed = visit.closed;
+    middle = visit.middle;
+    later = visit.later;
+    opened = visit.opened;
+    mode = visit.mode;
+    does = (visit.does.0.0, record { told = Err fault; did = inl visit.does.0.1; closing = visit.does.1; result_is = ap Err is });
+    ended = visit.ended;
+  })
