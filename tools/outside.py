@@ -130,6 +130,17 @@ def to_archive(bench, shift):
     return ["archive", "room.db", "--before", "4102444799"], folder
 
 
+def to_update(bench, shift):
+    """The words of an update that lets an employee and a section come, and a folder with the register in a shift."""
+    folder = bench.new(shift.opening)
+    bench.run(folder, ["run", "--db", "room.db"], shift.lines[:10])
+    files = [os.path.join(bench.folder, f"coming-{name}.csv") for name in ("sections", "points", "staff")]
+    for path, old, row in zip(files, FILES, ("L9,no\n", "", "ADA,charge,\n")):
+        with open(old, encoding="ascii") as file, open(path, "w", encoding="ascii") as new:
+            new.write(file.read() + row)
+    return ["update", "room.db", *files], folder
+
+
 def whole_lines(folder):
     """The lines of the journal in a folder that a line feed ends; none where there is no journal."""
     path = os.path.join(folder, "journal")

@@ -102,4 +102,28 @@ def restores(folder):
     same("verify finds a row that fits and is another", (status, output, errors), (1, "", "fault: verify Differs clearance JONES-1/1\n"))
 
 
-main(flips, restores)
+def from_copies(folder):
+    """A journal that began with a copy of the register, half way through the commands."""
+    path, _, files = made(folder)
+    commands = (folder / "shift.jsonl").read_text(encoding="ascii").splitlines()
+    path, copy, opening, journal = (folder / name for name in ("other.db", "copy.db", "opening.db", "other"))
+    for database in (path, opening):
+        run("init", *files, "--db", database)
+    run("run", "--db", path, lines=commands[:500])
+    copied(path, copy)
+    run("run", "--db", path, "--journal", journal, lines=commands[500:])
+    verify, said = ("verify", path, journal), (0, verified(journal), "")
+    before = rows(copy)
+    same("verify --from a copy", run(*verify, "--from", copy), said)
+    same("the copy has the rows that it had", rows(copy), before)
+    for title, words in (("the files that it did not begin with", files), ("a copy from before", ("--from", opening))):
+        status, output, errors = run(*verify, *words)
+        look(f"verify finds {title}", (status, output) == (1, "") and errors.startswith("fault: verify Reply "), errors)
+    usage = (2, "", "error: verify takes three files, or --from COPY and no files\n")
+    for title, words in (("neither", ()), ("both", (*files, "--from", copy)), ("two files", files[:2])):
+        same(f"verify with {title}", run(*verify, *words), usage)
+    same("verify --from no database", run(*verify, "--from", folder / "none.db"), (1, "", "fault: store Sql\n"))
+    same("a journal that is the copy's", run("verify", path, copy, "--from", copy), (1, "", "fault: journal SameFile\n"))
+
+
+main(flips, restores, from_copies)
