@@ -250,6 +250,48 @@ def restore(root, tally):
     root.run("rm /etc/gridclear/users /etc/gridclear/logins.csv; systemctl restart gridclear gridclear-desk")
 
 
+def update(root, tally):
+    """Network and staff change while a crew is at work."""
+    print("updates", flush=True)
+    network = root.path(f"{ETC}/network")
+    was = {name: (network / f"{name}.csv").read_text() for name in ("sections", "points", "staff")}
+    shift = (TOP / "examples" / "held.jsonl").read_text().splitlines()
+    root.run("systemctl restart gridclear gridclear-desk; while read -r line; do curl -s -d \"$line\" http://127.0.0.1:8080/command; done", "\n".join(shift) + "\n")
+    root.run("gridclear-setup --login DAY KIM DALE; systemctl restart gridclear gridclear-desk", "a word\n")
+    (network / "points.csv").write_text(was["points"].replace("S2,L1,L2,yes", "S2,L1,L2,no"))
+    before = root.run("curl -s http://127.0.0.1:8080/board")[1]
+    status, out = root.run("gridclear-setup --update; s=$?; sleep 1; exit $s")
+    tally.check("a point of a crew's fence stays", status == 1 and "fault: update Point S2 by JONES/1" in out, out)
+    tally.check("and the register is served as before", before and root.run("curl -s http://127.0.0.1:8080/board")[1] == before, before)
+    (network / "sections.csv").write_text(was["sections"] + "L4,no\n")
+    (network / "points.csv").write_text(was["points"].replace("S1,G,L1,yes,no,closed", "S1,G,L1,yes,no,open") + "S5,L1,L4,yes,no,open\n")
+    (network / "staff.csv").write_text(was["staff"].replace("DALE,field,\n", "") + "ADA,charge,\n")
+    begun = time.monotonic()
+    status, out = root.run("gridclear-setup --update")
+    took = time.monotonic() - begun
+    lines = ("section L4 comes", "point S5 comes", "employee DALE goes", "employee ADA comes", "look: DALE is gone")
+    tally.check("what changes is printed", status == 0 and all(line in out for line in lines), out)
+    tally.check("it takes at most three seconds", took < 3, took)
+    ask = '{"at":4102444799,"by":"ADA","do":"request","section":"L4"}'
+    status, out = root.run(f"sleep 1; curl -s -d '{ask}' http://127.0.0.1:8080/command")
+    tally.check("the new employee asks for the new section", '"reply":"accepted"' in out or "NotCaller" in out, out)
+    tally.check("nobody speaks as who is gone", root.run("gridclear-setup --logins")[1] == "DAY: KIM\n", root.run("gridclear-setup --logins"))
+    normal = root.path(f"{DATA}/normal.csv").read_text()
+    tally.check("normal positions stay, and the new point has its own", "S1,G,L1,yes,no,closed\n" in normal and "S5,L1,L4,yes,no,open\n" in normal, normal)
+    status, out = root.run(f"systemctl stop gridclear; cd /{DATA} && runuser -u gridclear -- /usr/lib/gridclear/verify; s=$?; systemctl start gridclear; exit $s")
+    tally.check("verify goes from the copy", status == 0 and "verified " in out, out)
+    status, out = root.run("rm -f /run/gridclear-backup.out; sleep 1; systemctl start gridclear-backup; s=$?; cat /run/gridclear-backup.out; exit $s")
+    tally.check("so does a backup", status == 0 and ": verified " in out and "made from the journal" not in out, out)
+    aside = list(root.path(DATA).glob("before-*"))
+    status, out = root.run(f"cd /{DATA}/{aside[0].name if aside else '.'} && runuser -u gridclear -- /usr/lib/gridclear/verify")
+    tally.check("the register from before is whole, with its journal", len(aside) == 1 and status == 0 and "verified " in out, out)
+    for name, text in was.items():
+        (network / f"{name}.csv").write_text(text)
+    status, out = root.run("gridclear-setup --update")
+    tally.check("and back", status == 1 or "employee DALE comes" in out, out)
+    root.run("rm -f /etc/gridclear/users /etc/gridclear/logins.csv; systemctl restart gridclear gridclear-desk")
+
+
 def port_443(root, tally):
     """Desks on other machines: the package's lines for Debian's own nginx."""
     status, out = root.run(" && ".join([*guide("openssl req")[:-1], "nginx"]))
@@ -333,7 +375,7 @@ def main():
     for name, kind in (("proc", "proc"), ("run", "tmpfs")):
         subprocess.run(["mount", "-t", kind, kind, str(root.path(name))], check=True)
     root.run("mkdir -p /run/systemd/system")
-    for part in (install, refusals, logins, backup, restore, upgrade, migrate):
+    for part in (install, refusals, logins, backup, restore, update, upgrade, migrate):
         part(root, tally)
     asked = root.path("run/asked").read_text()
     tally.check("systemd was asked to read the units again", "--system daemon-reload" in asked, asked)
