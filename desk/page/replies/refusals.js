@@ -1,7 +1,7 @@
 // What each refusal means, and what to do. Written by tools/refusal-table from docs/refusals.csv.
 
 export const REFUSALS = {
-  UNKNOWN_CALLER: ["The caller, by, is not in the staff.", "Use a name of the staff list, which is fixed when the register is made."],
+  UNKNOWN_CALLER: ["The caller, by, is not in the staff.", "Use a name of the staff list; an update of the register changes it."],
   WRONG_ROLE: ["The caller has another role than this command asks for.", "Let somebody of that role give it."],
   UNKNOWN_SECTION: ["The network has no such section.", "Look at the section's name."],
   TOO_MANY_CLEARANCES: ["The caller's greatest number is 9,999.", "Let another employee ask, and transfer it if need be: numbers are never used again."],
