@@ -20,8 +20,8 @@ abbrev pub AreEditedAt : Placing → Database → List Edit → Place → Trees 
 AreEditedAt has_place before edits place trees = (t : Tables) → HasTables before t
     → AreTables trees (tables_edited edits t) × has_place trees (Some place)
 
--- THE EDITS ARE MADE AND COMMITTED, WITH THE PLACE, or none of them and no place; and a crash leaves
--- what it left before, or the tables with all edits and the place
+-- THE EDITS ARE MADE AND COMMITTED, WITH THE PLACE, or none of them and no place; and a crash
+-- leaves what it left before, or the tables with all edits and the place
 pub record CommitsAt {X : Type 0} (has_place : Placing) (old new : State) (edits : List Edit)
     (place : Place) (result : Result X DeskFault) : Type 0 where
   pub commits : Commits old new edits result

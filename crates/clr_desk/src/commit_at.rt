@@ -20,8 +20,8 @@ pub trait CommitAt: Commit {
     /// That trees have this place, or have none.
     ghost has_place: { Trees → Option Place → Type 0 };
 
-    /// Keeps the change of a command that is accepted with a reply, and the place after it: both, or
-    /// neither.
+    /// Keeps the change of a command that is accepted with a reply, and the place after it: both,
+    /// or neither.
     fn commit_at(
         &mut self,
         command: &Command,
@@ -30,10 +30,10 @@ pub trait CommitAt: Commit {
         place: &Place,
     ) -> Result<(), DeskFault>
         requires accepted { is_accepted reply.now ≡ true }
-        ensures commits { CommitsAt has_place (kept self.old) (kept self.new)
+        ensures commits { CommitsAt has_place (Self.kept self.old) (Self.kept self.new)
             change.now.edits.items place.now result }
-        ensures fault { IfErr result (IsOfKeeper fails) }
-        ensures taken { takes self.old command.now reply.now result self.new };
+        ensures fault { IfErr result (IsOfKeeper Self.fails) }
+        ensures taken { Self.takes self.old command.now reply.now result self.new };
 }
 
 /// A store keeps the place in a table of its own, in the transaction of the change.
