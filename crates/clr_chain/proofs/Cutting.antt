@@ -1,13 +1,13 @@
 -- What is left of a journal's lines ends them, so it is known what comes before it.
-use Rattle.std.proofs.Common.{◌≡◌, ◌∙◌, ◌<◌, ℕ, Bool, true, false, cond, List, [], ◌∷◌, ◌++◌, length, Option, None, Some, refl, ap, ap₂, sym, subst, arith, append_assoc, length-append}
-use Rattle.std.proofs.lemmas.List.Splits.{length-slice_split}
+use Rattle.std.proofs.Common.{◌≡◌, ◌∙◌, ℕ, Bool, true, false, cond, List, [], ◌∷◌, ◌++◌, length, Option, None, Some, refl, ap, ap₂, sym, subst, arith, append_assoc, length-append}
 use Rattle.std.specs.List.{list_any}
 use Rattle.std.specs.Option.{option_map_or}
 use Rattle.std.specs.Prelude.{bytes_eq, nat_lt, ◌==◌, ⊤}
 use Rattle.clr_append.proofs.Pieces.{whole_text}
-use Rattle.clr_append.specs.Lines.{ended_lines, ended_text, is_line_feed, last_of, pieces, text_of, unfinished, with_feed}
+use Rattle.clr_append.specs.Lines.{ended_lines, ended_text, text_of, unfinished}
 use Rattle.clr_journal.specs.Journals.{next_place, turn_after, withdraws}
 use Rattle.clr_journal.specs.Line.{Entry, carried, read_line, withdrawn}
+use Rattle.clr_chain.proofs.Parts.{text_of-append, there_is_a_rest}
 use Rattle.clr_chain.specs.Chain.{ReadOn, all_but_first, links_of, onto, read_on}
 use Rattle.clr_chain.specs.Finding.{Found, Sought, ahead, bad_line, differs, end_of, found_after, found_at_first, found_by, found_from, found_in, found_short, first_of, met, or_earlier, other_register, passed, says_accepted, sought, sought_at, sought_below, too_short, unmet}
 use Rattle.clr_chain.specs.First.{end_at}
@@ -16,20 +16,20 @@ use Rattle.clr_chain.specs.Reading.{IsCut, IsFound, IsFoundWith}
 use Rattle.clr_chain.specs.declared.chain_end.ChainEnd.{ChainEnd}
 use Rattle.clr_chain.specs.declared.finding.Found.{Found as SeenFound}
 use Rattle.clr_chain.specs.declared.finding.Found.TheVariants as seen
-use Rattle.clr_chain.specs.declared.place.Place.{Place}
+use Rattle.clr_place.specs.declared.place.Place.{Place}
 
 -- lines end with these
 pub record EndsWith (texts left : List (List ℕ)) : Type 0 where
   pub kept : List (List ℕ)
   pub is : texts ≡ kept ++ left
 
-all_left : (texts : List (List ℕ)) → EndsWith texts texts
+pub all_left : (texts : List (List ℕ)) → EndsWith texts texts
 all_left texts = record { kept = []; is = refl }
 
 one_more : (text : List ℕ) (texts left : List (List ℕ)) → EndsWith texts left → EndsWith (text ∷ texts) left
 one_more text texts left ends = record { kept = text ∷ ends.kept; is = ap (λ ts. text ∷ ts) ends.is }
 
-both : (xs ys zs : List (List ℕ)) → EndsWith xs ys → EndsWith ys zs → EndsWith xs zs
+pub both : (xs ys zs : List (List ℕ)) → EndsWith xs ys → EndsWith ys zs → EndsWith xs zs
 both xs ys zs one two = record {
   kept = one.kept ++ two.kept;
   is = one.is ∙ ap (λ ts. one.kept ++ ts) two.is ∙ sym (append_assoc one.kept two.kept zs);
@@ -42,7 +42,7 @@ by_link : (end : ChainEnd) (text : List ℕ) (rest : List (List ℕ)) (found : O
 by_link end text rest None more = all_left (text ∷ rest)
 by_link end text rest (Some entry) more = one_more text rest _ (more (end_after end entry))
 
-read_on-ends : (texts : List (List ℕ)) (end : ChainEnd) → EndsWith texts (read_on end texts).left
+pub read_on-ends : (texts : List (List ℕ)) (end : ChainEnd) → EndsWith texts (read_on end texts).left
 unfolding read_on
 read_on-ends [] end = all_left []
 read_on-ends (text ∷ rest) end = by_link end text rest (next_link end text) (read_on-ends rest)
@@ -83,7 +83,7 @@ sought-ends place (text ∷ rest) =
 
 -- ---- what is found
 
-abbrev AheadEnds : List (List ℕ) → Found → Type 0
+abbrev pub AheadEnds : List (List ℕ) → Found → Type 0
 AheadEnds texts other_register = ⊤
 AheadEnds texts too_short = ⊤
 AheadEnds texts (differs number) = ⊤
@@ -109,7 +109,7 @@ first_ends place first links =
     (after_ends links place.number (read_on (end_at place) links) (read_on-ends links (end_at place))) tt)
     (either_found links (nat_lt first.number place.number) (found_short first.number links) too_short (short_ends links first.number links) tt)
 
-by_ends : (place first : Place) (links : List (List ℕ)) (s : Sought) → SoughtEnds links s → AheadEnds links (found_by place first links s)
+pub by_ends : (place first : Place) (links : List (List ℕ)) (s : Sought) → SoughtEnds links s → AheadEnds links (found_by place first links s)
 by_ends place first links (met true turn after) ends =
     after_ends links place.number (read_on (end_of place turn) after) (both links after _ ends (read_on-ends after (end_of place turn)))
 by_ends place first links (met false turn after) ends = tt
@@ -117,18 +117,6 @@ by_ends place first links (passed number after) ends = short_ends links number a
 by_ends place first links unmet ends = first_ends place first links
 
 -- ---- bytes
-
-last_there : (ps : List (List ℕ)) → 0 < length ps → (r : List ℕ) × (last_of ps ≡ Some r)
-last_there [] some = let none : 0 < 0 = some in absurd (omega (arith, none))
-last_there (p ∷ []) some = (p, refl)
-last_there (p ∷ q ∷ ps) some = last_there (q ∷ ps) (omega arith)
-
-there_is_a_rest : (xs : List ℕ) → (r : List ℕ) × (unfinished xs ≡ Some r)
-there_is_a_rest xs = let n = length-slice_split is_line_feed xs in last_there (pieces xs) (omega (arith, n))
-
-text_of-append : (xs ys : List (List ℕ)) → text_of (xs ++ ys) ≡ text_of xs ++ text_of ys
-text_of-append [] ys = refl
-text_of-append (x ∷ xs) ys = ap (λ t. with_feed x ++ t) (text_of-append xs ys) ∙ sym (append_assoc (with_feed x) (text_of xs) (text_of ys))
 
 pub cut_at : (bytes after : List ℕ) → EndsWith (ended_lines bytes) (ended_lines after) → unfinished after ≡ unfinished bytes → IsCut bytes (ended_lines after) (length after)
 cut_at bytes after ends alike =
@@ -142,7 +130,7 @@ cut_at bytes after ends alike =
     let c = length-append (text_of ends.kept) (ended_text after) in
     record { kept = ends.kept; lines = ends.is; count = omega (arith, all, end, split, a, b, c) }
 
-links_end : (texts : List (List ℕ)) → EndsWith texts (all_but_first texts)
+pub links_end : (texts : List (List ℕ)) → EndsWith texts (all_but_first texts)
 links_end [] = all_left []
 links_end (text ∷ rest) = one_more text rest rest (all_left rest)
 

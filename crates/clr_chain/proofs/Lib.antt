@@ -1,8 +1,15 @@
+pub mod Begun
 pub mod Cutting
+pub mod Ending
+pub mod Firsts
 pub mod FloatsFound
 pub mod LevelKept
 pub mod LinksBack
 pub mod NoFloats
+pub mod NotMissed
+pub mod Opened
+pub mod Parts
 pub mod ReadingOn
 pub mod SameSums
 pub mod Seeking
+pub mod Walked

@@ -100,7 +100,7 @@ withdrawn_back n sum = refl
 
 -- ---- its value is plain
 
-one_member : (key : List ℕ) (d : Data) (others : Members) → are_ascii key ≡ true → is_before key others ≡ true → is_plain d ≡ true → members_are_plain others ≡ true
+pub one_member : (key : List ℕ) (d : Data) (others : Members) → are_ascii key ≡ true → is_before key others ≡ true → is_plain d ≡ true → members_are_plain others ≡ true
     → members_are_plain (member key d others) ≡ true
 one_member key d others ascii before plain more =
     and_from _ _ (is_utf8-from_IsUtf8 key (IsUtf8-are_ascii key ascii)) (and_from _ _ before (and_from _ _ plain more))

@@ -13,7 +13,7 @@ use Rattle.clr_chain.specs.declared.chain_end.ChainEnd.{ChainEnd}
 abbrev pub prepended : List Entry → ReadOn → ReadOn
 prepended earlier read = record { entries = earlier ++ read.entries; end = read.end; left = read.left }
 
-reads : (end : ChainEnd) (text : List ℕ) (rest : List (List ℕ)) (found : Option Entry) → next_link end text ≡ found
+pub reads : (end : ChainEnd) (text : List ℕ) (rest : List (List ℕ)) (found : Option Entry) → next_link end text ≡ found
     → read_on end (text ∷ rest) ≡ option_map_or (λ entry. onto entry (read_on (end_after end entry) rest)) found (record { entries = []; end = end; left = text ∷ rest })
 unfolding read_on
 reads end text rest found is =

@@ -7,7 +7,7 @@ use Rattle.clr_chain.specs.First.{first_text}
 use Rattle.clr_chain.specs.Link.{end_after, link_text, next_link}
 use Rattle.clr_chain.specs.Sums.{sum_after}
 use Rattle.clr_chain.specs.declared.chain_end.ChainEnd.{ChainEnd}
-use Rattle.clr_chain.specs.declared.place.Place.{Place}
+use Rattle.clr_place.specs.declared.place.Place.{Place}
 
 -- ---- writing
 

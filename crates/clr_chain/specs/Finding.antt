@@ -11,7 +11,7 @@ use Rattle.clr_chain.specs.Chain.{ReadOn, links_of, read_on}
 use Rattle.clr_chain.specs.First.{end_at, read_first}
 use Rattle.clr_chain.specs.Link.{is_own}
 use Rattle.clr_chain.specs.declared.chain_end.ChainEnd.{ChainEnd}
-use Rattle.clr_chain.specs.declared.place.Place.{Place}
+use Rattle.clr_place.specs.declared.place.Place.{Place}
 
 -- ---- the line of the register's number, from the last line back
 

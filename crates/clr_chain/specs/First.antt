@@ -12,7 +12,7 @@ use Rattle.clr_text.specs.Values.{whole}
 use Rattle.clr_journal.specs.Line.{at_key}
 use Rattle.clr_journal.specs.declared.reading.Turn.{Turn}
 use Rattle.clr_chain.specs.declared.chain_end.ChainEnd.{ChainEnd}
-use Rattle.clr_chain.specs.declared.place.Place.{Place}
+use Rattle.clr_place.specs.declared.place.Place.{Place}
 
 abbrev pub first_data : Place → Data
 first_data place =

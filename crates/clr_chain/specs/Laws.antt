@@ -1,8 +1,9 @@
 -- LAWS OF CHAINS
-use Rattle.std.specs.Prelude.{◌≡◌, ◌≢◌, ◌⊎◌, ℕ, true, false, List, [], ◌∷◌, ◌++◌, map, Some}
+use Rattle.std.specs.Prelude.{◌≡◌, ◌≢◌, ◌≤◌, ◌⊎◌, ℕ, true, false, List, [], ◌∷◌, ◌++◌, length}
+use Rattle.std.specs.Prelude.{bytes_eq, map, take, Some}
 use Rattle.std.specs.List.{list_any}
 use Rattle.std.specs.Str.{is_utf8}
-use Rattle.clr_append.specs.Lines.{is_line_feed}
+use Rattle.clr_append.specs.Lines.{ended_lines, is_line_feed, text_of}
 use Rattle.clr_rules.specs.Register.{Register}
 use Rattle.clr_rules.specs.Answer.{Answer, answer}
 use Rattle.clr_rules.specs.Run.{after}
@@ -12,11 +13,17 @@ use Rattle.clr_journal.specs.Journals.{carried_out, is_next, withdraws}
 use Rattle.clr_journal.specs.Laws.{can_be_written, turn_behind}
 use Rattle.clr_journal.specs.Line.{Entry, carried, is_accepted, line_text}
 use Rattle.clr_journal.specs.declared.line.Receipt.{Receipt}
-use Rattle.clr_chain.specs.First.{first_text, first_turn_at}
+use Rattle.clr_chain.specs.Chain.{ReadOn, read_on}
+use Rattle.clr_chain.specs.Finding.{Found, ahead, first_of, found_in}
+use Rattle.clr_chain.specs.First.{end_at, first_text, first_turn_at, read_first}
 use Rattle.clr_chain.specs.Level.{IsLevel, IsRunOf, place_after}
 use Rattle.clr_chain.specs.Link.{link_text, read_link}
+use Rattle.clr_chain.specs.Near.{SayNothing, found_near, stopped}
+use Rattle.clr_chain.specs.Opening.{CanBegin, new_text}
 use Rattle.clr_chain.specs.Sums.{Files, first_sum, sum_behind, sum_of}
-use Rattle.clr_chain.specs.declared.place.Place.{Place}
+use Rattle.clr_chain.specs.Walking.{holds, walk}
+use Rattle.clr_chain.specs.declared.chain_end.ChainEnd.{ChainEnd}
+use Rattle.clr_place.specs.declared.place.Place.{Place}
 
 -- ---- texts
 
@@ -37,6 +44,10 @@ LinksReadBack = (entry : Entry) (sum : List ℕ) → can_be_written entry ≡ tr
 abbrev pub LinksAreOwn : Type 0
 LinksAreOwn = (entry : Entry) (sum text : List ℕ) → read_link sum text ≡ Some entry
     → text ≡ link_text entry sum
+
+-- A FIRST LINE THAT CAN BE WRITTEN is read from its text
+abbrev pub FirstsReadBack : Type 0
+FirstsReadBack = (first : Place) → CanBegin first → read_first (first_text first) ≡ Some first
 
 -- ---- sums
 
@@ -61,6 +72,15 @@ abbrev pub SameSumSameJournal : Type 0
 SameSumSameJournal = (files files' : Files) (id id' : List ℕ) (entries entries' : List Entry)
     → sum_behind (first_sum files id) entries ≡ sum_behind (first_sum files' id') entries'
     → AreSame files files' id id' entries entries' ⊎ Collision
+
+-- ---- reading line by line
+
+-- A WALK READS ON: its first steps are the lines that hold their sums, up to the first that does
+-- not; then it goes on from there
+abbrev pub WalksReadOn : Type 0
+WalksReadOn = (end : ChainEnd) (texts : List (List ℕ)) → walk end texts
+    ≡ map holds (ReadOn.entries (read_on end texts))
+    ++ walk (ReadOn.end (read_on end texts)) (ReadOn.left (read_on end texts))
 
 -- ---- level
 
@@ -99,3 +119,33 @@ LostTailsAreMadeGood = (first R S : Register) (start place : Place) (entries : L
     (level : IsLevel first start entries place R)
     → IsRunOf first (carried_out entries) S
     → IsRunOf R (carried_out (IsLevel.more level)) S
+
+-- ---- opening
+
+-- THE END OF A JOURNAL SAYS what is found in all of it, whatever comes before the end
+abbrev pub EndsSayAll : Type 0
+EndsSayAll = (place first : Place) (front tail : List ℕ) (found : Found)
+    → first_of (front ++ tail) ≡ Some first → bytes_eq first.id place.id ≡ true
+    → found_near place first tail ≡ Some found
+    → found_in place (front ++ tail) ≡ found
+
+-- WHAT IS CUT OFF IS NOT MISSED: the same lines are found, with the same end of the chain, whatever
+-- says nothing comes after the last of them in its place
+abbrev pub CutsAreNotMissed : Type 0
+CutsAreNotMissed = (place : Place) (bytes other : List ℕ) (kept : List (List ℕ)) (read : ReadOn)
+    → found_in place bytes ≡ ahead read → ended_lines bytes ≡ kept ++ read.left
+    → SayNothing place read.end (ended_lines other)
+    → found_in place (text_of kept ++ other) ≡ ahead (record read { left = ended_lines other })
+
+-- A FRONT OF A JOURNAL, cut anywhere after these lines, is found the same: so does what a crash
+-- leaves that takes nothing but an end
+abbrev pub FrontsAreFound : Type 0
+FrontsAreFound = (place : Place) (bytes : List ℕ) (kept : List (List ℕ)) (read : ReadOn) (n : ℕ)
+    → found_in place bytes ≡ ahead read → ended_lines bytes ≡ kept ++ read.left
+    → length (text_of kept) ≤ n
+    → (k : ℕ) × (found_in place (take n bytes) ≡ ahead (record read { left = take k read.left }))
+
+-- A NEW JOURNAL OPENS at its own place, with no line after it
+abbrev pub NewJournalsOpen : Type 0
+NewJournalsOpen = (first : Place) → CanBegin first
+    → found_in first (new_text first) ≡ ahead (stopped (end_at first) [])

@@ -5,12 +5,12 @@ use Rattle.clr_rules.specs.Register.{Register}
 use Rattle.clr_rules.specs.Run.{after_all, replies}
 use Rattle.clr_rules.specs.declared.command.Command.{Command}
 use Rattle.clr_text.specs.Replies.{reply_data}
-use Rattle.clr_journal.specs.Journals.{carried_out, in_turn, withdraws}
+use Rattle.clr_journal.specs.Journals.{carried_out, in_turn, turn_after, withdraws}
 use Rattle.clr_journal.specs.Laws.{turn_behind}
 use Rattle.clr_journal.specs.Line.{Entry, carried, withdrawn}
 use Rattle.clr_chain.specs.First.{first_turn_at}
-use Rattle.clr_chain.specs.Sums.{sum_behind}
-use Rattle.clr_chain.specs.declared.place.Place.{Place}
+use Rattle.clr_chain.specs.Sums.{sum_after, sum_behind}
+use Rattle.clr_place.specs.declared.place.Place.{Place}
 
 -- commands and their replies, as JSON values, are a run from one register to another
 pub record IsRunOf (R : Register) (pairs : List (Command × Data)) (S : Register) : Type 0 where
@@ -35,6 +35,18 @@ place_after start entries = record {
   number = (turn_behind (first_turn_at start) entries).last;
   sum = sum_behind start.sum entries;
 }
+
+-- a place on, by a line more
+abbrev pub place_with : Place → Entry → Place
+place_with place entry = record {
+  id = place.id;
+  number = (turn_after entry).last;
+  sum = sum_after place.sum entry;
+}
+
+abbrev pub stepped : Bool → Place → Entry → Place
+stepped true place entry = place_with place entry
+stepped false place entry = place
 
 -- A REGISTER, ITS PLACE AND A JOURNAL ARE LEVEL: the lines of the journal are in turn. It begins
 -- with those that the register has, and the place is the one after these. The register is that of a

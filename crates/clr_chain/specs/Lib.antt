@@ -3,6 +3,11 @@ pub mod Link
 pub mod First
 pub mod Chain
 pub mod Finding
+pub mod Near
 pub mod Reading
+pub mod OnDisk
+pub mod Faults
+pub mod Opening
+pub mod Walking
 pub mod Level
 pub mod Laws

@@ -1,5 +1,5 @@
 -- What the values of the code are of what the definitions speak of.
-use Rattle.std.specs.Prelude.{◌≡◌, ◌+◌, ℕ, List, ◌++◌, Option, map, length, ⊤}
+use Rattle.std.specs.Prelude.{◌≡◌, ◌+◌, ℕ, List, ◌++◌, Option, None, Some, map, length, ⊤}
 use Rattle.clr_append.specs.Lines.{ended_lines, text_of, unfinished}
 use Rattle.clr_journal.specs.Line.{entry_of}
 use Rattle.clr_chain.specs.Chain.{ReadOn}
@@ -65,3 +65,17 @@ IsFound bytes (seen.Ahead lines) found = (left : List (List ℕ)) × IsCut bytes
       end = lines.end;
       left = left;
     }))
+
+-- what the end of a journal says, if it says what is found
+abbrev pub IsFoundNear : Option (List ℕ) → Option SeenFound → Option Found → Type 0
+IsFoundNear rest None found = found ≡ None
+IsFoundNear rest (Some seen) found =
+    (said : Found) × (found ≡ Some said) × IsFoundWith rest seen said
+
+-- how many bytes are to be cut off
+abbrev pub rest_of : SeenFound → ℕ
+rest_of seen.OtherRegister = 0
+rest_of seen.TooShort = 0
+rest_of (seen.Differs number) = 0
+rest_of (seen.BadLine number) = 0
+rest_of (seen.Ahead lines) = lines.rest

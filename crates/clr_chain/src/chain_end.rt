@@ -46,7 +46,7 @@ pub(crate) fn next_link(
 
 /// The sum at a line that was read, after a sum.
 #[tactic(auto, unfolding(crate::specs::Sums::sum_after))]
-fn sum_at(alloc: Global, before: &str, line: &Line) -> Result<Text, AllocError>
+pub(crate) fn sum_at(alloc: Global, before: &str, line: &Line) -> Result<Text, AllocError>
     requires { has_fraction (entry_of line.now) ≡ false }
     ensures { IfOk result (λ sum. sum ≡ sum_after before.now (entry_of line.now)) }
 {

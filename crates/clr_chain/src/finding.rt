@@ -12,12 +12,12 @@ ghost use Rattle.clr_chain.specs.Reading.{EndsAlike, IsFound, IsFoundWith, seen_
 
 use crate::chain_end::ChainEnd;
 use crate::first::first_of;
-use crate::place::Place;
 use crate::read_on::{ReadOn, read_on};
 use crate::sought::{Sought, seek};
 use crate::values::is_same;
 use clr_append::first_line;
 use clr_journal::{Carried, Line, Turn, carried_out, is_accepted, read_line};
+use clr_place::Place;
 use clr_rules::Text;
 use std::alloc::{AllocError, Global};
 

@@ -7,9 +7,9 @@ ghost use Rattle.clr_journal.specs.Line.{at_key};
 ghost use Rattle.clr_chain.specs.First.{first_data, first_text, place_in, read_first};
 ghost use Rattle.clr_chain.specs.Finding.{first_of};
 
-use crate::place::Place;
 use crate::values::is_same;
 use clr_append::first_line;
+use clr_place::Place;
 use clr_rules::Text;
 use serde_json::{Value, json};
 use std::alloc::{AllocError, Global};
@@ -77,7 +77,7 @@ pub fn read_first(alloc: Global, text: &[u8]) -> Result<Option<Place>, AllocErro
 
 /// The JSON value of a text, if it has one.
 #[tactic(auto, unfolding(clr_text::specs::Reading::value_of))]
-fn value_of(alloc: Global, text: &[u8]) -> Result<Option<Value>, AllocError>
+pub(crate) fn value_of(alloc: Global, text: &[u8]) -> Result<Option<Value>, AllocError>
     ensures { IfOk result (λ value. option_map view value ≡ value_of text.now) }
 {
     match Value::from_slice(alloc, text) {
@@ -114,7 +114,7 @@ fn place_in(alloc: Global, value: &Value) -> Result<Option<Place>, AllocError>
 }
 
 /// The text at a key.
-fn text_at<'a>(value: &'a Value, key: &str) -> Option<&'a str>
+pub(crate) fn text_at<'a>(value: &'a Value, key: &str) -> Option<&'a str>
     ensures { option_map (λ text. text.now) result ≡ at_key as_str key.now (view value.now) }
 {
     value.get(key).and_then(Value::as_str)

@@ -1,7 +1,9 @@
 //! Laws of the definitions: the contract of each function is the law.
-ghost use Rattle.clr_chain.specs.Laws.{FirstsAreOneLine, LinksAreOneLine, LinksAreOwn};
-ghost use Rattle.clr_chain.specs.Laws.{LinesKeepLevel, LinksReadBack, LostTailsAreMadeGood};
-ghost use Rattle.clr_chain.specs.Laws.{NewJournalsAreLevel, SameSumSameJournal, StepsKeepLevel};
+ghost use Rattle.clr_chain.specs.Laws.{CutsAreNotMissed, EndsSayAll, FirstsAreOneLine};
+ghost use Rattle.clr_chain.specs.Laws.{FirstsReadBack, FrontsAreFound, LinesKeepLevel};
+ghost use Rattle.clr_chain.specs.Laws.{LinksAreOneLine, LinksAreOwn, LinksReadBack};
+ghost use Rattle.clr_chain.specs.Laws.{LostTailsAreMadeGood, NewJournalsAreLevel, NewJournalsOpen};
+ghost use Rattle.clr_chain.specs.Laws.{SameSumSameJournal, StepsKeepLevel, WalksReadOn};
 
 /// The text of a line has no line feed, nor has that of a first line.
 pub fn links_are_one_line()
@@ -13,6 +15,12 @@ pub fn links_are_one_line()
 pub fn links_read_back()
     ensures reads { LinksReadBack }
     ensures own { LinksAreOwn }
+{}
+
+/// A first line that can be written is read from its text, and a new journal opens at its place.
+pub fn new_journals_open()
+    ensures reads { FirstsReadBack }
+    ensures opens { NewJournalsOpen }
 {}
 
 /// Two journals with one sum are the same up to it, byte for byte; or a collision of SHA-256 is
@@ -32,4 +40,22 @@ pub fn level_is_kept()
 /// A register that lost its last commits is made good by the lines after its place.
 pub fn lost_tails_are_made_good()
     ensures { LostTailsAreMadeGood }
+{}
+
+/// The end of a journal says what is found in all of it.
+pub fn ends_say_all()
+    ensures { EndsSayAll }
+{}
+
+/// What was never synced after the last line that holds its sum may be cut off: the same is found
+/// before the cut, during it, and after it.
+pub fn cuts_are_not_missed()
+    ensures other { CutsAreNotMissed }
+    ensures front { FrontsAreFound }
+{}
+
+/// A chain that is read line by line has the lines that are read on, up to the first that does not
+/// hold its sum.
+pub fn walks_read_on()
+    ensures { WalksReadOn }
 {}

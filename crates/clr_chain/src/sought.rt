@@ -5,10 +5,10 @@ ghost use Rattle.clr_journal.specs.Line.{read_line};
 ghost use Rattle.clr_chain.specs.Finding.{or_earlier, sought, sought_at, sought_below};
 ghost use Rattle.clr_chain.specs.Reading.{EndsAlike, seen_sought};
 
-use crate::place::Place;
 use crate::values::is_own;
 use clr_append::first_line;
 use clr_journal::{Line, Turn, read_line};
+use clr_place::Place;
 use std::alloc::{AllocError, Global};
 
 /// What comes of looking for the line of a register's number.
