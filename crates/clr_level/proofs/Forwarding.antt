@@ -1,0 +1,292 @@
+-- How far a register has come of the lines after its place.
+use Rattle.std.proofs.Common.{◌≡◌, ◌∙◌, Bool, true, false, cond, ℕ, List, [], ◌∷◌, ◌++◌, map, Option, None, Some, IfSome, IfOk, OnErr, OnOk, Result, Ok, Err, refl, ap, sym, subst, append_assoc, append-nil, reverse}
+use Rattle.std.proofs.lemmas.List.{reverse-append, reverse-reverse}
+use Rattle.sqlite.specs.State.{State}
+use Rattle.serde_json.specs.Data.{Data}
+use Rattle.serde_json.specs.View.{view}
+use Rattle.clr_answer.specs.Decision.{is_accepted as accepts}
+use Rattle.clr_place.specs.declared.place.Place.{Place}
+use Rattle.clr_rules.specs.Answer.{Answer, answer}
+use Rattle.clr_rules.specs.Good.{IsGood}
+use Rattle.clr_rules.specs.Register.{Register}
+use Rattle.clr_rules.specs.Run.{after}
+use Rattle.clr_rules.specs.declared.command.Command.{Command}
+use Rattle.clr_rules.specs.declared.reply.Reply.{Reply}
+use Rattle.clr_rules.proofs.keeps.EveryKind.{runs_keep_good}
+use Rattle.clr_text.specs.Replies.{reply_data}
+use Rattle.clr_journal.specs.Journals.{carried_out, withdraws}
+use Rattle.clr_journal.specs.Line.{Entry, carried, entry_of, is_accepted, withdrawn}
+use Rattle.clr_journal.specs.declared.line.Carried.{Carried}
+use Rattle.clr_journal.specs.declared.line.Line.{Line}
+use Rattle.clr_journal.specs.declared.line.Line.TheVariants as line
+use Rattle.clr_journal.proofs.JournalsRead.{withdrawn_is_left_out}
+use Rattle.clr_chain.specs.Level.{IsRunOf, ends_with_command, place_after, place_with}
+use Rattle.clr_chain.proofs.LevelKept.{carried_out-append}
+use Rattle.clr_desk.specs.Given.{LeadsTo}
+use Rattle.clr_desk.specs.Taking.{Hearing, Taking}
+use Rattle.clr_desk.specs.declared.desk.Desk.{Desk}
+use Rattle.clr_desk.proofs.Givings.{leads_itself}
+use Rattle.clr_verify.specs.Replies.{DecidesReply}
+use Rattle.clr_level.specs.Forward.{AreShallow, DiffersAt, HasCome, HasStopped, IsAccepted, StopsAt, Went, open_after, open_entries, opened_by}
+use Rattle.clr_desk.specs.Placing.{Placing}
+use Rattle.clr_level.specs.Placing.{ComesTo, IsAt, StaysShown}
+use Rattle.clr_level.specs.declared.fault.OpeningFault.{OpeningFault}
+use Rattle.clr_level.proofs.Accepting.{accepted_data}
+use Rattle.clr_level.proofs.Chains.{accepted_out, ends_so, front_kept, no_run, place_more, refused_out, run_more, withdrawn_out}
+use Rattle.clr_level.proofs.Places.{at_moves, at_stays}
+
+-- a run leaves a good register good
+pub still_good : (R S : Register) (pairs : List (Command × Data)) → IsGood R → IsRunOf R pairs S → IsGood S
+still_good R S pairs good run = subst IsGood (sym run.register) (runs_keep_good R (map (λ pair. pair.0) pairs) good)
+
+-- the open command, where a line has closed it, stays closed at that line
+pub closed_again : (one : Line) (before now : Option Carried) → now ≡ open_after one before → now ≡ open_after one now
+closed_again (line.Carried c) before now is = is
+closed_again (line.Withdrawn n) before now is = refl
+
+module _ (has_place : Placing) (R : Register) (place : Place) (lines : List Entry) where
+  -- before the first line
+  pub begun : (s : State) → withdraws lines ≡ false → AreShallow lines → IsAt has_place s place → HasCome has_place R place lines R s place None lines
+  unfolding carried_out
+  begun s kept shallow at = record {
+    had = [];
+    idle = [];
+    all_is = refl;
+    at_command = refl;
+    begins = kept;
+    none = refl;
+    accepted = tt;
+    run = no_run R;
+    at_is = refl;
+    placed = at;
+    shallow = shallow;
+  }
+
+  -- ---- a line more
+
+  regrouped : (had before now rest : List Entry) (entry : Entry) → now ≡ before ++ entry ∷ [] → had ++ (before ++ entry ∷ rest) ≡ had ++ (now ++ rest)
+  regrouped had before now rest entry is =
+      ap (λ es. had ++ es) (sym (append_assoc before (entry ∷ []) rest) ∙ ap (λ es. es ++ rest) (sym is))
+
+  further : (had before now : List Entry) (entry : Entry) → now ≡ before ++ entry ∷ [] → place_with (place_after place (had ++ before)) entry ≡ place_after place (had ++ now)
+  further had before now entry is =
+      sym (place_more place (had ++ before) entry)
+      ∙ ap (place_after place) (append_assoc had before (entry ∷ []) ∙ ap (λ es. had ++ es) (sym is))
+
+  -- where it is known which of the lines before the next are idle, and which command is open
+  gone_on : (S : Register) (s : State) (at : Place) (open_one next : Option Carried) (entry : Entry) (rest : List Entry)
+      (come : HasCome has_place R place lines S s at open_one (entry ∷ rest)) (idle : List Entry)
+      → idle ++ open_entries next ≡ (HasCome.idle come ++ open_entries open_one) ++ entry ∷ [] → carried_out idle ≡ []
+      → IfSome next IsAccepted → AreShallow (open_entries next ++ rest)
+      → HasCome has_place R place lines S s (place_with at entry) next rest
+  gone_on S s at open_one next entry rest come idle is none accepted shallow =
+      let before = come.idle ++ open_entries open_one in
+      record {
+        had = come.had;
+        idle = idle;
+        all_is = come.all_is ∙ regrouped come.had before (idle ++ open_entries next) rest entry is;
+        at_command = come.at_command;
+        begins = ap withdraws (ap (λ es. es ++ rest) is ∙ append_assoc before (entry ∷ []) rest) ∙ come.begins;
+        none = none;
+        accepted = accepted;
+        run = come.run;
+        at_is = ap (λ p. place_with p entry) come.at_is ∙ further come.had before (idle ++ open_entries next) entry is;
+        placed = come.placed;
+        shallow = shallow;
+      }
+
+  -- a line of a command: none is open before it
+  command_passed : (S : Register) (s : State) (at : Place) (one : Carried) (rest : List Entry) (b : Bool) → is_accepted (view one.reply) ≡ b
+      → HasCome has_place R place lines S s at None (entry_of (line.Carried one) ∷ rest)
+      → HasCome has_place R place lines S s (place_with at (entry_of (line.Carried one))) (cond b (Some one) None) rest
+  command_passed S s at one rest true accepted come =
+      gone_on S s at None (Some one) (entry_of (line.Carried one)) rest come come.idle (ap (λ es. es ++ entry_of (line.Carried one) ∷ []) (sym (append-nil come.idle)))
+      come.none accepted come.shallow
+  command_passed S s at one rest false refused come =
+      let entry = entry_of (line.Carried one) in
+      gone_on S s at None None entry rest come (come.idle ++ entry ∷ [])
+      (append-nil (come.idle ++ entry ∷ []) ∙ ap (λ es. es ++ entry ∷ []) (sym (append-nil come.idle)))
+      (refused_out come.idle one.receipt one.command (view one.reply) come.none refused) tt come.shallow.1
+
+  -- a line that withdraws: what was open is idle
+  withdrawn_passed : (S : Register) (s : State) (at : Place) (open_one : Option Carried) (n : ℕ) (rest : List Entry)
+      → HasCome has_place R place lines S s at open_one (withdrawn n ∷ rest) → HasCome has_place R place lines S s (place_with at (withdrawn n)) None rest
+  withdrawn_passed S s at None n rest come =
+      gone_on S s at None None (withdrawn n) rest come (come.idle ++ withdrawn n ∷ [])
+      (append-nil (come.idle ++ withdrawn n ∷ []) ∙ ap (λ es. es ++ withdrawn n ∷ []) (sym (append-nil come.idle)))
+      (withdrawn_out come.idle n come.none) tt come.shallow.1
+  withdrawn_passed S s at (Some one) n rest come =
+      let entry = entry_of (line.Carried one) in
+      gone_on S s at (Some one) None (withdrawn n) rest come (come.idle ++ entry ∷ withdrawn n ∷ [])
+      (append-nil (come.idle ++ entry ∷ withdrawn n ∷ []) ∙ sym (append_assoc come.idle (entry ∷ []) (withdrawn n ∷ [])))
+      (withdrawn_is_left_out come.idle one.receipt one.command (view one.reply) n ∙ come.none) tt come.shallow.1.1
+
+  pub line_passed : (S : Register) (s : State) (at : Place) (open_one : Option Carried) (one : Line) (rest : List Entry) → open_one ≡ open_after one open_one
+      → HasCome has_place R place lines S s at open_one (entry_of one ∷ rest)
+      → HasCome has_place R place lines S s (place_with at (entry_of one)) (opened_by one) rest
+  line_passed S s at open_one (line.Carried one) rest closed come =
+      command_passed S s at one rest (is_accepted (view one.reply)) refl
+      (subst (λ (o : Option Carried). HasCome has_place R place lines S s at o (entry_of (line.Carried one) ∷ rest)) closed come)
+  line_passed S s at open_one (line.Withdrawn n) rest closed come = withdrawn_passed S s at open_one n rest come
+
+  pub line_passed_as : (S : Register) (s : State) (at at' : Place) (open_one next : Option Carried) (one : Line) (rest : List Entry)
+      → at' ≡ place_with at (entry_of one) → next ≡ opened_by one → open_one ≡ open_after one open_one
+      → HasCome has_place R place lines S s at open_one (entry_of one ∷ rest) → HasCome has_place R place lines S s at' next rest
+  line_passed_as S s at at' open_one next one rest at_is next_is closed come =
+      subst (λ (p : Place). HasCome has_place R place lines S s p next rest) (sym at_is)
+      (subst (λ (o : Option Carried). HasCome has_place R place lines S s (place_with at (entry_of one)) o rest) (sym next_is)
+      (line_passed S s at open_one one rest closed come))
+
+  -- ---- the open command carried out
+
+  whole : (had idle rest : List Entry) (entry : Entry) → had ++ ((idle ++ entry ∷ []) ++ rest) ≡ (had ++ (idle ++ entry ∷ [])) ++ (([] ++ []) ++ rest)
+  whole had idle rest entry = sym (append_assoc had (idle ++ entry ∷ []) rest)
+
+  pub carried_on : (S T : Register) (s t : State) (at : Place) (one : Carried) (rest : List Entry) → HasCome has_place R place lines S s at (Some one) rest
+      → withdraws rest ≡ false → view one.reply ≡ reply_data (Answer.reply (answer S one.command)) → T ≡ after S one.command → ComesTo has_place s t at
+      → HasCome has_place R place lines T t at None rest
+  unfolding carried_out
+  carried_on S T s t at one rest come kept is went comes =
+      let entry = entry_of (line.Carried one) in
+      let now = come.idle ++ entry ∷ [] in
+      let pairs : carried_out (come.had ++ now) ≡ carried_out come.had ++ (one.command, reply_data (Answer.reply (answer S one.command))) ∷ [] =
+      carried_out-append come.had now (front_kept now rest come.begins)
+      ∙ ap (λ es. carried_out come.had ++ es) (accepted_out come.idle one.receipt one.command (view one.reply) come.none come.accepted)
+      ∙ ap (λ (d : Data). carried_out come.had ++ (one.command, d) ∷ []) is in
+      record {
+        had = come.had ++ now;
+        idle = [];
+        all_is = come.all_is ∙ whole come.had come.idle rest entry;
+        at_command = ap ends_with_command (sym (append_assoc come.had come.idle (entry ∷ []))) ∙ ends_so (come.had ++ come.idle) entry refl;
+        begins = kept;
+        none = refl;
+        accepted = tt;
+        run = subst (λ (X : Register). IsRunOf R (carried_out (come.had ++ now)) X) (sym went)
+            (subst (λ pairs. IsRunOf R pairs (after S one.command)) (sym pairs)
+            (run_more R S (carried_out come.had) one.command come.run));
+        at_is = come.at_is ∙ ap (place_after place) (sym (append-nil (come.had ++ now)));
+        placed = subst (IsAt has_place t) come.at_is (at_moves has_place s t (place_after place come.had) at come.placed comes);
+        shallow = come.shallow.1;
+      }
+
+  -- where it was not, nothing is shown but what was
+  pub stayed : (S T : Register) (s t : State) (at : Place) (open_one : Option Carried) (rest : List Entry) → HasCome has_place R place lines S s at open_one rest
+      → T ≡ S → StaysShown s t → HasCome has_place R place lines T t at open_one rest
+  stayed S T s t at open_one rest come same stays = record {
+    had = come.had;
+    idle = come.idle;
+    all_is = come.all_is;
+    at_command = come.at_command;
+    begins = come.begins;
+    none = come.none;
+    accepted = come.accepted;
+    run = subst (λ (X : Register). IsRunOf R (carried_out come.had) X) (sym same) come.run;
+    at_is = come.at_is;
+    placed = at_stays has_place s t (place_after place come.had) come.placed stays;
+    shallow = come.shallow;
+  }
+
+  -- where it is answered as its line says
+  pub answered_on : (S T : Register) (s t : State) (at : Place) (one : Carried) (rest : List Entry) (reply : Reply) (same : Bool) → same ≡ true → IsGood R
+      → HasCome has_place R place lines S s at (Some one) rest → withdraws rest ≡ false
+      → (IsGood S → DecidesReply (view one.reply) (Answer.reply (answer S one.command)) same)
+      → (IsGood S → reply ≡ Answer.reply (answer S one.command)) → (IsGood S → T ≡ after S one.command)
+      → (accepts reply ≡ true → ComesTo has_place s t at) → HasCome has_place R place lines T t at None rest
+  answered_on S T s t at one rest reply same is_same good come kept decides replied went comes =
+      let fine = still_good R S (carried_out come.had) good come.run in
+      let is = subst (λ (b : Bool). DecidesReply (view one.reply) (Answer.reply (answer S one.command)) b) is_same (decides fine) come.shallow.0 in
+      let accepted : accepts reply ≡ true =
+      ap accepts (replied fine) ∙ sym (accepted_data (Answer.reply (answer S one.command))) ∙ ap is_accepted (sym is) ∙ come.accepted in
+      carried_on S T s t at one rest come kept is (went fine) (comes accepted)
+
+  pub differs : (S : Register) (s : State) (at : Place) (one : Carried) (rest : List Entry) (same : Bool) → same ≡ false → IsGood R → HasCome has_place R place lines S s at (Some one) rest
+      → (IsGood S → DecidesReply (view one.reply) (Answer.reply (answer S one.command)) same)
+      → DiffersAt has_place R place lines one.receipt.number S s
+  differs S s at one rest same is_same good come decides = record {
+    at = at;
+    one = one;
+    rest = rest;
+    come = come;
+    number_is = refl;
+    other = subst (λ (b : Bool). DecidesReply (view one.reply) (Answer.reply (answer S one.command)) b) is_same
+        (decides (still_good R S (carried_out come.had) good come.run));
+  }
+
+  pub stopped : (S : Register) (s : State) (at : Place) (open_one : Option Carried) (rest : List Entry) → HasCome has_place R place lines S s at open_one rest
+      → HasStopped has_place R place lines S s
+  stopped S s at open_one rest come = record { at = at; open_one = open_one; rest = rest; come = come }
+
+pub on_ok : {A B : Type 0} (came : Result A B) (value : A) (P : Type 0) → came ≡ Ok value → OnOk came P → P
+on_ok {A} {B} came value P is holds = subst (λ (r : Result A B). OnOk r P) is holds
+
+pub on_err : {A B : Type 0} (came : Result A B) (fault : B) (P : Type 0) → came ≡ Err fault → OnErr came P → P
+on_err {A} {B} came fault P is holds = subst (λ (r : Result A B). OnErr r P) is holds
+
+pub if_ok : {A B : Type 0} (came : Result A B) (value : A) (P : A → Type 0) → came ≡ Ok value → IfOk came P → P value
+if_ok {A} {B} came value P is holds = subst (λ (r : Result A B). IfOk r P) is holds
+
+-- a line that has a command withdraws none
+pub carried_kept : (one : Line) (c : Carried) (rest : List Entry) → one ≡ line.Carried c → withdraws (entry_of one ∷ rest) ≡ false
+carried_kept one c rest is = ap (λ (l : Line). withdraws (entry_of l ∷ rest)) is
+
+-- ---- what comes of lines
+
+module _ {K : Type 0} (kept : K → State) (has_place : Placing) (R : Register) (place : Place) (lines : List Entry) where
+  -- a fault is where it stopped, whatever comes after it
+  pub stops_on : (came : Result (Unit {0}) OpeningFault) (fault : OpeningFault) (desk : Desk K) (at : Place) (one : Option Carried) (rest : List Entry)
+      → came ≡ Err fault → Went kept has_place R place lines came desk at one rest
+      → StopsAt has_place R place lines fault desk.book.register (kept desk.store)
+  stops_on came fault desk at one rest is went =
+      subst (λ (r : Result (Unit {0}) OpeningFault). Went kept has_place R place lines r desk at one rest) is went
+
+  pub goes_on : (came : Result (Unit {0}) OpeningFault) (done : Unit {0}) (desk : Desk K) (at : Place) (one : Option Carried) (rest : List Entry)
+      → came ≡ Ok done → Went kept has_place R place lines came desk at one rest
+      → HasCome has_place R place lines desk.book.register (kept desk.store) at one rest
+  goes_on came done desk at one rest is went =
+      subst (λ (r : Result (Unit {0}) OpeningFault). Went kept has_place R place lines r desk at one rest) is went
+
+  pub went_closed : (came : Result (Unit {0}) OpeningFault) (desk : Desk K) (at : Place) (one : Option Carried) (rest : List Entry)
+      → OnOk came (one ≡ None) → Went kept has_place R place lines came desk at None rest → Went kept has_place R place lines came desk at one rest
+  went_closed (Ok done) desk at one rest closed went =
+      subst (λ (o : Option Carried). HasCome has_place R place lines desk.book.register (kept desk.store) at o rest) (sym closed) went
+  went_closed (Err fault) desk at one rest closed went = went
+
+-- ---- all lines
+
+-- the lines so far, where `left` are those after them, the last first
+pub record SoFar {K : Type 0} (kept : K → State) (takes : Taking K) (hears : Hearing K) (has_place : Placing) (desk now : Desk K) (place at : Place)
+    (open_one : Option Carried) (lines left : List Line) : Type 0 where
+  pub come : IsGood desk.book.register → withdraws (map entry_of lines) ≡ false → AreShallow (map entry_of lines) → IsAt has_place (kept desk.store) place
+      → HasCome has_place desk.book.register place (map entry_of lines) now.book.register (kept now.store) at open_one (map entry_of (reverse left))
+  pub led : LeadsTo kept takes hears desk now
+
+module _ {K : Type 0} (kept : K → State) (takes : Taking K) (hears : Hearing K) (has_place : Placing) (desk : Desk K) (place : Place) (lines : List Line) where
+  pub none_yet : (left : List Line) → left ≡ reverse lines → SoFar kept takes hears has_place desk desk place place None lines left
+  none_yet left is = record {
+    come = λ good begins shallow at.
+        subst (λ rest. HasCome has_place desk.book.register place (map entry_of lines) desk.book.register (kept desk.store) place None rest)
+        (sym (ap (λ ls. map entry_of (reverse ls)) is ∙ ap (map entry_of) (reverse-reverse lines)))
+        (begun has_place desk.book.register place (map entry_of lines) (kept desk.store) begins shallow at);
+    led = leads_itself kept takes hears desk;
+  }
+
+  taken_last : (left rest : List Line) (one : Line) → left ≡ rest ++ one ∷ [] → map entry_of (reverse left) ≡ entry_of one ∷ map entry_of (reverse rest)
+  taken_last left rest one is = ap (λ ls. map entry_of (reverse ls)) is ∙ ap (map entry_of) (reverse-append rest (one ∷ []))
+
+  -- what is said of the next line is said of the lines so far
+  pub at_line : (now : Desk K) (at : Place) (open_one : Option Carried) (left rest : List Line) (one : Line) → left ≡ rest ++ one ∷ []
+      → SoFar kept takes hears has_place desk now place at open_one lines left
+      → IsGood desk.book.register → withdraws (map entry_of lines) ≡ false → AreShallow (map entry_of lines) → IsAt has_place (kept desk.store) place
+      → HasCome has_place desk.book.register place (map entry_of lines) now.book.register (kept now.store) at open_one (entry_of one ∷ map entry_of (reverse rest))
+  at_line now at open_one left rest one is so_far good begins shallow here =
+      subst (λ es. HasCome has_place desk.book.register place (map entry_of lines) now.book.register (kept now.store) at open_one es)
+      (taken_last left rest one is) (so_far.come good begins shallow here)
+
+  -- none is left
+  pub at_last : (now : Desk K) (at : Place) (open_one : Option Carried) (left : List Line) → left ≡ []
+      → SoFar kept takes hears has_place desk now place at open_one lines left
+      → IsGood desk.book.register → withdraws (map entry_of lines) ≡ false → AreShallow (map entry_of lines) → IsAt has_place (kept desk.store) place
+      → HasCome has_place desk.book.register place (map entry_of lines) now.book.register (kept now.store) at open_one []
+  at_last now at open_one left is so_far good begins shallow here =
+      subst (λ es. HasCome has_place desk.book.register place (map entry_of lines) now.book.register (kept now.store) at open_one es)
+      (ap (λ ls. map entry_of (reverse ls)) is) (so_far.come good begins shallow here)

@@ -1,0 +1,11 @@
+pub mod Accepting
+pub mod Appending
+pub mod Carrying
+pub mod Chains
+pub mod Forwarding
+pub mod InBrief
+pub mod Levels
+pub mod Openings
+pub mod Places
+pub mod Sounds
+pub mod Taken

@@ -1,0 +1,172 @@
+-- What came of a call is what is said of a keeper with a journal.
+use Rattle.std.proofs.Common.{◌≡◌, ◌∙◌, ℕ, Bool, true, false, not, ◌||◌, List, Ok, Err, refl, sym, subst, ap}
+use Rattle.sqlite.specs.State.{State}
+use Rattle.sqlite_disk.specs.Disk.{Only}
+use Rattle.clr_rules.specs.declared.change.Edit.{Edit}
+use Rattle.clr_rules.specs.declared.command.Command.{Command}
+use Rattle.clr_rules.specs.declared.reply.Reply.{Reply}
+use Rattle.clr_rules.specs.declared.reply.Reply.TheVariants.{Accepted, Shown, Refused, Added}
+use Rattle.clr_answer.specs.Decision.{is_accepted}
+use Rattle.clr_place.specs.declared.place.Place.{Place}
+use Rattle.clr_desk.specs.Commit.{Stays}
+use Rattle.clr_desk.specs.Taking.{Came, Taking, is_refused}
+use Rattle.clr_desk.specs.declared.desk_fault.DeskFault.{DeskFault}
+use Rattle.clr_level.specs.Journaling.{HasText, IsAsItWas, IsDurable, IsNoted, IsSound, IsUnwritten, Journals, Misses, has_line, is_show, left, left_by, unasked, unkept, unwritten}
+use Rattle.clr_desk.specs.Placing.{CommitsAt, Placing}
+use Rattle.clr_level.specs.Placing.{ComesTo, StaysShown}
+use Rattle.clr_level.specs.declared.keeper.Keeper.{Keeper}
+use Rattle.clr_level.specs.declared.last.Last.TheVariants.{Settled}
+use Rattle.clr_level.proofs.Places.{comes, shows_still, stays_shown}
+
+true_false : {A : Type 0} (b : Bool) → b ≡ true → b ≡ false → A
+true_false b is_true is_false = absurd (cc (is_true, is_false))
+
+has_its_line : (q : Command) (reply : Reply) → is_accepted reply ≡ true → has_line q reply ≡ true
+has_its_line q reply is = ap (λ (b : Bool). b || not (is_show q.kind)) is
+
+has_one_too : (q : Command) (reply : Reply) → is_show q.kind ≡ false → is_accepted reply ≡ false → has_line q reply ≡ true
+has_one_too q reply asks is = (λ i. is i || not (asks i))
+
+has_none : (q : Command) (reply : Reply) → is_show q.kind ≡ true → is_accepted reply ≡ false → has_line q reply ≡ false
+has_none q reply asks is = (λ i. is i || not (asks i))
+
+pub refused_reply : (reply : Reply) → is_refused reply ≡ true → is_accepted reply ≡ false
+refused_reply (Accepted card) is = absurd (cc is)
+refused_reply (Shown view) is = absurd (cc is)
+refused_reply (Refused refusal) is = refl
+refused_reply (Added point) is = absurd (cc is)
+
+-- but for the keeper below, and what is known of the last line
+pub record IsBeside {K J C : Type 0} (mid new : Keeper K J C) : Type 0 where
+  pub journal : new.journal ≡ mid.journal
+  pub clock : new.clock ≡ mid.clock
+  pub login : new.login ≡ mid.login
+  pub at : new.at ≡ mid.at
+  pub synced : new.is_synced ≡ mid.is_synced
+
+module _ {K J C : Type 0} (takes : Taking K) (kept : K → State) (has_place : Placing) (shows : C → ℕ → Type 0)
+    (text found : J → List ℕ) (may_leave : J → List ℕ → Type 0) where
+  noted_as : (old mid new : Keeper K J C) (q : Command) (reply : Reply) → IsNoted shows text old q reply mid → IsBeside mid new → IsNoted shows text old q reply new
+  noted_as old mid new q reply noted beside = record {
+    receipt = noted.receipt;
+    number = noted.number;
+    within = noted.within;
+    login = noted.login;
+    passed = beside.login ∙ noted.passed;
+    clock = beside.clock ∙ noted.clock;
+    received = subst (λ (c : C). shows c noted.receipt.received) (sym beside.clock) noted.received;
+    text_is = ap text beside.journal ∙ noted.text_is;
+    end_is = beside.at ∙ noted.end_is;
+    certain = noted.certain;
+  }
+
+  sound_as : (mid new : Keeper K J C) → IsBeside mid new → IsSound text found may_leave mid → IsSound text found may_leave new
+  sound_as mid new beside sound = record {
+    begins = subst (λ (j : J). HasText text found j) (sym beside.journal) sound.begins;
+    synced = λ is. subst (λ (j : J). Only (found j) (may_leave j)) (sym beside.journal) (sound.synced (sym beside.synced ∙ is));
+  }
+
+  pub unwritten_is : (old : Keeper K J C) (q : Command) (reply : Reply) (fault : DeskFault) (new : Keeper K J C)
+      → IsUnwritten shows text found may_leave old q reply fault new → new.keeper ≡ old.keeper
+      → (IsSound text found may_leave old → IsSound text found may_leave new)
+      → Journals takes kept has_place shows text found may_leave old q reply (Err fault) new
+  unwritten_is old q reply fault new un same sound = record {
+    noted = λ ok. absurd (cc ok);
+    asked = λ ok. absurd (cc ok);
+    durable = λ ok. absurd (cc ok);
+    placed = λ ok. absurd (cc ok);
+    stays = λ ok. absurd (cc ok);
+    taken = λ ok. absurd (cc ok);
+    missed = λ f is.
+        let same_fault : fault ≡ f = cc is in
+        subst (λ (g : DeskFault). Misses takes kept shows text found may_leave old q reply g new) same_fault (unwritten un same);
+    sound = sound;
+  }
+
+  -- an accepted command, whose line is durable
+  pub kept_is : (old mid new : Keeper K J C) (q : Command) (reply : Reply) (edits : List Edit) → is_accepted reply ≡ true → IsNoted shows text old q reply mid
+      → mid.last ≡ Settled → IsDurable text may_leave mid.journal → (IsSound text found may_leave old → IsSound text found may_leave mid)
+      → mid.keeper ≡ old.keeper → IsBeside mid new → new.last ≡ mid.last → takes mid.keeper q reply (Ok tt) new.keeper
+      → CommitsAt {X = Unit {0}} has_place (kept mid.keeper) (kept new.keeper) edits mid.at (Ok tt)
+      → Journals takes kept has_place shows text found may_leave old q reply (Ok tt) new
+  kept_is old mid new q reply edits is noted settled durable sound same beside last taken commits = record {
+    noted = λ ok has. (noted_as old mid new q reply noted beside, last ∙ settled);
+    asked = λ ok none. true_false (has_line q reply) (has_its_line q reply is) none;
+    durable = λ ok accepted. subst (IsDurable text may_leave) (sym beside.journal) durable;
+    placed = λ ok accepted.
+        subst (λ (p : Place). ComesTo has_place (kept old.keeper) (kept new.keeper) p) (sym beside.at)
+        (subst (λ (k : K). ComesTo has_place (kept k) (kept new.keeper) mid.at) same
+        (comes has_place (kept mid.keeper) (kept new.keeper) edits mid.at commits));
+    stays = λ ok refused. true_false (is_accepted reply) is refused;
+    taken = λ ok. subst (λ (k : K). takes k q reply (Ok tt) new.keeper) same taken;
+    missed = λ f is_fault. absurd (cc is_fault);
+    sound = λ was. sound_as mid new beside (sound was);
+  }
+
+  pub unkept_is : (old mid new : Keeper K J C) (q : Command) (reply : Reply) (fault : DeskFault) (edits : List Edit) → is_accepted reply ≡ true
+      → IsNoted shows text old q reply mid → IsDurable text may_leave mid.journal → (IsSound text found may_leave old → IsSound text found may_leave mid)
+      → mid.keeper ≡ old.keeper → IsBeside mid new → new.last ≡ left_by fault → takes mid.keeper q reply (Err fault) new.keeper
+      → CommitsAt {X = Unit {0}} has_place (kept mid.keeper) (kept new.keeper) edits mid.at (Err fault)
+      → Journals takes kept has_place shows text found may_leave old q reply (Err fault) new
+  unkept_is old mid new q reply fault edits is noted durable sound same beside last taken commits = record {
+    noted = λ ok. absurd (cc ok);
+    asked = λ ok. absurd (cc ok);
+    durable = λ ok. absurd (cc ok);
+    placed = λ ok. absurd (cc ok);
+    stays = λ ok. absurd (cc ok);
+    taken = λ ok. absurd (cc ok);
+    missed = λ f is_fault.
+        let same_fault : fault ≡ f = cc is_fault in
+        subst (λ (g : DeskFault). Misses takes kept shows text found may_leave old q reply g new) same_fault
+        (unkept (noted_as old mid new q reply noted beside) (last ∙ ap (λ (b : Bool). left b fault) (sym is))
+        (λ accepted. subst (IsDurable text may_leave) (sym beside.journal) durable)
+        (subst (λ (k : K). takes k q reply (Err fault) new.keeper) same taken)
+        (subst (λ (k : K). StaysShown (kept k) (kept new.keeper)) same
+        (shows_still has_place (kept mid.keeper) (kept new.keeper) edits mid.at fault commits)));
+    sound = λ was. sound_as mid new beside (sound was);
+  }
+
+  -- a refused one with its line
+  pub refused_is : (old mid new : Keeper K J C) (q : Command) (reply : Reply) (came : Came) → is_refused reply ≡ true → is_show q.kind ≡ false
+      → IsNoted shows text old q reply mid → mid.last ≡ Settled → (IsSound text found may_leave old → IsSound text found may_leave mid)
+      → mid.keeper ≡ old.keeper → IsBeside mid new → new.last ≡ mid.last → takes mid.keeper q reply came new.keeper
+      → Stays (kept mid.keeper) (kept new.keeper) → Journals takes kept has_place shows text found may_leave old q reply came new
+  refused_is old mid new q reply came refused asks noted settled sound same beside last taken stays =
+      let refusal : is_accepted reply ≡ false = refused_reply reply refused in
+      let shown : StaysShown (kept old.keeper) (kept new.keeper) =
+      subst (λ (k : K). StaysShown (kept k) (kept new.keeper)) same (stays_shown (kept mid.keeper) (kept new.keeper) stays) in
+      let called : takes old.keeper q reply came new.keeper = subst (λ (k : K). takes k q reply came new.keeper) same taken in
+      record {
+        noted = λ ok has. (noted_as old mid new q reply noted beside, last ∙ settled);
+        asked = λ ok none. true_false (has_line q reply) (has_one_too q reply asks refusal) none;
+        durable = λ ok accepted. true_false (is_accepted reply) accepted refusal;
+        placed = λ ok accepted. true_false (is_accepted reply) accepted refusal;
+        stays = λ ok refused_too. shown;
+        taken = λ ok. subst (λ (c : Came). takes old.keeper q reply c new.keeper) ok called;
+        missed = λ f is.
+            unkept (noted_as old mid new q reply noted beside) (last ∙ settled ∙ ap (λ (b : Bool). left b f) (sym refusal))
+            (λ accepted. true_false (is_accepted reply) accepted refusal)
+            (subst (λ (c : Came). takes old.keeper q reply c new.keeper) is called) shown;
+        sound = λ was. sound_as mid new beside (sound was);
+      }
+
+  -- one that asks
+  pub asked_is : (old new : Keeper K J C) (q : Command) (reply : Reply) (came : Came) → is_refused reply ≡ true → is_show q.kind ≡ true
+      → IsBeside old new → new.last ≡ old.last → takes old.keeper q reply came new.keeper
+      → Stays (kept old.keeper) (kept new.keeper) → Journals takes kept has_place shows text found may_leave old q reply came new
+  asked_is old new q reply came refused asks beside last taken stays =
+      let refusal : is_accepted reply ≡ false = refused_reply reply refused in
+      let shown : StaysShown (kept old.keeper) (kept new.keeper) = stays_shown (kept old.keeper) (kept new.keeper) stays in
+      let same : IsAsItWas old new =
+      record { journal = beside.journal; clock = beside.clock; login = beside.login; at = beside.at; last = last } in
+      record {
+        noted = λ ok has. true_false (has_line q reply) has (has_none q reply asks refusal);
+        asked = λ ok none. same;
+        durable = λ ok accepted. true_false (is_accepted reply) accepted refusal;
+        placed = λ ok accepted. true_false (is_accepted reply) accepted refusal;
+        stays = λ ok refused_too. shown;
+        taken = λ ok. subst (λ (c : Came). takes old.keeper q reply c new.keeper) ok taken;
+        missed = λ f is.
+            unasked (has_none q reply asks refusal) same (subst (λ (c : Came). takes old.keeper q reply c new.keeper) is taken) shown;
+        sound = λ was. sound_as old new beside was;
+      }

@@ -1,0 +1,44 @@
+use Rattle.std.proofs.Common.{[], None, ◌∙◌, ap, map, sym}
+use Rattle.clr_book.specs.Book.{Shelved}
+use Rattle.clr_journal.specs.Journals.{carried_out, withdraws}
+use Rattle.clr_journal.specs.Line.{entry_of}
+use Rattle.clr_level.specs.Forward.{CanBeOpened}
+use Rattle.clr_level.specs.declared.keeper.Keeper.{Keeper}
+use Rattle.clr_level.proofs.Forwarding.{goes_on, still_good, stops_on}
+use Rattle.clr_level.proofs.Openings.{opened_level}
+use Rattle.clr_level.proofs.opening.with_journal.Goals as goal
+
+pub returns-in-Ok-clause-level : goal.returns-in-Ok-clause-level
+returns-in-Ok-clause-level g c first start good can =
+    let kept = g.K.Commit.kept in
+    let has_place = g.K.CommitAt.has_place in
+    let R = c.args.desk.book.register in
+    let lines = map entry_of c.args.lines.items in
+    let desk = c.roll_forward-came.result.1 in
+    let at = c.roll_forward-came.result.2 in
+    let store = c.of.ensures.store in
+    let come = goes_on kept has_place R c.args.place lines c.roll_forward-came.result.0 c.in-Ok.field-0 desk at None [] c.in-Ok.is
+    (c.roll_forward-came.ensures.went (still_good first R (carried_out (CanBeOpened.level can).had) good (CanBeOpened.level can).run)
+    (ap withdraws (sym can.more_is) ∙ (CanBeOpened.level can).kept) can.shallow can.placed) in
+    opened_level has_place first R start c.args.place lines kept g.J.Journal.text (kept c.args.desk.store) c.args.journal desk.book.register desk.store at
+    c.of.result.store c.of.result.book.register can come (ap (λ (b : Shelved). b.register) (c.of.ensures.book ∙ c.parted-book.ensures.book))
+    (ap (λ (k : Keeper g.row.K.Denot g.row.J.Denot g.row.C.Denot). k.keeper) store ∙ c.new-keeper.ensures.keeper ∙ c.parted-book.ensures.kept)
+    (ap (λ (k : Keeper g.row.K.Denot g.row.J.Denot g.row.C.Denot). k.journal) store ∙ c.new-keeper.ensures.journal)
+    (ap (λ (k : Keeper g.row.K.Denot g.row.J.Denot g.row.C.Denot). k.at) store ∙ c.new-keeper.ensures.at)
+    (ap (λ (k : Keeper g.row.K.Denot g.row.J.Denot g.row.C.Denot). k.last) store ∙ c.new-keeper.ensures.last)
+
+pub returns-in-Ok-clause-led : goal.returns-in-Ok-clause-led
+returns-in-Ok-clause-led g c =
+    let store = c.of.ensures.store in
+    record {
+      before = c.roll_forward-came.result.1;
+      led = c.roll_forward-came.ensures.led;
+      book = c.of.ensures.book ∙ c.parted-book.ensures.book;
+      keeper = ap (λ (k : Keeper g.row.K.Denot g.row.J.Denot g.row.C.Denot). k.keeper) store ∙ c.new-keeper.ensures.keeper ∙ c.parted-book.ensures.kept;
+    }
+
+pub returns-in-Err-clause-stops : goal.returns-in-Err-clause-stops
+returns-in-Err-clause-stops g c = λ good begins shallow at.
+    stops_on g.K.Commit.kept g.K.CommitAt.has_place c.args.desk.book.register c.args.place (map entry_of c.args.lines.items) c.roll_forward-came.result.0
+    c.in-Err.fault c.roll_forward-came.result.1 c.roll_forward-came.result.2 None [] c.in-Err.is
+    (c.roll_forward-came.ensures.went good begins shallow at)

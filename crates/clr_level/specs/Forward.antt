@@ -1,0 +1,154 @@
+-- ROLLING FORWARD: what an opening carries out of the lines after a register's place.
+use Rattle.std.specs.Prelude.{◌≡◌, ◌≢◌, ◌≤◌, ℕ, true, false, List, [], ◌∷◌, ◌++◌, Option}
+use Rattle.std.specs.Prelude.{None, Some, IfSome, Result, Ok, Err, ⊤, if◌then◌else◌}
+use Rattle.serde_json.specs.Data.{depth}
+use Rattle.serde_json.specs.View.{view}
+use Rattle.sqlite.specs.State.{State}
+use Rattle.clr_rules.specs.Answer.{Answer, answer}
+use Rattle.clr_rules.specs.Register.{Register}
+use Rattle.clr_rules.specs.declared.command.Command.{Command}
+use Rattle.clr_rules.specs.declared.reply.Reply.{Reply}
+use Rattle.clr_answer.specs.Decision.{is_accepted as accepts}
+use Rattle.clr_place.specs.declared.place.Place.{Place}
+use Rattle.clr_text.specs.Replies.{reply_data}
+use Rattle.clr_journal.specs.Journals.{carried_out, withdraws}
+use Rattle.clr_journal.specs.Line.{Entry, carried, is_accepted, withdrawn}
+use Rattle.clr_journal.specs.declared.line.Carried.{Carried}
+use Rattle.clr_journal.specs.declared.line.Line.{Line}
+use Rattle.clr_journal.specs.declared.line.Line.TheVariants as line
+use Rattle.clr_chain.specs.Chain.{chain_text}
+use Rattle.clr_chain.specs.Level.{IsLevel, IsRunOf, ends_with_command, place_after}
+use Rattle.clr_chain.specs.declared.finding.Ahead.{Ahead}
+use Rattle.clr_chain.specs.declared.finding.Found.{Found}
+use Rattle.clr_chain.specs.declared.finding.Found.TheVariants as found
+use Rattle.clr_desk.specs.Taking.{Came, Hearing, Taking}
+use Rattle.clr_desk.specs.declared.desk.Desk.{Desk}
+use Rattle.clr_desk.specs.declared.desk_fault.DeskFault.{DeskFault}
+use Rattle.clr_desk.specs.Placing.{Placing}
+use Rattle.clr_level.specs.Placing.{ComesTo, IsAt, StaysShown}
+use Rattle.clr_level.specs.declared.fault.OpeningFault.{OpeningFault}
+use Rattle.clr_level.specs.declared.fault.OpeningFault.TheVariants.{OtherRegister, TooShort}
+use Rattle.clr_level.specs.declared.fault.OpeningFault.TheVariants.{Differs, BadLine}
+use Rattle.clr_level.specs.declared.fault.OpeningFault.TheVariants.{Desk as Failed}
+use Rattle.clr_level.specs.declared.keeper.Keeper.{Keeper}
+use Rattle.clr_level.specs.declared.placing.Placed.{Placed}
+
+-- its reply nests no deeper than any that is read
+abbrev pub IsShallow : Entry → Type 0
+IsShallow (carried receipt q reply) = depth reply ≤ 127
+IsShallow (withdrawn n) = ⊤
+
+abbrev pub AreShallow : List Entry → Type 0
+AreShallow [] = ⊤
+AreShallow (entry ∷ rest) = IsShallow entry × AreShallow rest
+
+-- a command that was accepted is open until it is known whether the next line withdraws it
+abbrev pub open_entries : Option Carried → List Entry
+open_entries None = []
+open_entries (Some one) = carried one.receipt one.command (view one.reply) ∷ []
+
+abbrev pub IsAccepted : Carried → Type 0
+IsAccepted one = is_accepted (view one.reply) ≡ true
+
+abbrev pub opened_by : Line → Option Carried
+opened_by (line.Carried one) = if is_accepted (view one.reply) then Some one else None
+opened_by (line.Withdrawn n) = None
+
+-- the open command at a line: one that has a command closes it before
+abbrev pub open_after : Line → Option Carried → Option Carried
+open_after (line.Carried one) open_one = None
+open_after (line.Withdrawn n) open_one = open_one
+
+-- HOW FAR A REGISTER HAS COME of these lines, which come after its place. It has the commands of the
+-- first; of those after them none is left to be done; then come the open one, and the rest
+pub record HasCome (has_place : Placing) (R : Register) (place : Place) (lines : List Entry)
+    (S : Register) (s : State) (at : Place) (open_one : Option Carried) (rest : List Entry)
+    : Type 0 where
+  pub had : List Entry
+  pub idle : List Entry
+  pub all_is : lines ≡ had ++ ((idle ++ open_entries open_one) ++ rest)
+  pub at_command : ends_with_command had ≡ true
+  pub begins : withdraws ((idle ++ open_entries open_one) ++ rest) ≡ false
+  pub none : carried_out idle ≡ []
+  pub accepted : IfSome open_one IsAccepted
+  pub run : IsRunOf R (carried_out had) S
+  pub at_is : at ≡ place_after place (had ++ (idle ++ open_entries open_one))
+  pub placed : IsAt has_place s (place_after place had)
+  pub shallow : AreShallow (open_entries open_one ++ rest)
+
+-- it has come somewhere
+pub record HasStopped (has_place : Placing) (R : Register) (place : Place) (lines : List Entry)
+    (S : Register) (s : State) : Type 0 where
+  pub at : Place
+  pub open_one : Option Carried
+  pub rest : List Entry
+  pub come : HasCome has_place R place lines S s at open_one rest
+
+-- THE LINE OF THIS NUMBER DIFFERS: the register that has come to it answers its command otherwise
+pub record DiffersAt (has_place : Placing) (R : Register) (place : Place) (lines : List Entry)
+    (number : ℕ) (S : Register) (s : State) : Type 0 where
+  pub at : Place
+  pub one : Carried
+  pub rest : List Entry
+  pub come : HasCome has_place R place lines S s at (Some one) rest
+  pub number_is : number ≡ one.receipt.number
+  pub other : view one.reply ≢ reply_data (Answer.reply (answer S one.command))
+
+-- where lines stop, by the fault
+abbrev pub StopsAt : Placing → Register → Place → List Entry → OpeningFault → Register → State
+    → Type 0
+StopsAt has_place R place lines (Differs n) S s = DiffersAt has_place R place lines n S s
+StopsAt has_place R place lines OtherRegister S s = HasStopped has_place R place lines S s
+StopsAt has_place R place lines TooShort S s = HasStopped has_place R place lines S s
+StopsAt has_place R place lines (BadLine n) S s = HasStopped has_place R place lines S s
+StopsAt has_place R place lines (Failed cause) S s = HasStopped has_place R place lines S s
+
+-- what comes of lines
+abbrev pub Went : {K : Type 0} → (K → State) → Placing → Register → Place → List Entry
+    → Result (Unit {0}) OpeningFault → Desk K → Place → Option Carried → List Entry → Type 0
+Went kept has_place R place lines (Ok done) desk at open_one rest =
+    HasCome has_place R place lines desk.book.register (kept desk.store) at open_one rest
+Went kept has_place R place lines (Err fault) desk at open_one rest =
+    StopsAt has_place R place lines fault desk.book.register (kept desk.store)
+
+-- ---- one command
+
+-- a keeper below, with one place for each change
+pub record Carries {K : Type 0} (takes : Taking K) (kept : K → State) (has_place : Placing)
+    (old : Placed K) (q : Command) (reply : Reply) (came : Came) (new : Placed K) : Type 0 where
+  pub taken : takes old.keeper q reply came new.keeper
+  pub same : new.place ≡ old.place
+  pub placed : came ≡ Ok tt → accepts reply ≡ true
+      → ComesTo has_place (kept old.keeper) (kept new.keeper) old.place
+  pub stays : (fault : DeskFault) → came ≡ Err fault → StaysShown (kept old.keeper) (kept new.keeper)
+
+abbrev pub HearsBelow : {K : Type 0} → Hearing K → Placed K → Option (List ℕ) → Placed K → Type 0
+HearsBelow hears old login new = hears old.keeper login new.keeper
+
+-- ---- the opening
+
+-- what is found gives the lines ahead, or the fault of its name
+abbrev pub IsAheadOf : Found → Result Ahead OpeningFault → Type 0
+IsAheadOf found.OtherRegister result = result ≡ Err OtherRegister
+IsAheadOf found.TooShort result = result ≡ Err TooShort
+IsAheadOf (found.Differs n) result = result ≡ Err (Differs n)
+IsAheadOf (found.BadLine n) result = result ≡ Err (BadLine n)
+IsAheadOf (found.Ahead ahead) result = result ≡ Ok ahead
+
+-- A REGISTER AND A JOURNAL CAN BE OPENED: they are level at this place, and these lines come after it
+pub record CanBeOpened (has_place : Placing) (first : Register) (start place : Place)
+    (R : Register) (s : State) (text : List ℕ) (lines : List Entry) : Type 0 where
+  pub entries : List Entry
+  pub level : IsLevel first start entries place R
+  pub text_is : text ≡ chain_text start entries
+  pub more_is : IsLevel.more level ≡ lines
+  pub placed : IsAt has_place s place
+  pub shallow : AreShallow lines
+
+-- a desk with a journal goes on from a state that the desk without it came to
+pub record IsOver {K J C : Type 0} (leads_to : Desk K → Desk K → Type 0) (desk : Desk K)
+    (opened : Desk (Keeper K J C)) : Type 0 where
+  pub before : Desk K
+  pub led : leads_to desk before
+  pub book : opened.book ≡ before.book
+  pub keeper : opened.store.keeper ≡ before.store

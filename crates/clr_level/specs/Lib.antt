@@ -1,0 +1,4 @@
+pub mod Placing
+pub mod Journaling
+pub mod Levelling
+pub mod Forward

@@ -1,0 +1,223 @@
+//! A register is rolled forward through the lines after its place.
+ghost use Rattle.std.specs.Prelude.{◌≡◌, ◌∷◌, false, IfOk, List, [], map, None, OnOk, Some};
+ghost use Rattle.serde_json.specs.View.{view};
+ghost use Rattle.clr_rules.specs.Answer.{Answer, answer};
+ghost use Rattle.clr_rules.specs.Good.{IsGood};
+ghost use Rattle.clr_rules.specs.Register.{Register};
+ghost use Rattle.clr_place.specs.declared.place.Place.{Place};
+ghost use Rattle.clr_journal.specs.Journals.{withdraws};
+ghost use Rattle.clr_journal.specs.Line.{Entry, entry_of};
+ghost use Rattle.clr_desk.specs.Given.{LeadsTo};
+ghost use Rattle.clr_verify.specs.Replies.{DecidesReply};
+ghost use Rattle.clr_level.specs.Forward.{AreShallow, HasCome, Went, open_after, opened_by};
+ghost use Rattle.clr_level.specs.Placing.{IsAt};
+
+use crate::fault::OpeningFault;
+use crate::placing::carry_at;
+use clr_chain::step;
+use clr_desk::{CommitAt, Desk, DeskFault};
+use clr_journal::{Carried, Line, is_accepted};
+use clr_place::Place;
+use clr_verify::is_reply;
+use std::alloc::{AllocError, Global};
+
+/// A desk on its way through the lines after its register's place.
+#[derive(Drop)]
+pub(crate) struct Forward<K: CommitAt> {
+    pub(crate) desk: Desk<K>,
+    /// The place after the lines so far.
+    pub(crate) at: Place,
+    /// The command of the last line, if it was accepted: it is carried out unless the next line
+    /// withdraws it.
+    pending: Option<Carried>,
+}
+
+/// Carries out what was accepted in these lines and not withdrawn, in order, each command with the
+/// place at its line, and gives the place after all lines.
+pub(crate) fn roll_forward<K: CommitAt>(
+    alloc: Global,
+    desk: Desk<K>,
+    place: Place,
+    lines: Vec<Line>,
+) -> (Result<(), OpeningFault>, Desk<K>, Place)
+    ensures went { IsGood desk.book.register → withdraws (map entry_of lines.items) ≡ false
+        → AreShallow (map entry_of lines.items) → IsAt K.has_place (K.kept desk.store) place
+        → Went K.kept K.has_place desk.book.register place (map entry_of lines.items)
+        result.0 result.1 result.2 None [] }
+    ensures led { LeadsTo K.kept K.takes K.hears desk result.1 }
+{
+    let mut left = lines;
+    left.reverse();
+    let mut forward = Forward {
+        desk,
+        at: place,
+        pending: None,
+    };
+    while let Some(line) = left.pop() {
+        let (came, next) = forward.line(alloc, line);
+        forward = next;
+        if let Err(fault) = came {
+            return (Err(fault), forward.desk, forward.at);
+        }
+    }
+    let (came, forward) = forward.close(alloc);
+    (came, forward.desk, forward.at)
+}
+
+impl<K: CommitAt> Forward<K> {
+    /// Takes the next line. The command before it is carried out, unless the line withdraws it.
+    fn line(self, alloc: Global, line: Line) -> (Result<(), OpeningFault>, Forward<K>)
+        ensures went { (R : Register) (place : Place) (lines rest : List Entry) → IsGood R
+            → HasCome K.has_place R place lines self.desk.book.register (K.kept self.desk.store)
+            self.at self.pending (entry_of line ∷ rest)
+            → Went K.kept K.has_place R place lines result.0 result.1.desk result.1.at
+            result.1.pending rest }
+        ensures led { LeadsTo K.kept K.takes K.hears self.desk result.1.desk }
+    {
+        let (came, before) = self.before(alloc, &line);
+        if let Err(fault) = came {
+            return (Err(fault), before);
+        }
+        before.past(alloc, line)
+    }
+
+    /// Carries out the open command before a line that has another.
+    fn before(self, alloc: Global, line: &Line) -> (Result<(), OpeningFault>, Forward<K>)
+        ensures went { (R : Register) (place : Place) (lines rest : List Entry) → IsGood R
+            → HasCome K.has_place R place lines self.desk.book.register (K.kept self.desk.store)
+            self.at self.pending (entry_of line.now ∷ rest)
+            → Went K.kept K.has_place R place lines result.0 result.1.desk result.1.at
+            result.1.pending (entry_of line.now ∷ rest) }
+        ensures closed { OnOk result.0 (result.1.pending ≡ open_after line.now self.pending) }
+        ensures led { LeadsTo K.kept K.takes K.hears self.desk result.1.desk }
+    {
+        match line {
+            Line::Carried(_) => self.close(alloc),
+            Line::Withdrawn(_) => (Ok(()), self),
+        }
+    }
+
+    /// Goes past a line, before which no command is open but one that it withdraws.
+    fn past(self, alloc: Global, line: Line) -> (Result<(), OpeningFault>, Forward<K>)
+        ensures went { (R : Register) (place : Place) (lines rest : List Entry)
+            → self.pending ≡ open_after line self.pending
+            → HasCome K.has_place R place lines self.desk.book.register (K.kept self.desk.store)
+            self.at self.pending (entry_of line ∷ rest)
+            → Went K.kept K.has_place R place lines result.0 result.1.desk result.1.at
+            result.1.pending rest }
+        ensures desk { result.1.desk ≡ self.desk }
+    {
+        let mut forward = self;
+        match step(alloc, &mut forward.at, &line) {
+            Ok(true) => {
+                forward.pending = opened_by(line);
+                (Ok(()), forward)
+            }
+            Ok(false) => {
+                let number = forward.at.number.saturating_add(1);
+                (Err(OpeningFault::BadLine(number)), forward)
+            }
+            Err(_) => (Err(OpeningFault::Desk(DeskFault::NoMemory)), forward),
+        }
+    }
+
+    /// Carries out the open command, if there is one, where its answer is that of its line.
+    fn close(self, alloc: Global) -> (Result<(), OpeningFault>, Forward<K>)
+        ensures went { (R : Register) (place : Place) (lines rest : List Entry) → IsGood R
+            → withdraws rest ≡ false
+            → HasCome K.has_place R place lines self.desk.book.register (K.kept self.desk.store)
+            self.at self.pending rest
+            → Went K.kept K.has_place R place lines result.0 result.1.desk result.1.at None rest }
+        ensures closed { OnOk result.0 (result.1.pending ≡ None) }
+        ensures led { LeadsTo K.kept K.takes K.hears self.desk result.1.desk }
+    {
+        let Forward { desk, at, pending } = self;
+        match pending {
+            None => (
+                Ok(()),
+                Forward {
+                    desk,
+                    at,
+                    pending: None,
+                },
+            ),
+            Some(one) => carry_out(alloc, desk, at, one),
+        }
+    }
+}
+
+/// Carries out a command, where its answer is that of its line.
+fn carry_out<K: CommitAt>(
+    alloc: Global,
+    desk: Desk<K>,
+    at: Place,
+    one: Carried,
+) -> (Result<(), OpeningFault>, Forward<K>)
+    ensures went { (R : Register) (place : Place) (lines rest : List Entry) → IsGood R
+        → withdraws rest ≡ false
+        → HasCome K.has_place R place lines desk.book.register (K.kept desk.store) at (Some one) rest
+        → Went K.kept K.has_place R place lines result.0 result.1.desk result.1.at None rest }
+    ensures closed { OnOk result.0 (result.1.pending ≡ None) }
+    ensures led { LeadsTo K.kept K.takes K.hears desk result.1.desk }
+{
+    match is_answer(alloc, &desk, &one) {
+        Ok(true) => {
+            let (came, desk, at) = carry_at(desk, one.command, at);
+            let forward = Forward {
+                desk,
+                at,
+                pending: None,
+            };
+            match came {
+                Ok(_) => (Ok(()), forward),
+                Err(fault) => (Err(OpeningFault::Desk(fault)), forward),
+            }
+        }
+        Ok(false) => {
+            let number = one.receipt.number;
+            (
+                Err(OpeningFault::Differs(number)),
+                Forward {
+                    desk,
+                    at,
+                    pending: None,
+                },
+            )
+        }
+        Err(_) => {
+            let fault = OpeningFault::Desk(DeskFault::NoMemory);
+            (
+                Err(fault),
+                Forward {
+                    desk,
+                    at,
+                    pending: None,
+                },
+            )
+        }
+    }
+}
+
+/// Whether a command is answered as its line says.
+fn is_answer<K: CommitAt>(alloc: Global, desk: &Desk<K>, one: &Carried) -> Result<bool, AllocError>
+    ensures { IsGood desk.now.book.register → IfOk result (DecidesReply (view one.now.reply)
+        (Answer.reply (answer desk.now.book.register one.now.command))) }
+{
+    let decision = desk.book().answer(&one.command)?;
+    let is = is_reply(alloc, &one.reply, &decision.reply)?;
+    Ok(is)
+}
+
+/// The command of a line, if it was accepted.
+fn opened_by(line: Line) -> Option<Carried>
+    ensures { result ≡ opened_by line }
+{
+    match line {
+        Line::Carried(one) => if is_accepted(&one.reply) {
+            Some(one)
+        } else {
+            None
+        },
+        Line::Withdrawn(_) => None,
+    }
+}

@@ -1,0 +1,60 @@
+//! A keeper, and a journal in which each command has its line before the keeper takes it.
+ghost use Rattle.std.specs.Prelude.{◌≡◌, false, None};
+
+use crate::clock::Clock;
+use crate::last::Last;
+use clr_desk::CommitAt;
+use clr_journal::Journal;
+use clr_place::Place;
+use clr_rules::Text;
+use std::alloc::Global;
+
+/// A keeper, and a journal in which each command has its line before the keeper takes it. The
+/// keeper keeps the place of the register in the journal.
+#[derive(Drop)]
+pub struct Keeper<K: CommitAt, J: Journal + Drop, C: Clock> {
+    pub(crate) keeper: K,
+    pub(crate) journal: J,
+    pub(crate) clock: C,
+    pub(crate) alloc: Global,
+    /// The login of the next command.
+    pub(crate) login: Option<Text>,
+    /// Where the journal has come to.
+    pub(crate) at: Place,
+    /// No line was written after the last sync.
+    pub(crate) is_synced: bool,
+    pub(crate) last: Last,
+}
+
+impl<K: CommitAt, J: Journal + Drop, C: Clock> Keeper<K, J, C> {
+    /// A keeper with a journal that has come to this place, and whose commands are all carried out,
+    /// refused or withdrawn. No login was heard.
+    pub(crate) fn new(alloc: Global, keeper: K, journal: J, clock: C, at: Place) -> Keeper<K, J, C>
+        ensures keeper { result.keeper ≡ keeper }
+        ensures journal { result.journal ≡ journal }
+        ensures clock { result.clock ≡ clock }
+        ensures login { result.login ≡ None }
+        ensures at { result.at ≡ at }
+        ensures synced { result.is_synced ≡ false }
+        ensures last { result.last ≡ Last.Settled }
+    {
+        Keeper {
+            keeper,
+            journal,
+            clock,
+            alloc,
+            login: None,
+            at,
+            is_synced: false,
+            last: Last::Settled,
+        }
+    }
+
+    /// Hands back the keeper, and the journal as its last line left it.
+    pub fn end(self) -> (K, J)
+        ensures keeper { result.0 ≡ self.keeper }
+        ensures journal { result.1 ≡ self.journal }
+    {
+        (self.keeper, self.journal)
+    }
+}

@@ -1,0 +1,23 @@
+//! Laws of keepers with a journal: the contract of each function is the law, and its body is empty.
+ghost use Rattle.clr_level.specs.Levelling.{EitherIsLevel, LevelIsKept};
+ghost use Rattle.clr_level.specs.Levelling.{SettledIsWhatItSays, SoundIsKept};
+
+use crate::clock::Clock;
+use clr_desk::CommitAt;
+use clr_journal::Journal;
+
+/// Register, place and journal stay level over any number of commands, logins and faults, and what
+/// the keeper holds of its journal stays true. Where nothing is owed or in doubt, the register is
+/// what all lines of its journal say.
+pub fn level_is_kept<K: CommitAt, J: Journal + Drop, C: Clock>()
+    ensures kept { LevelIsKept K J C K.takes K.kept K.has_place C.shows J.text J.found
+        J.may_leave }
+    ensures sound { SoundIsKept K J C K.takes K.kept K.has_place C.shows J.text J.found
+        J.may_leave }
+    ensures settled { SettledIsWhatItSays K J C K.kept K.has_place J.text }
+{}
+
+/// Where the last command is in doubt, the register is level whether it was carried out or not.
+pub fn either_is_level()
+    ensures { EitherIsLevel }
+{}

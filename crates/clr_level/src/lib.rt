@@ -1,0 +1,22 @@
+//! A keeper with a journal, level with it: each command has its line before it is carried out, and
+//! the register keeps its place in the journal.
+#![tactic(auto)]
+
+mod brief;
+mod clock;
+mod fault;
+mod forward;
+mod keeper;
+mod keeping;
+mod last;
+pub mod laws;
+mod lines;
+mod noting;
+mod opening;
+mod placing;
+
+pub use clock::Clock;
+pub use fault::OpeningFault;
+pub use keeper::Keeper;
+pub use last::Last;
+pub use opening::{ahead_of, with_journal};

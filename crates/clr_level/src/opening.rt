@@ -1,0 +1,82 @@
+//! A register and its journal are opened together.
+ghost use Rattle.std.specs.Prelude.{◌≡◌, false, IfErr, IfOk, map, None};
+ghost use Rattle.clr_rules.specs.Good.{IsGood};
+ghost use Rattle.clr_rules.specs.Register.{Register};
+ghost use Rattle.clr_place.specs.declared.place.Place.{Place};
+ghost use Rattle.clr_journal.specs.Journals.{withdraws};
+ghost use Rattle.clr_journal.specs.Line.{entry_of};
+ghost use Rattle.clr_desk.specs.Given.{LeadsTo};
+ghost use Rattle.clr_level.specs.Forward.{AreShallow, CanBeOpened, IsAheadOf, IsOver, StopsAt};
+ghost use Rattle.clr_level.specs.Journaling.{HasText, IsSound};
+ghost use Rattle.clr_level.specs.Levelling.{IsKeptLevel};
+ghost use Rattle.clr_level.specs.Placing.{IsAt};
+
+use crate::clock::Clock;
+use crate::fault::OpeningFault;
+use crate::forward::roll_forward;
+use crate::keeper::Keeper;
+use crate::last::Last;
+use clr_chain::{Ahead, Found};
+use clr_desk::{CommitAt, Desk};
+use clr_journal::{Journal, Line};
+use clr_place::Place;
+use std::alloc::Global;
+
+/// The lines that come after a register's place, or why there are none.
+pub fn ahead_of(found: Found) -> Result<Ahead, OpeningFault>
+    ensures { IsAheadOf found result }
+{
+    match found {
+        Found::OtherRegister => Err(OpeningFault::OtherRegister),
+        Found::TooShort => Err(OpeningFault::TooShort),
+        Found::Differs(number) => Err(OpeningFault::Differs(number)),
+        Found::BadLine(number) => Err(OpeningFault::BadLine(number)),
+        Found::Ahead(ahead) => Ok(ahead),
+    }
+}
+
+/// Gives a desk its journal. The register has the commands up to its place; what was accepted in
+/// the lines after it, and not withdrawn, is carried out first, in order, each command with the
+/// place at its line.
+///
+/// `Differs` where a command is answered otherwise than its line says: it is not carried out, nor
+/// is any after it. `Desk` where a command is not carried out, or memory runs out. A fault gives
+/// the desk back, as far as it has come, and the journal, in which nothing was written.
+pub fn with_journal<K: CommitAt, J: Journal + Drop, C: Clock>(
+    alloc: Global,
+    desk: Desk<K>,
+    journal: J,
+    place: Place,
+    lines: Vec<Line>,
+    clock: C,
+) -> Result<Desk<Keeper<K, J, C>>, (OpeningFault, Desk<K>, J)>
+    ensures level { IfOk result (λ opened. (first : Register) (start : Place) → IsGood first
+        → CanBeOpened K.has_place first start place desk.book.register (K.kept desk.store)
+        (J.text journal) (map entry_of lines.items)
+        → IsKeptLevel K.kept K.has_place J.text first start opened.book.register opened.store) }
+    ensures sound { IfOk result (λ opened. HasText J.text J.found journal
+        → IsSound J.text J.found J.may_leave opened.store) }
+    ensures journal { IfOk result (λ opened. opened.store.journal ≡ journal) }
+    ensures clock { IfOk result (λ opened. opened.store.clock ≡ clock) }
+    ensures login { IfOk result (λ opened. opened.store.login ≡ None) }
+    ensures settled { IfOk result (λ opened. opened.store.last ≡ Last.Settled) }
+    ensures led { IfOk result (λ opened. IsOver (LeadsTo K.kept K.takes K.hears) desk opened) }
+    ensures stops { IfErr result (λ back. IsGood desk.book.register
+        → withdraws (map entry_of lines.items) ≡ false → AreShallow (map entry_of lines.items)
+        → IsAt K.has_place (K.kept desk.store) place
+        → StopsAt K.has_place desk.book.register place (map entry_of lines.items) back.0
+        back.1.book.register (K.kept back.1.store)) }
+    ensures back { IfErr result (λ back. LeadsTo K.kept K.takes K.hears desk back.1) }
+    ensures unwritten { IfErr result (λ back. back.2 ≡ journal) }
+{
+    let (came, desk, at) = roll_forward(alloc, desk, place, lines);
+    match came {
+        Ok(()) => {
+            let faults = desk.faults();
+            let (book, keeper) = desk.parted();
+            let keeper = Keeper::new(alloc, keeper, journal, clock, at);
+            Ok(Desk::of(book, keeper, faults))
+        }
+        Err(fault) => Err((fault, desk, journal)),
+    }
+}
