@@ -122,7 +122,7 @@ def words(tree, tally):
     tally.check("a man page for each subcommand", pages == {"gridclear", *(f"gridclear-{one}" for one in commands)}, pages)
     completion = tree / "usr/share/bash-completion/completions/gridclear"
     for name in commands:
-        wanted = set(re.findall(r"--[a-z]+", run(command, name, "--help")[1].split("Options:")[1]))
+        wanted = set(re.findall(r"--[a-z][a-z-]*", run(command, name, "--help")[1].split("Options:")[1]))
         ask = f"source {completion}; COMP_WORDS=(gridclear {name} --); COMP_CWORD=2; _gridclear; echo ${{COMPREPLY[*]}}"
         found = set(run("bash", "-c", ask)[1].split())
         tally.check(f"the completion of {name}", found == wanted, f"{found} {wanted}")

@@ -76,7 +76,7 @@ class Subcommands:
                 usage, does = cells(line)
                 self.rows.setdefault(usage.strip("`").split()[0], []).append((usage, does))
         offset = re.search(r"^((?:`\w+`(?:, | and )?)+) take `--offset", self.text, re.M).group(1)
-        self.options = {name: set(re.findall(r"--[a-z]+", " ".join(usage + does.split(";")[-1] for usage, does in rows)))
+        self.options = {name: set(re.findall(r"--[a-z][a-z-]*", " ".join(usage + does.split(";")[-1] for usage, does in rows)))
                         for name, rows in self.rows.items()}
         for name in re.findall(r"`(\w+)`", offset):
             self.options[name].add("--offset")
