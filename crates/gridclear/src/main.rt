@@ -1,7 +1,7 @@
 //! The switching order and clearance register of a system operator: the program.
 #![tactic(auto)]
 
-ghost use Rattle.std.specs.Prelude.{◌≡◌, ◌≤◌, IfErr, IfOk, None, map};
+ghost use Rattle.std.specs.Prelude.{◌≡◌, ◌≤◌, [], IfErr, IfOk, None, map, true};
 ghost use Rattle.std.specs.IoError.{error_kind};
 ghost use Rattle.std.specs.Process.{exit_status};
 ghost use Rattle.clr_disk.specs.Place.{IsOther, IsOwn};
@@ -12,13 +12,16 @@ ghost use Rattle.clr_command_line.specs.Around.{around, steps};
 ghost use Rattle.clr_command_line.specs.CommandLine.{AnswersNone, AnswersWords, moment};
 ghost use Rattle.clr_command_line.specs.Report.{IsReported};
 
+mod copies;
+mod either;
 mod input;
 mod line;
 
+use crate::copies::WithCopy;
 use crate::input::StandardInput;
 use crate::line::{Answers, CommandLine};
 use clr_append::{Journal, OnDisk};
-use clr_disk::{Behind, Host, System, Timed, Watch, Watched};
+use clr_disk::{Behind, System, Timed, Watch, Watched};
 use clr_edge::database::{Databases, Makes};
 use clr_edge::journals::{Journals, Seconds};
 use clr_edge::loopback::Loopback;
@@ -26,7 +29,7 @@ use clr_edge::machine::{DatabaseStart, JournalStart, Machine};
 use clr_edge::paths::{AtPath, Paths};
 use clr_journaled::Clock as JournalClock;
 use clr_stream::{Counted, CountedFlush, CountedRead, CountedWrite};
-use sqlite_disk::Disk;
+use sqlite_disk::{Disk, Start};
 use std::convert::AsStr;
 use std::io::Read;
 use std::net::TcpStream;
@@ -37,6 +40,26 @@ use std::{env, io};
 
 /// One of the two handles of a connection.
 type Handle<K> = Counted<Timed<TcpStream, K>>;
+
+/// The files of a copy of the program's database, of which nothing is supposed together with the
+/// database. A torn write leaves each of their bytes old or new, as there.
+///
+/// Its ghosts have to be some bytes, and are none. So a clause at this type speaks of files that
+/// were empty alone: what holds of any is stated over any system.
+#[derive(Drop)]
+pub struct CopyStart;
+
+impl Start for CopyStart {
+    ghost log = { [] };
+
+    ghost db = { [] };
+
+    ghost is_mixing = { true };
+
+    fn mixes() -> bool {
+        true
+    }
+}
 
 fn main(rt: HostRuntime) -> ExitCode {
     program(&rt)
@@ -56,7 +79,7 @@ fn program(rt: &HostRuntime) -> ExitCode
         Ok(words) => words.collect(rt.alloc()).map_err(io::Error::from),
         Err(fault) => Err(fault),
     };
-    let files: Host<DatabaseStart, JournalStart> = Host::of_files(rt);
+    let files: WithCopy<DatabaseStart, CopyStart, JournalStart> = WithCopy::of_files(rt);
     let mut line = CommandLine {
         words: &words,
         paths: Paths::new(&files),
@@ -64,7 +87,7 @@ fn program(rt: &HostRuntime) -> ExitCode
         output: Behind::new(Counted::new(rt.stdout()), &watch),
         errors: Behind::new(Counted::new(rt.stderr()), &watch),
     };
-    let system = Host::new(rt, DatabaseStart, JournalStart);
+    let system = WithCopy::new(rt, DatabaseStart, CopyStart, JournalStart);
     let mut machine = Machine::watched(rt.alloc(), system, &watch);
     let status = answer_line(&mut machine, &mut line);
     exit_code(status)

@@ -1,0 +1,170 @@
+//! The system of the program, with a copy of its database.
+ghost use Rattle.std.specs.Prelude.{◌≡◌, ◌⊎◌, false, true, None, Some, ⊤};
+ghost use Rattle.sqlite.specs.Files.{image_of};
+ghost use Rattle.sqlite_wal.specs.Files.{image_at};
+
+use crate::either::Either;
+use clr_disk::{Host, Place, System};
+use sqlite::{FileFrom, Start};
+use sqlite_disk::{Disk, Files, Unknown};
+use sqlite_std_file::OpenError;
+use std::net::{SocketAddr, TcpListener};
+use std::time::Instant;
+use std::{fs, io};
+
+/// The file of a database, or that of its copy.
+type Medium<S, C> = Either<FileFrom<S>, FileFrom<C>>;
+
+/// The system that the program runs on. It opens the files of one database and of one journal, and
+/// then those of one database more, of which nothing is supposed together with the first.
+#[derive(Drop)]
+pub struct WithCopy<S: Start + Drop, C: Start + Drop, J: Start + Drop> {
+    host: Host<S, J>,
+    /// The system that opens the further database. It opens no journal.
+    copy: Host<C, Unknown>,
+    /// Whether the files of the first were asked for.
+    is_used: bool,
+}
+
+impl<S: Start + Drop, C: Start + Drop, J: Start + Drop> WithCopy<S, C, J> {
+    /// The system of a runtime, which has opened nothing yet.
+    pub fn new(rt: &HostRuntime, database: S, copy: C, journal: J) -> WithCopy<S, C, J>
+        ensures runtime { result.host.rt ≡ rt.now }
+        ensures database { result.host.database ≡ Some database }
+        ensures copy { result.copy.database ≡ Some copy }
+        ensures journal { result.host.journal ≡ Some journal }
+        ensures used { result.is_used ≡ false }
+    {
+        WithCopy {
+            host: Host::new(rt, database, journal),
+            copy: Host::new(rt, copy, Unknown),
+            is_used: false,
+        }
+    }
+
+    /// The system of a runtime that opens no database and no journal.
+    pub fn of_files(rt: &HostRuntime) -> WithCopy<S, C, J>
+        ensures runtime { result.host.rt ≡ rt.now }
+        ensures database { result.host.database ≡ None }
+        ensures copy { result.copy.database ≡ None }
+        ensures journal { result.host.journal ≡ None }
+    {
+        WithCopy {
+            host: Host::of_files(rt),
+            copy: Host::of_files(rt),
+            is_used: false,
+        }
+    }
+}
+
+/// Each method is that of the host, but for the files of a further database.
+impl<S: Start + Drop, C: Start + Drop, J: Start + Drop> System for WithCopy<S, C, J> {
+    type File = fs::File;
+
+    type Medium = Medium<S, C>;
+
+    type JournalMedium = FileFrom<J>;
+
+    type Clock = HostRuntime;
+
+    ghost is_file = { λ _ _. ⊤ };
+
+    ghost lacks_file = { λ _ _. ⊤ };
+
+    ghost has_size = { λ _ _. ⊤ };
+
+    ghost lacks_size = { λ _ _. ⊤ };
+
+    ghost is_place = { λ _ _. ⊤ };
+
+    ghost lacks_place = { λ _ _. ⊤ };
+
+    ghost lacks_seed = { λ _. ⊤ };
+
+    ghost has_clock = { λ it clock. clock ≡ it.host.rt };
+
+    ghost is_now = { λ _ _. ⊤ };
+
+    ghost has_files = { λ old _ files new.
+        ((old.is_used ≡ false)
+        × (new ≡ record old { host = record old.host { database = None }; is_used = true })
+        × (image_of ⟦<Medium<S, C> as Disk>⟧ files ≡ image_at S.Start))
+        ⊎ ((old.is_used ≡ true) × (new ≡ record old { copy = record old.copy { database = None } })
+        × (image_of ⟦<Medium<S, C> as Disk>⟧ files ≡ image_at C.Start)) };
+
+    ghost lacks_files = { λ old _ new.
+        ((old.is_used ≡ false)
+        × (new ≡ record old { host = record old.host { database = None }; is_used = true }))
+        ⊎ ((old.is_used ≡ true)
+        × (new ≡ record old { copy = record old.copy { database = None } })) };
+
+    ghost lets_go = { λ old _ new. new ≡ old };
+
+    ghost has_journal_files = { λ old _ files new.
+        (new ≡ record old { host = record old.host { journal = None } })
+        × (image_of ⟦<FileFrom<J> as Disk>⟧ files ≡ image_at J.Start) };
+
+    ghost lacks_journal_files = { λ old _ new.
+        new ≡ record old { host = record old.host { journal = None } } };
+
+    ghost lets_journal_go = { λ old _ new. new ≡ old };
+
+    ghost listens = { λ old _ _ new. new ≡ old };
+
+    ghost refuses = { λ old _ _ new. new ≡ old };
+
+    fn file(&self, path: &str) -> io::Result<fs::File> {
+        self.host.file(path)
+    }
+
+    fn size(&self, path: &str) -> io::Result<u64> {
+        self.host.size(path)
+    }
+
+    fn place(&self, path: &str) -> io::Result<Place> {
+        self.host.place(path)
+    }
+
+    fn seed(&self) -> io::Result<u64> {
+        self.host.seed()
+    }
+
+    fn clock(&self) -> HostRuntime {
+        self.host.clock()
+    }
+
+    fn now(&self) -> io::Result<Instant> {
+        self.host.now()
+    }
+
+    fn files(&mut self, path: &str) -> Result<Files<Medium<S, C>>, OpenError> {
+        if self.is_used {
+            let Files { log, db } = self.copy.files(path)?;
+            let (log, db) = (Either::Second(log), Either::Second(db));
+            return Ok(Files { log, db });
+        }
+        self.is_used = true;
+        let Files { log, db } = self.host.files(path)?;
+        let (log, db) = (Either::First(log), Either::First(db));
+        Ok(Files { log, db })
+    }
+
+    fn let_go(&mut self, file: Medium<S, C>) {
+        match file {
+            Either::First(file) => self.host.let_go(file),
+            Either::Second(file) => self.copy.let_go(file),
+        }
+    }
+
+    fn journal_files(&mut self, path: &str) -> Result<Files<FileFrom<J>>, OpenError> {
+        self.host.journal_files(path)
+    }
+
+    fn let_journal_go(&mut self, file: FileFrom<J>) {
+        self.host.let_journal_go(file);
+    }
+
+    fn listener(&mut self, address: SocketAddr) -> io::Result<TcpListener> {
+        self.host.listener(address)
+    }
+}
