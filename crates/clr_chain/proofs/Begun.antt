@@ -13,7 +13,7 @@ use Rattle.clr_chain.proofs.LinksBack.{firsts_line, one_member}
 use Rattle.clr_chain.proofs.NotMissed.{from_first}
 use Rattle.clr_chain.specs.Chain.{all_but_first, links_of, read_on}
 use Rattle.clr_chain.specs.Finding.{Found, ahead, first_of, found_by, sought}
-use Rattle.clr_chain.specs.First.{end_at, first_data, first_text, if_own_place, place_in, read_first}
+use Rattle.clr_chain.specs.First.{end_at, first_data, first_text, if_own_place, place_in, read_first, rules}
 use Rattle.clr_chain.specs.Laws.{FirstsReadBack, NewJournalsOpen}
 use Rattle.clr_chain.specs.Near.{stopped}
 use Rattle.clr_chain.specs.Opening.{CanBegin, new_text}
@@ -22,14 +22,18 @@ use Rattle.clr_place.specs.declared.place.Place.{Place}
 abbrev sum_member : Place → Members
 sum_member first = member (codes "sum") (string first.sum) no_members
 
+abbrev rules_member : Place → Members
+rules_member first = member (codes "rules") (whole_data rules) (sum_member first)
+
 abbrev number_member : Place → Members
-number_member first = member (codes "number") (whole_data first.number) (sum_member first)
+number_member first = member (codes "number") (whole_data first.number) (rules_member first)
 
 is_plain_first : (first : Place) → CanBegin first → is_plain (first_data first) ≡ true
 is_plain_first first can =
     one_member (codes "journal") (string first.id) (number_member first) refl refl can.id
-    (one_member (codes "number") (whole_data first.number) (sum_member first) refl refl can.number
-    (one_member (codes "sum") (string first.sum) no_members refl refl can.sum refl))
+    (one_member (codes "number") (whole_data first.number) (rules_member first) refl refl can.number
+    (one_member (codes "rules") (whole_data rules) (sum_member first) refl refl refl
+    (one_member (codes "sum") (string first.sum) no_members refl refl can.sum refl)))
 
 same_bytes : (text : List ℕ) → bytes_eq text text ≡ true
 same_bytes text = (bytes_eq-Decides text text).1 refl

@@ -1,6 +1,6 @@
 -- THE FIRST LINE OF A JOURNAL is a place: the id of the register's journal, and the number and the
 -- sum after which its lines go on. They are those of the last line of the part before it; in a
--- first part the number is 0.
+-- first part the number is 0. It names the rules by which its commands were answered.
 use Rattle.std.specs.Prelude.{ℕ, List, codes, Option, None, Some, bytes_eq}
 use Rattle.std.specs.Prelude.{if◌then◌else◌, false, option_and_then, option_map}
 use Rattle.serde_json.specs.Data.{Data, member, no_members, object, string}
@@ -14,11 +14,16 @@ use Rattle.clr_journal.specs.declared.reading.Turn.{Turn}
 use Rattle.clr_chain.specs.declared.chain_end.ChainEnd.{ChainEnd}
 use Rattle.clr_place.specs.declared.place.Place.{Place}
 
+-- THE RULES that the program goes by. The number changes with each change of a reply to a command
+abbrev pub rules : ℕ
+rules = 1
+
 abbrev pub first_data : Place → Data
 first_data place =
     object (member (codes "journal") (string place.id)
     (member (codes "number") (whole_data place.number)
-    (member (codes "sum") (string place.sum) no_members)))
+    (member (codes "rules") (whole_data rules)
+    (member (codes "sum") (string place.sum) no_members))))
 
 -- THE TEXT OF A FIRST LINE, without its line feed
 unfoldable pub first_text : Place → List ℕ

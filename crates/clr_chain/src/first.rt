@@ -14,6 +14,9 @@ use clr_rules::Text;
 use serde_json::{Value, json};
 use std::alloc::{AllocError, Global};
 
+/// The rules that the program goes by. The number changes with each change of a reply to a command.
+const RULES: u64 = 1;
+
 /// How many bytes the first line has at most, with its line feed.
 pub(crate) const FRONT: usize = 4096;
 
@@ -32,7 +35,7 @@ fn first_value(alloc: Global, place: &Place) -> Result<Value, AllocError>
 {
     let id = Value::try_from_str(alloc, place.id.as_str())?;
     let sum = Value::try_from_str(alloc, place.sum.as_str())?;
-    json!(in alloc; {"journal": id, "number": place.number, "sum": sum})
+    json!(in alloc; {"journal": id, "number": place.number, "rules": RULES, "sum": sum})
 }
 
 /// The place that a journal begins with, by its bytes, of which the first are enough.

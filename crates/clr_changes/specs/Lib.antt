@@ -7,4 +7,4 @@ pub mod Needs
 pub mod Parts
 pub mod Outcome
 pub mod Lines
-pub mod Told
+pub mod Report

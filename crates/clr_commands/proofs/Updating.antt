@@ -15,9 +15,9 @@ use Rattle.clr_rules.specs.Register.{Register}
 use Rattle.clr_rules.specs.Staffed.{IsStaffed}
 use Rattle.clr_update.specs.Laws.{UpdatesKeepGood}
 use Rattle.clr_update.specs.Update.{IsRead, Update, after_update, in_the_way, unless_obstacle, updated}
-use Rattle.clr_changes.specs.Told.{IsTold}
-use Rattle.clr_changes.specs.declared.told.Told.{Told}
-use Rattle.clr_changes.specs.declared.told.Told.TheVariants.{Changes, InTheWay}
+use Rattle.clr_changes.specs.Report.{IsReport}
+use Rattle.clr_changes.specs.declared.report.Report.{Report}
+use Rattle.clr_changes.specs.declared.report.Report.TheVariants.{Changes, InTheWay}
 use Rattle.clr_tables.specs.Tables.{tables_of}
 use Rattle.clr_load.specs.Stored.{HasTables}
 use Rattle.clr_load.specs.declared.fault.StoreFault.TheVariants as store
@@ -35,7 +35,7 @@ use Rattle.clr_edge.specs.declared.fault.Fault.TheVariants.{Memory}
 use Rattle.clr_commands.specs.Faults.{IsOfSubcommand}
 use Rattle.clr_commands.specs.Fence.{argument}
 use Rattle.clr_commands.specs.Import.{FileRows}
-use Rattle.clr_commands.specs.Update.{IsDone, IsUpdated, RefusesUpdate, TellsUpdate, Texts, UpdatesAt, names_said, text_or, text_told, update_fault}
+use Rattle.clr_commands.specs.Update.{IsDone, IsUpdated, RefusesUpdate, ReportsUpdate, Texts, UpdatesAt, names_said, text_or, text_reported, update_fault}
 use Rattle.clr_commands.proofs.Faults.{line_plain, obstacle_plain}
 use Rattle.clr_commands.proofs.PointsNamed.{names_after}
 
@@ -59,10 +59,10 @@ unfolding names_said
 names_said-nil names = rw append-nil
 
 -- rows and words that say no update
-pub refused-fault : {T U : Type 0} (rows : FileRows) (words : List (List ℕ)) (result : Result T Fault) (told : Result U Fault) (fault : Fault) → IsErrAnd result (λ cause. cause ≡ fault)
-    → told ≡ Err fault → RefusesUpdate rows words told → RefusesUpdate rows words result
-refused-fault rows words (Ok value) told fault is same refuses = absurd is
-refused-fault {U = U} rows words (Err cause) told fault is same refuses =
+pub refused-fault : {T U : Type 0} (rows : FileRows) (words : List (List ℕ)) (result : Result T Fault) (report : Result U Fault) (fault : Fault) → IsErrAnd result (λ cause. cause ≡ fault)
+    → report ≡ Err fault → RefusesUpdate rows words report → RefusesUpdate rows words result
+refused-fault rows words (Ok value) report fault is same refuses = absurd is
+refused-fault {U = U} rows words (Err cause) report fault is same refuses =
     subst (λ (f : Fault). f ≢ Memory → update_fault rows words ≡ Err f) (sym is) (subst (λ (it : Result U Fault). RefusesUpdate rows words it) same refuses)
 
 -- ---- what comes of it
@@ -75,21 +75,21 @@ of_command (desk.Store (store.BadRow table)) of = absurd of
 of_command (desk.Store store.OtherTables) of = absurd of
 of_command (desk.Store store.NoMemory) of = absurd of
 
-pub told_tells : (R : Register) (u : Update) (told : Result Told DeskFault) → IfOk told (IsTold R u) → IfErr told IsOfCommand → TellsUpdate R u (text_told told)
-told_tells R u (Ok (Changes lines)) is of = is
-told_tells R u (Ok (InTheWay cause)) is of = inl (cause, refl, is)
-told_tells R u (Err cause) is of = inr (of_command cause of)
+pub report_is : (R : Register) (u : Update) (report : Result Report DeskFault) → IfOk report (IsReport R u) → IfErr report IsOfCommand → ReportsUpdate R u (text_reported report)
+report_is R u (Ok (Changes lines)) is of = is
+report_is R u (Ok (InTheWay cause)) is of = inl (cause, refl, is)
+report_is R u (Err cause) is of = inr (of_command cause of)
 
 after_is : (R : Register) (u : Update) → in_the_way R u ≡ None → after_update R u ≡ updated R u
 after_is R u none = ap (λ o. unless_obstacle o R (updated R u)) none
 
 module _ {S : Type 0} (g : Ghosts S) (R : Register) (u : Update) (read after : Held S) where
-  pub updated_by : (told : Result Told DeskFault) → IsFit R → IsRead u → UpdatesKeepGood → IfOk told (IsTold R u)
-      → (HasCleanDisk (state g after) → HasTables (state g read).now (tables_of R) → OnOk told (HasTables (state g after).now (tables_of (after_update R u))))
-      → IfOk told (λ it. SavesIfAccepted g it read after)
-      → (HasCleanDisk (state g after) → IsTrue (state g after).is_open → OnErr told ((state g after).now ≡ (state g read).now))
+  pub updated_by : (report : Result Report DeskFault) → IsFit R → IsRead u → UpdatesKeepGood → IfOk report (IsReport R u)
+      → (HasCleanDisk (state g after) → HasTables (state g read).now (tables_of R) → OnOk report (HasTables (state g after).now (tables_of (after_update R u))))
+      → IfOk report (λ it. SavesIfAccepted g it read after)
+      → (HasCleanDisk (state g after) → IsTrue (state g after).is_open → OnErr report ((state g after).now ≡ (state g read).now))
       → Survives (state g read) (state g after) (AreUpdated (state g read).now R u)
-      → IsUpdated g R u (text_told told) read after
+      → IsUpdated g R u (text_reported report) read after
   updated_by (Ok (Changes lines)) fit is_read law is tables saved none crash = record {
     tables = λ clean has. subst (λ (Q : Register). HasTables (state g after).now (tables_of Q)) (after_is R u is.0) (tables clean has);
     saved = saved;
@@ -113,23 +113,23 @@ module _ {S : Type 0} (g : Ghosts S) (R : Register) (u : Update) (read after : H
   }
 
 -- ---- over a database
-pub answer_plain : (R : Register) (u : Update) (told : Texts) (closed : Done) (result : Texts) → TellsUpdate R u told → IfErr closed IsOfLine → result ≡ text_or told closed
+pub answer_plain : (R : Register) (u : Update) (report : Texts) (closed : Done) (result : Texts) → ReportsUpdate R u report → IfErr closed IsOfLine → result ≡ text_or report closed
     → IfErr result IsOfSubcommand
-answer_plain R u told closed result tells line is = subst (λ (it : Texts). IfErr it IsOfSubcommand) (sym is) (by told closed tells line)
+answer_plain R u report closed result reports line is = subst (λ (it : Texts). IfErr it IsOfSubcommand) (sym is) (by report closed reports line)
   where
-    by : (told : Texts) (closed : Done) → TellsUpdate R u told → IfErr closed IsOfLine → IfErr (text_or told closed) IsOfSubcommand
-    by (Ok text) (Ok value) tells line = tt
-    by (Ok text) (Err fault) tells line = line_plain fault line
+    by : (report : Texts) (closed : Done) → ReportsUpdate R u report → IfErr closed IsOfLine → IfErr (text_or report closed) IsOfSubcommand
+    by (Ok text) (Ok value) reports line = tt
+    by (Ok text) (Err fault) reports line = line_plain fault line
     by (Err fault) closed (inl (cause, is, way)) line = obstacle_plain fault cause is
     by (Err fault) closed (inr of) line = line_plain fault of
 
 module _ {M D : Type 0} (g : disk.Ghosts D) (opens : Opening M D) (shuts : Shutting M) (ends : Ending M D) (path : List ℕ) (dry_run : Bool) (u : Update) where
   -- the register of the database at the path was updated, or something was in the way
-  pub updated_at : (told result : Texts) (closed : Done) (old between new : M) (desk : Desk (Over g)) (store after : Over g)
-      → IsUp g opens path (plain over_files) old between desk → TellsUpdate desk.book.register u told
-      → IsDone over_files dry_run desk.book.register u told desk.store store → after ≡ store → Ends ends after closed between new → IfErr closed IsOfLine
-      → result ≡ text_or told closed → UpdatesAt g opens shuts ends path dry_run u result old new
-  updated_at told result closed old between new desk store after up tells done same ended line is = inr (record {
+  pub updated_at : (report result : Texts) (closed : Done) (old between new : M) (desk : Desk (Over g)) (store after : Over g)
+      → IsUp g opens path (plain over_files) old between desk → ReportsUpdate desk.book.register u report
+      → IsDone over_files dry_run desk.book.register u report desk.store store → after ≡ store → Ends ends after closed between new → IfErr closed IsOfLine
+      → result ≡ text_or report closed → UpdatesAt g opens shuts ends path dry_run u result old new
+  updated_at report result closed old between new desk store after up reports done same ended line is = inr (record {
     before = up.before;
     after = store;
     closed = closed;
@@ -140,8 +140,8 @@ module _ {M D : Type 0} (g : disk.Ghosts D) (opens : Opening M D) (shuts : Shutt
     does = (
       up.taken_up.0,
       record {
-        told = told;
-        did = inr (record { register = desk.book.register; read = desk.store; is_read = up.taken_up.1; tells = tells; is_done = done });
+        report = report;
+        did = inr (record { register = desk.book.register; read = desk.store; is_read = up.taken_up.1; reports = reports; is_done = done });
         closing = line;
         result_is = is;
       },
@@ -162,6 +162,6 @@ module _ {M D : Type 0} (g : disk.Ghosts D) (opens : Opening M D) (shuts : Shutt
     later = visit.later;
     opened = visit.opened;
     mode = visit.mode;
-    does = (visit.does.0.0, record { told = Err fault; did = inl visit.does.0.1; closing = visit.does.1; result_is = ap Err is });
+    does = (visit.does.0.0, record { report = Err fault; did = inl visit.does.0.1; closing = visit.does.1; result_is = ap Err is });
     ended = visit.ended;
   })

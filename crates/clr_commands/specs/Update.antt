@@ -19,8 +19,8 @@ use Rattle.clr_update.specs.Changes.{changes}
 use Rattle.clr_update.specs.Update.{Update, in_the_way, updated}
 use Rattle.clr_update.specs.declared.obstacle.Obstacle.{Obstacle}
 use Rattle.clr_changes.specs.Lines.{change_lines}
-use Rattle.clr_changes.specs.declared.told.Told.{Told}
-use Rattle.clr_changes.specs.declared.told.Told.TheVariants.{Changes, InTheWay as Obstructed}
+use Rattle.clr_changes.specs.declared.report.Report.{Report}
+use Rattle.clr_changes.specs.declared.report.Report.TheVariants.{Changes, InTheWay as Obstructed}
 use Rattle.clr_tables.specs.Tables.{tables_of}
 use Rattle.clr_load.specs.Contract.{IsSaved}
 use Rattle.clr_load.specs.Stored.{HasTables}
@@ -65,44 +65,44 @@ Texts = Result (String Global) Fault
 
 -- the lines of what changes, or the first obstacle; or the database refused or failed, or memory
 -- ran out
-abbrev pub TellsUpdate : Register → Update → Texts → Type 0
-TellsUpdate R u (Ok text) = (in_the_way R u ≡ None)
+abbrev pub ReportsUpdate : Register → Update → Texts → Type 0
+ReportsUpdate R u (Ok text) = (in_the_way R u ≡ None)
     × (string_bytes text ≡ change_lines (changes R (updated R u)))
-TellsUpdate R u (Err fault) = ((cause : Obstacle) × (fault ≡ InTheWay cause) × (in_the_way R u ≡ Some cause))
+ReportsUpdate R u (Err fault) = ((cause : Obstacle) × (fault ≡ InTheWay cause) × (in_the_way R u ≡ Some cause))
     ⊎ IsOfLine fault
 
 -- what is printed of it
-abbrev pub text_told : Result Told DeskFault → Texts
-text_told (Ok (Changes lines)) = Ok lines
-text_told (Ok (Obstructed cause)) = Err (InTheWay cause)
-text_told (Err cause) = Err (of_desk cause)
+abbrev pub text_reported : Result Report DeskFault → Texts
+text_reported (Ok (Changes lines)) = Ok lines
+text_reported (Ok (Obstructed cause)) = Err (InTheWay cause)
+text_reported (Err cause) = Err (of_desk cause)
 
 -- THE REGISTER IS UPDATED in the tables, in one transaction, and this is saved; at a fault they are
 -- as they were. Then it is good and staffed again. A crash leaves the tables before or after
-pub record IsUpdated {S : Type 0} (g : Ghosts S) (R : Register) (u : Update) (told : Texts)
+pub record IsUpdated {S : Type 0} (g : Ghosts S) (R : Register) (u : Update) (report : Texts)
     (read after : Held S) : Type 0 where
   pub tables : HasCleanDisk (state g after) → HasTables (state g read).now (tables_of R)
-      → OnOk told (HasTables (state g after).now (tables_of (updated R u)))
-  pub saved : HasCleanDisk (state g after) → OnOk told (IsSaved (state g after))
-  pub fit : OnOk told (IsFit (updated R u))
+      → OnOk report (HasTables (state g after).now (tables_of (updated R u)))
+  pub saved : HasCleanDisk (state g after) → OnOk report (IsSaved (state g after))
+  pub fit : OnOk report (IsFit (updated R u))
   pub none : HasCleanDisk (state g after) → IsTrue (state g after).is_open
-      → OnErr told ((state g after).now ≡ (state g read).now)
+      → OnErr report ((state g after).now ≡ (state g read).now)
   pub crash : Survives (state g read) (state g after) (AreUpdated (state g read).now R u)
 
 -- in a dry run nothing is written
 abbrev pub IsDone : {S : Type 0} → Ghosts S → Bool → Register → Update → Texts → Held S → Held S
     → Type 0
-IsDone g true R u told read after = after ≡ read
-IsDone g false R u told read after = IsUpdated g R u told read after
+IsDone g true R u report read after = after ≡ read
+IsDone g false R u report read after = IsUpdated g R u report read after
 
 -- what came of an update of the register that was read from a database
-pub record Updates {S : Type 0} (g : Ghosts S) (dry_run : Bool) (u : Update) (told : Texts)
+pub record Updates {S : Type 0} (g : Ghosts S) (dry_run : Bool) (u : Update) (report : Texts)
     (before after : Held S) : Type 0 where
   pub register : Register
   pub read : Held S
   pub is_read : IsReadFrom g before read register
-  pub tells : TellsUpdate register u told
-  pub is_done : IsDone g dry_run register u told read after
+  pub reports : ReportsUpdate register u report
+  pub is_done : IsDone g dry_run register u report read after
 
 -- the first of two faults
 abbrev pub text_or : Texts → Done → Texts
@@ -114,11 +114,11 @@ text_or (Err fault) closed = Err fault
 -- result
 pub record UpdatesOver {S : Type 0} (g : Ghosts S) (dry_run : Bool) (u : Update) (result : Texts)
     (before after : Held S) (closed : Done) : Type 0 where
-  pub told : Texts
-  pub did : IsErrAnd told (λ fault. IsNotRead g before fault after)
-      ⊎ Updates g dry_run u told before after
+  pub report : Texts
+  pub did : IsErrAnd report (λ fault. IsNotRead g before fault after)
+      ⊎ Updates g dry_run u report before after
   pub closing : IfErr closed IsOfLine
-  pub result_is : result ≡ text_or told closed
+  pub result_is : result ≡ text_or report closed
 
 -- rows and words say no update, or memory ran out, and nothing was opened
 abbrev pub RefusesUpdate : {T : Type 0} → FileRows → List (List ℕ) → Result T Fault → Type 0

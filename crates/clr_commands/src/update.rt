@@ -9,12 +9,12 @@ ghost use Rattle.clr_commands.specs.Fence.{argument};
 ghost use Rattle.clr_commands.specs.Import.{lists_of};
 ghost use Rattle.clr_commands.specs.Paths.{at_paths};
 ghost use Rattle.clr_commands.specs.Update.{IsDone, IsUpdateTo, IsUpdated, RefusesUpdate};
-ghost use Rattle.clr_commands.specs.Update.{TellsUpdate, UpdatesAt, UpdatesFiles, UpdatesTo};
-ghost use Rattle.clr_commands.specs.Update.{names_said, text_or, text_told};
+ghost use Rattle.clr_commands.specs.Update.{ReportsUpdate, UpdatesAt, UpdatesFiles, UpdatesTo};
+ghost use Rattle.clr_commands.specs.Update.{names_said, text_or, text_reported};
 
 use crate::import::{Rows, rows_at};
 use clr_args::asked::UpdateArgs;
-use clr_changes::{Told, Update, told_of};
+use clr_changes::{Report, Update, report_of};
 use clr_desk::{Desk, DeskBook, DeskFault};
 use clr_edge::database::{Databases, close};
 use clr_edge::fault::Fault;
@@ -118,9 +118,9 @@ fn update_register<R: Databases>(
     ensures faults { IfErr result IsOfSubcommand }
 {
     let desk = open_desk(alloc, rt, path)?;
-    let (told, store) = update_desk(alloc, desk, update, dry_run);
+    let (report, store) = update_desk(alloc, desk, update, dry_run);
     let closed = close(rt, store.end());
-    text_or(told, closed)
+    text_or(report, closed)
 }
 
 /// Ends a desk, with what comes of an update of its register.
@@ -131,7 +131,7 @@ fn update_desk<S: Alter + Drop>(
     dry_run: bool,
 ) -> (Result<String, Fault>, Store<S>)
     requires { IsFit desk.book.register }
-    ensures tells { TellsUpdate desk.book.register (as_update update) result.0 }
+    ensures reports { ReportsUpdate desk.book.register (as_update update) result.0 }
     ensures done { IsDone S.Store dry_run desk.book.register (as_update update) result.0
         desk.store result.1 }
 {
@@ -144,10 +144,10 @@ fn update_desk<S: Alter + Drop>(
 
 /// What an update of a book would change.
 fn try_update(alloc: Global, book: &DeskBook, update: Update) -> Result<String, Fault>
-    ensures { TellsUpdate book.now.register (as_update update) result }
+    ensures { ReportsUpdate book.now.register (as_update update) result }
 {
-    match told_of(alloc, book, update) {
-        Ok(told) => text_of(Ok(told)),
+    match report_of(alloc, book, update) {
+        Ok(report) => text_of(Ok(report)),
         Err(AllocError) => Err(Fault::Memory),
     }
 }
@@ -159,32 +159,32 @@ fn make_update<S: Alter + Drop>(
     update: Update,
 ) -> (Result<String, Fault>, Store<S>)
     requires { IsFit desk.book.register }
-    ensures tells { TellsUpdate desk.book.register (as_update update) result.0 }
+    ensures reports { ReportsUpdate desk.book.register (as_update update) result.0 }
     ensures updated { IsUpdated S.Store desk.book.register (as_update update) result.0
         desk.store result.1 }
 {
     update.is_read();
     updates_keep_good();
-    let (told, store) = desk.update(alloc, update);
-    (text_of(told), store)
+    let (report, store) = desk.update(alloc, update);
+    (text_of(report), store)
 }
 
 /// What is printed of an update, or its fault.
-fn text_of(told: Result<Told, DeskFault>) -> Result<String, Fault>
-    ensures { result ≡ text_told told }
+fn text_of(report: Result<Report, DeskFault>) -> Result<String, Fault>
+    ensures { result ≡ text_reported report }
 {
-    match told {
-        Ok(Told::Changes(lines)) => Ok(lines),
-        Ok(Told::InTheWay(obstacle)) => Err(Fault::Update(obstacle)),
+    match report {
+        Ok(Report::Changes(lines)) => Ok(lines),
+        Ok(Report::InTheWay(obstacle)) => Err(Fault::Update(obstacle)),
         Err(fault) => Err(Fault::from(fault)),
     }
 }
 
 /// The first of two faults, or the text.
-fn text_or(told: Result<String, Fault>, closed: Result<(), Fault>) -> Result<String, Fault>
-    ensures { result ≡ text_or told closed }
+fn text_or(report: Result<String, Fault>, closed: Result<(), Fault>) -> Result<String, Fault>
+    ensures { result ≡ text_or report closed }
 {
-    match told {
+    match report {
         Ok(text) => match closed {
             Ok(()) => Ok(text),
             Err(fault) => Err(fault),

@@ -5,8 +5,8 @@ use Rattle.sqlite.specs.Held.{Held, state}
 use Rattle.sqlite.specs.State.{HasCleanDisk}
 use Rattle.sqlite.specs.Store.{Ghosts}
 use Rattle.sqlite.specs.Tree.{Trees}
-use Rattle.clr_changes.specs.declared.told.Told.{Told}
-use Rattle.clr_changes.specs.declared.told.Told.TheVariants.{Changes, InTheWay}
+use Rattle.clr_changes.specs.declared.report.Report.{Report}
+use Rattle.clr_changes.specs.declared.report.Report.TheVariants.{Changes, InTheWay}
 use Rattle.clr_load.specs.Contract.{IsSaved}
 use Rattle.clr_load.specs.Stored.{AreTables, HasTables}
 use Rattle.clr_rules.specs.Register.{Register}
@@ -20,6 +20,6 @@ AreUpdated old R u trees = HasTables old (tables_of R)
     → (in_the_way R u ≡ None) × AreTables trees (tables_of (updated R u))
 
 -- where something is in the way, the store stays as it is; otherwise its tables are saved
-abbrev pub SavesIfAccepted : {S : Type 0} → Ghosts S → Told → Held S → Held S → Type 0
+abbrev pub SavesIfAccepted : {S : Type 0} → Ghosts S → Report → Held S → Held S → Type 0
 SavesIfAccepted g (InTheWay obstacle) old new = new ≡ old
 SavesIfAccepted g (Changes text) old new = HasCleanDisk (state g new) → IsSaved (state g new)

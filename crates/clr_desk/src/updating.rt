@@ -3,7 +3,7 @@ ghost use Rattle.std.specs.Prelude.{◌≡◌, IfErr, IfOk, IsTrue, OnErr, OnOk}
 ghost use Rattle.sqlite.specs.Held.{state};
 ghost use Rattle.sqlite.specs.State.{HasCleanDisk, Survives};
 ghost use Rattle.clr_changes.specs.Shown.{as_update};
-ghost use Rattle.clr_changes.specs.Told.{IsTold};
+ghost use Rattle.clr_changes.specs.Report.{IsReport};
 ghost use Rattle.clr_load.specs.Stored.{HasTables};
 ghost use Rattle.clr_tables.specs.Tables.{tables_of};
 ghost use Rattle.clr_update.specs.Update.{after_update};
@@ -13,7 +13,7 @@ ghost use Rattle.clr_desk.specs.Updating.{AreUpdated, SavesIfAccepted};
 use crate::book::DeskBook;
 use crate::desk::Desk;
 use crate::desk_fault::DeskFault;
-use clr_changes::{Outcome, Told, Update, outcome_of, print_changes};
+use clr_changes::{Outcome, Report, Update, outcome_of, print_changes};
 use clr_store::Store;
 use sqlite::Alter;
 use std::alloc::Global;
@@ -24,14 +24,14 @@ impl<S: Alter + Drop> Desk<Store<S>> {
     ///
     /// `Store(Sql)` where the database refuses or fails, `NoMemory` where memory runs out. On a
     /// fault, and where something is in the way, the tables are as they were.
-    pub fn update(self, alloc: Global, update: Update) -> (Result<Told, DeskFault>, Store<S>)
-        ensures told { IfOk result.0 (IsTold self.book.register (as_update update)) }
+    pub fn update(self, alloc: Global, update: Update) -> (Result<Report, DeskFault>, Store<S>)
+        ensures report { IfOk result.0 (IsReport self.book.register (as_update update)) }
         ensures updated { HasCleanDisk (state S.Store result.1)
             → HasTables (state S.Store self.store).now (tables_of self.book.register)
             → OnOk result.0 (HasTables (state S.Store result.1).now
             (tables_of (after_update self.book.register (as_update update)))) }
         ensures saved { IfOk result.0
-            (λ told. SavesIfAccepted S.Store told self.store result.1) }
+            (λ report. SavesIfAccepted S.Store report self.store result.1) }
         ensures none { HasCleanDisk (state S.Store result.1)
             → IsTrue (state S.Store result.1).is_open → OnErr result.0
             ((state S.Store result.1).now ≡ (state S.Store self.store).now) }
@@ -51,14 +51,14 @@ fn update_tables<S: Alter + Drop>(
     store: &mut Store<S>,
     book: &DeskBook,
     update: Update,
-) -> Result<Told, DeskFault>
-    ensures told { IfOk result (IsTold book.now.register (as_update update)) }
+) -> Result<Report, DeskFault>
+    ensures report { IfOk result (IsReport book.now.register (as_update update)) }
     ensures updated { HasCleanDisk (state S.Store store.new)
         → HasTables (state S.Store store.old).now (tables_of book.now.register)
         → OnOk result (HasTables (state S.Store store.new).now
         (tables_of (after_update book.now.register (as_update update)))) }
     ensures saved { IfOk result
-        (λ told. SavesIfAccepted S.Store told store.old store.new) }
+        (λ report. SavesIfAccepted S.Store report store.old store.new) }
     ensures none { HasCleanDisk (state S.Store store.new)
         → IsTrue (state S.Store store.new).is_open → OnErr result
         ((state S.Store store.new).now ≡ (state S.Store store.old).now) }
@@ -69,11 +69,11 @@ fn update_tables<S: Alter + Drop>(
     update.is_read();
     let outcome = outcome_of(alloc, book, update)?;
     match outcome {
-        Outcome::InTheWay(obstacle) => Ok(Told::InTheWay(obstacle)),
+        Outcome::InTheWay(obstacle) => Ok(Report::InTheWay(obstacle)),
         Outcome::Accepted(after) => {
             let lines = print_changes(alloc, &after.changes)?;
             store.update(&after.network, &after.staff, &after.states)?;
-            Ok(Told::Changes(lines))
+            Ok(Report::Changes(lines))
         }
     }
 }

@@ -17,10 +17,20 @@ use Rattle.clr_level.specs.declared.last.Last.{Last}
 use Rattle.clr_level.specs.declared.last.Last.TheVariants.{Settled}
 use Rattle.clr_level.proofs.Chains.{ends_on, front_kept, place_on, run_on}
 
-module _ (has_place : Placing) (first R : Register) (start place : Place) (lines : List Entry) where
-  nothing_open : (had idle : List Entry) → had ++ ((idle ++ []) ++ []) ≡ had ++ idle
-  nothing_open had idle = ap (λ es. had ++ es) (append-nil (idle ++ []) ∙ append-nil idle)
+nothing_open : (had idle : List Entry) → had ++ ((idle ++ []) ++ []) ≡ had ++ idle
+nothing_open had idle = ap (λ es. had ++ es) (append-nil (idle ++ []) ∙ append-nil idle)
 
+-- the lines have been run
+pub rolled : (has_place : Placing) (R : Register) (place : Place) (lines : List Entry) (S T : Register) (s : State) (at : Place) → HasCome has_place R place lines S s at None []
+    → T ≡ S → IsRunOf R (carried_out lines) T
+rolled has_place R place lines S T s at come register =
+    let idle_kept : withdraws come.idle ≡ false = front_kept come.idle [] (front_kept (come.idle ++ []) [] come.begins) in
+    let pairs : carried_out lines ≡ carried_out come.had =
+    ap carried_out (come.all_is ∙ nothing_open come.had come.idle) ∙ carried_out-append come.had come.idle idle_kept
+    ∙ ap (λ ps. carried_out come.had ++ ps) come.none ∙ append-nil (carried_out come.had) in
+    subst (λ (X : Register). IsRunOf R (carried_out lines) X) (sym register) (subst (λ ps. IsRunOf R ps S) (sym pairs) come.run)
+
+module _ (has_place : Placing) (first R : Register) (start place : Place) (lines : List Entry) where
   -- level at the place that was come to
   abbrev level_on : (entries : List Entry) (S : Register) (s : State) (at : Place) (level : IsLevel first start entries place R) → level.more ≡ lines
       → (come : HasCome has_place R place lines S s at None []) → IsLevel first start entries (place_after place come.had) S

@@ -1,4 +1,4 @@
--- WHERE A KEEPER IS, and where it comes to.
+-- A CHANGE KEPT WITH ITS PLACE: what is shown after it.
 use Rattle.std.specs.Prelude.{◌≡◌, IsTrue, Some}
 use Rattle.sqlite.specs.Effect.{Database}
 use Rattle.sqlite.specs.State.{HasCleanDisk, State}
@@ -6,6 +6,8 @@ use Rattle.clr_place.specs.declared.place.Place.{Place}
 use Rattle.clr_tables.specs.Tables.{Tables}
 use Rattle.clr_load.specs.Stored.{HasTables}
 use Rattle.clr_desk.specs.Placing.{Placing}
+
+-- ---- where a keeper is
 
 -- it shows tables, and this place
 abbrev pub ShowsAt : Placing → Database → Place → Type 0

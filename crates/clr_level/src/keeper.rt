@@ -1,5 +1,5 @@
 //! A keeper, and a journal in which each command has its line before the keeper takes it.
-ghost use Rattle.std.specs.Prelude.{◌≡◌, false, None};
+ghost use Rattle.std.specs.Prelude.{◌≡◌, false, IfSome, IsSome, None};
 
 use crate::clock::Clock;
 use crate::last::Last;
@@ -47,6 +47,18 @@ impl<K: CommitAt, J: Journal + Drop, C: Clock> Keeper<K, J, C> {
             at,
             is_synced: false,
             last: Last::Settled,
+        }
+    }
+
+    /// Where the journal has come to, if its last command was carried out, refused or withdrawn.
+    pub fn at(&self) -> Option<&Place>
+        ensures some { IfSome result (λ at. (at.now ≡ self.now.at)
+            × (self.now.last ≡ Last.Settled)) }
+        ensures none { self.now.last ≡ Last.Settled → IsSome result }
+    {
+        match self.last {
+            Last::Settled => Some(&self.at),
+            Last::Owed | Last::Doubtful => None,
         }
     }
 

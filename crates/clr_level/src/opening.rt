@@ -3,8 +3,9 @@ ghost use Rattle.std.specs.Prelude.{◌≡◌, false, IfErr, IfOk, map, None};
 ghost use Rattle.clr_rules.specs.Good.{IsGood};
 ghost use Rattle.clr_rules.specs.Register.{Register};
 ghost use Rattle.clr_place.specs.declared.place.Place.{Place};
-ghost use Rattle.clr_journal.specs.Journals.{withdraws};
+ghost use Rattle.clr_journal.specs.Journals.{carried_out, withdraws};
 ghost use Rattle.clr_journal.specs.Line.{entry_of};
+ghost use Rattle.clr_chain.specs.Level.{IsRunOf};
 ghost use Rattle.clr_desk.specs.Given.{LeadsTo};
 ghost use Rattle.clr_level.specs.Forward.{AreShallow, CanBeOpened, IsAheadOf, IsOver, StopsAt};
 ghost use Rattle.clr_level.specs.Journaling.{HasText, IsSound};
@@ -56,6 +57,11 @@ pub fn with_journal<K: CommitAt, J: Journal + Drop, C: Clock>(
         → IsKeptLevel K.kept K.has_place J.text first start opened.book.register opened.store) }
     ensures sound { IfOk result (λ opened. HasText J.text J.found journal
         → IsSound J.text J.found J.may_leave opened.store) }
+    ensures rolled { IfOk result (λ opened. IsGood desk.book.register
+        → withdraws (map entry_of lines.items) ≡ false → AreShallow (map entry_of lines.items)
+        → IsAt K.has_place (K.kept desk.store) place
+        → IsRunOf desk.book.register (carried_out (map entry_of lines.items))
+        opened.book.register) }
     ensures journal { IfOk result (λ opened. opened.store.journal ≡ journal) }
     ensures clock { IfOk result (λ opened. opened.store.clock ≡ clock) }
     ensures login { IfOk result (λ opened. opened.store.login ≡ None) }

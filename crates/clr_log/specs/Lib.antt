@@ -4,3 +4,4 @@ pub mod Words
 pub mod Moments
 pub mod Log
 pub mod Commands
+pub mod Walked

@@ -72,7 +72,11 @@ fn push_wanted(
 }
 
 /// Writes a command and a line feed.
-fn push_command(alloc: Global, out: &mut String, command: &Command) -> Result<(), AllocError>
+pub(crate) fn push_command(
+    alloc: Global,
+    out: &mut String,
+    command: &Command,
+) -> Result<(), AllocError>
     ensures { OnOk result
         (string_bytes out.new ≡ string_bytes out.old ++ command_line command.now) }
 {

@@ -8,7 +8,9 @@ mod log;
 mod moments;
 mod steps;
 mod texts;
+mod walked;
 mod words;
 
 pub use commands::print_commands;
 pub use log::print_log;
+pub use walked::{WalkedCommands, WalkedLog};

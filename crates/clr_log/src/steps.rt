@@ -80,7 +80,7 @@ fn is_done_for(carried: &Carried, clearance: ClearanceId) -> bool
 }
 
 /// The steps that a command orders.
-fn steps_ordered(kind: &Kind) -> Option<&Tasks>
+pub(crate) fn steps_ordered(kind: &Kind) -> Option<&Tasks>
     ensures { option_map (λ steps. steps.now) result ≡ steps_ordered kind.now }
 {
     match kind {

@@ -15,3 +15,4 @@ mod Rising
 pub mod TakenSteps
 pub mod Renewing
 pub mod Places
+pub mod Beginning

@@ -24,7 +24,8 @@ use Rattle.clr_load.specs.Fault.{IsOfDatabase}
 use Rattle.clr_load.specs.Inside.{RunsInside}
 use Rattle.clr_load.specs.Layout.{has_table, is_two, place_in, tree_in}
 use Rattle.clr_load.specs.declared.layout.Layout.{Layout}
-use Rattle.clr_load.specs.declared.layout.Layout.TheVariants.{AsMade, AsMovedLogged}
+use Rattle.clr_load.specs.declared.layout.Layout.TheVariants.{OfOne, AsMade, AsMoved}
+use Rattle.clr_load.specs.declared.layout.Layout.TheVariants.{AsMadeLogged, AsMovedLogged}
 use Rattle.clr_load.specs.Schema.{columns_in, keys_in, schema_of}
 use Rattle.clr_load.specs.Stored.{HasRows, Holds, rows_in}
 use Rattle.clr_load.specs.declared.fault.StoreFault.{StoreFault}
@@ -81,6 +82,31 @@ pub record ChangesPlace (old new : State) (change : List Row → List Row) : Typ
       → HasRows (columns_in Journal) (old.now.trees (tree_in l Journal)) rows
       → Holds l new.now t
       × HasRows (columns_in Journal) (new.now.trees (tree_in l Journal)) (change rows)
+
+-- the same tables with that of the journal beside them
+abbrev pub with_journal : Layout → Layout
+with_journal OfOne = OfOne
+with_journal AsMade = AsMadeLogged
+with_journal AsMoved = AsMovedLogged
+with_journal AsMadeLogged = AsMadeLogged
+with_journal AsMovedLogged = AsMovedLogged
+
+-- a table of the journal with these rows comes beside the tables of a register that has none, inside
+-- the transaction, and those stay; nothing is committed
+pub record AddsJournal (old new : State) (rows : List Row) : Type 0 where
+  pub inside : IsTrue new.in_transaction
+  pub kept : KeepsCommit old new
+  pub added : (l : Layout) → is_two l ≡ true → has_table l Journal ≡ false → (t : Tables)
+      → Holds l old.now t → Holds (with_journal l) new.now t
+      × HasRows (columns_in Journal) (new.now.trees (tree_in (with_journal l) Journal)) rows
+
+-- a call inside a transaction adds it, or fails
+abbrev pub PutsJournal : {S X : Type 0} → Ghosts S → Transaction S → Transaction S → List Row
+    → Result X StoreFault → Type 0
+PutsJournal g old new rows result =
+    RunsInside g old new IsOfDatabase
+    (λ _. AddsJournal (state g old.conn.now) (state g new.conn.now) rows)
+    (λ _. KeepsCommit (state g old.conn.now) (state g new.conn.now)) result
 
 -- a call inside a transaction changes these rows so, or fails
 abbrev pub PutsPlace : {S X : Type 0} → Ghosts S → Transaction S → Transaction S

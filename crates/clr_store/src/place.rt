@@ -15,7 +15,7 @@ ghost use Rattle.clr_load.specs.Layout.{names_in};
 ghost use Rattle.clr_load.specs.Schema.{columns_in};
 ghost use Rattle.clr_load.specs.Stored.{fits_columns};
 ghost use Rattle.clr_load.specs.declared.layout.Layout.TheVariants.{AsMade, AsMadeLogged};
-ghost use Rattle.clr_store.specs.Change.{HasEmpty, MakesAt, PutsPlace, Reaches};
+ghost use Rattle.clr_store.specs.Change.{HasEmpty, MakesAt, PutsJournal, PutsPlace, Reaches};
 ghost use Rattle.clr_store.specs.Contract.{AreEditedAt, MakesEditsAt};
 
 use crate::edits::make_all;
@@ -45,8 +45,9 @@ pub(crate) fn fits(place: &Place) -> bool
 
 /// Makes the table of the journal beside the others, without a row.
 pub(crate) fn make_journal<S: Alter>(tx: &mut Transaction<'_, S>) -> Result<(), StoreFault>
-    ensures { Reaches S.Store tx.old tx.new (HasEmpty AsMade (names_in AsMade))
+    ensures empty { Reaches S.Store tx.old tx.new (HasEmpty AsMade (names_in AsMade))
         (HasEmpty AsMadeLogged (names_in AsMadeLogged)) result }
+    ensures beside { PutsJournal S.Store tx.old tx.new [] result }
 {
     tx.execute(create_sql(TableName::Journal), &[])?;
     Ok(())
@@ -139,6 +140,45 @@ pub(crate) fn commit_change_at<S: Alter>(
     }
     let mut tx = conn.transaction();
     make_all_at(&mut tx, change.edits.as_slice(), place)?;
+    tx.commit()?;
+    Ok(())
+}
+
+/// Makes the table of the journal in a register that has none, with this place.
+fn add_journal<S: Alter>(tx: &mut Transaction<'_, S>, place: &Place) -> Result<(), StoreFault>
+    requires { place.now.number < 2 ^ 63 }
+    ensures { PutsJournal S.Store tx.old tx.new (place_row place.now ∷ []) result }
+{
+    make_journal(tx)?;
+    add_place(tx, place)
+}
+
+/// Gives a register that has no place one, in one transaction, or leaves the database as it is.
+pub(crate) fn begin_at<S: Alter>(conn: &mut Connection<S>, place: &Place) -> Result<(), StoreFault>
+    ensures mode { conn.old.in_transaction ≡ false → conn.new.in_transaction ≡ false }
+    ensures made { HasCleanDisk (state S.Store conn.new) → OnOk result
+        (MakesEditsAt (state S.Store conn.old).now [] (place_row place.now)
+        (state S.Store conn.new).now) }
+    ensures unplaced { OnOk result ((table_named (state S.Store conn.old).now.schema
+        (table_text Journal)) ≡ None) }
+    ensures saved { HasCleanDisk (state S.Store conn.new) → OnOk result
+        (IsSaved (state S.Store conn.new)) }
+    ensures still_saved { conn.old.in_transaction ≡ false → HasCleanDisk (state S.Store conn.new)
+        → IsTrue (state S.Store conn.new).is_open → OnErr result
+        (IsSaved (state S.Store conn.new)) }
+    ensures fault { IfErr result IsOfDatabase }
+    ensures none { HasCleanDisk (state S.Store conn.new) → IsTrue (state S.Store conn.new).is_open
+        → OnErr result ((state S.Store conn.new).now ≡ (state S.Store conn.old).now) }
+    ensures was_open { HasCleanDisk (state S.Store conn.new)
+        → IsTrue (state S.Store conn.new).is_open → IsTrue (state S.Store conn.old).is_open }
+    ensures crash { Survives (state S.Store conn.old) (state S.Store conn.new)
+        (AreEditedAt (state S.Store conn.old).now [] (place_row place.now)) }
+{
+    if !conn.is_autocommit() || has_journal(conn.schema()) || !fits(place) {
+        return Err(StoreFault::Sql);
+    }
+    let mut tx = conn.transaction();
+    add_journal(&mut tx, place)?;
     tx.commit()?;
     Ok(())
 }

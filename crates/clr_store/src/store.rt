@@ -1,16 +1,19 @@
 //! The store: the register of a database, over a connection to it.
 ghost use Rattle.std.specs.Prelude.{ℕ, ◌≡◌, ◌≢◌, ◌⊎◌, false, true, is_ok, pos, List, IsTrue, IfErr};
 ghost use Rattle.std.specs.Prelude.{IfOk, IsErrAnd, MatchResult, Ok, OnErr, OnOk, Option, Some};
-ghost use Rattle.std.specs.Prelude.{length};
+ghost use Rattle.std.specs.Prelude.{None, [], length};
 ghost use Rattle.sqlite.specs.Held.{state};
 ghost use Rattle.sqlite.specs.Order.{Row};
 ghost use Rattle.sqlite.specs.State.{HasCleanDisk, Survives};
+ghost use Rattle.sqlite_schema.specs.Names.{table_named};
 ghost use Rattle.clr_rules.specs.Good.{IsGood};
 ghost use Rattle.clr_rules.specs.Register.{Register, opening};
 ghost use Rattle.clr_tables.specs.RowsRead.{place_read, read_version, rows_read};
 ghost use Rattle.clr_tables.specs.TableEdits.{tables_moved};
 ghost use Rattle.clr_tables.specs.TableLaws.{HasNoJumper};
+ghost use Rattle.clr_tables.specs.TableText.{table_text};
 ghost use Rattle.clr_tables.specs.Tables.{Tables, place_row, tables_by, tables_of, version_one};
+ghost use Rattle.clr_tables.specs.declared.table_name.TableName.TheVariants.{Journal};
 ghost use Rattle.clr_tables.specs.TypedRows.{IsTyped};
 ghost use Rattle.clr_load.specs.Schema.{no_schema};
 ghost use Rattle.clr_load.specs.Stored.{ArePlaced, AreTables, HasMeta, HasOldTables, HasTables};
@@ -30,7 +33,7 @@ ghost use Rattle.clr_store.specs.StepsTaken.{AreWithoutSteps, TakesSteps};
 use crate::create::{make_logged_register, make_register};
 use crate::edits::make_all;
 use crate::migrate::move_tables;
-use crate::place::commit_change_at;
+use crate::place::{begin_at, commit_change_at};
 use crate::renew::renew;
 use crate::steps::take_steps;
 use clr_load::{Fill, Loaded, Rows, StoreFault, expect_version, load_into, load_rows, read_place};
@@ -461,6 +464,33 @@ impl<S: Alter + Drop> Store<S> {
             (place_row place.now)) }
     {
         commit_change_at(&mut self.connection, change, place)
+    }
+
+    /// Gives a register that has no journal this place in one. Its tables stay as they are.
+    ///
+    /// `Sql` where the register has a place already, where the number is 2^63 or more, and where
+    /// the database refuses or fails; `NoMemory` where memory runs out. On a fault nothing is done.
+    pub fn begin_at(&mut self, place: &Place) -> Result<(), StoreFault>
+        ensures made { HasCleanDisk (state S.Store self.new)
+            → OnOk result (MakesEditsAt (state S.Store self.old).now [] (place_row place.now)
+            (state S.Store self.new).now) }
+        ensures unplaced { OnOk result ((table_named (state S.Store self.old).now.schema
+            (table_text Journal)) ≡ None) }
+        ensures saved { HasCleanDisk (state S.Store self.new)
+            → OnOk result (IsSaved (state S.Store self.new)) }
+        ensures still_saved { HasCleanDisk (state S.Store self.new)
+            → IsTrue (state S.Store self.new).is_open
+            → OnErr result (IsSaved (state S.Store self.new)) }
+        ensures fault { IfErr result IsOfDatabase }
+        ensures none { HasCleanDisk (state S.Store self.new)
+            → IsTrue (state S.Store self.new).is_open → OnErr result
+            ((state S.Store self.new).now ≡ (state S.Store self.old).now) }
+        ensures was_open { HasCleanDisk (state S.Store self.new)
+            → IsTrue (state S.Store self.new).is_open → IsTrue (state S.Store self.old).is_open }
+        ensures crash { Survives (state S.Store self.old) (state S.Store self.new)
+            (AreEditedAt (state S.Store self.old).now [] (place_row place.now)) }
+    {
+        begin_at(&mut self.connection, place)
     }
 }
 

@@ -14,10 +14,10 @@ pub returns-in_err-name_said-clause-answer : goal.returns-in_err-name_said-claus
 returns-in_err-name_said-clause-answer c =
     let words = c.args.words.now in
     let names = c.loop-word.names.items in
-    let told = c.loop-word.invariant
+    let report = c.loop-word.invariant
     ∙ ap (λ left. names_after names (names_said (map (λ word. word.now) left))) (drop_more words c.loop-word.word-index _ c.loop-word-test.true)
     ∙ names_said-fault _ _ names _ (sym c.in_err-name_said.ensures.answer) in
-    gives-fault _ _ c.from_residual.result _ told c.from_residual.ensures.1
+    gives-fault _ _ c.from_residual.result _ report c.from_residual.ensures.1
 
 pub loop-word-preserved : goal.loop-word-preserved
 loop-word-preserved c =

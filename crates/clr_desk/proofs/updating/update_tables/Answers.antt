@@ -26,8 +26,8 @@ update-requires g c =
     (states_given R u after c.is_read.ensures is.0 is.1)
 
 -- something is in the way
-pub returns-in-InTheWay-clause-told : goal.returns-in-InTheWay-clause-told
-returns-in-InTheWay-clause-told g c =
+pub returns-in-InTheWay-clause-report : goal.returns-in-InTheWay-clause-report
+returns-in-InTheWay-clause-report g c =
     subst (λ (o : Outcome). IsOutcome c.args.book.now.register (as_update c.args.update) o) c.in-InTheWay.is c.in_ok-outcome.ensures
 
 pub returns-in-InTheWay-clause-updated : goal.returns-in-InTheWay-clause-updated

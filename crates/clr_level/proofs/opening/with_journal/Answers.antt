@@ -5,7 +5,7 @@ use Rattle.clr_journal.specs.Line.{entry_of}
 use Rattle.clr_level.specs.Forward.{CanBeOpened}
 use Rattle.clr_level.specs.declared.keeper.Keeper.{Keeper}
 use Rattle.clr_level.proofs.Forwarding.{goes_on, still_good, stops_on}
-use Rattle.clr_level.proofs.Openings.{opened_level}
+use Rattle.clr_level.proofs.Openings.{opened_level, rolled}
 use Rattle.clr_level.proofs.opening.with_journal.Goals as goal
 
 pub returns-in-Ok-clause-level : goal.returns-in-Ok-clause-level
@@ -26,6 +26,19 @@ returns-in-Ok-clause-level g c first start good can =
     (ap (λ (k : Keeper g.row.K.Denot g.row.J.Denot g.row.C.Denot). k.journal) store ∙ c.new-keeper.ensures.journal)
     (ap (λ (k : Keeper g.row.K.Denot g.row.J.Denot g.row.C.Denot). k.at) store ∙ c.new-keeper.ensures.at)
     (ap (λ (k : Keeper g.row.K.Denot g.row.J.Denot g.row.C.Denot). k.last) store ∙ c.new-keeper.ensures.last)
+
+pub returns-in-Ok-clause-rolled : goal.returns-in-Ok-clause-rolled
+returns-in-Ok-clause-rolled g c = λ good begins shallow placed.
+    let kept = g.K.Commit.kept in
+    let has_place = g.K.CommitAt.has_place in
+    let R = c.args.desk.book.register in
+    let lines = map entry_of c.args.lines.items in
+    let desk = c.roll_forward-came.result.1 in
+    let at = c.roll_forward-came.result.2 in
+    let come = goes_on kept has_place R c.args.place lines c.roll_forward-came.result.0 c.in-Ok.field-0 desk at None [] c.in-Ok.is
+    (c.roll_forward-came.ensures.went good begins shallow placed) in
+    rolled has_place R c.args.place lines desk.book.register c.of.result.book.register (kept desk.store) at come
+    (ap (λ (b : Shelved). b.register) (c.of.ensures.book ∙ c.parted-book.ensures.book))
 
 pub returns-in-Ok-clause-led : goal.returns-in-Ok-clause-led
 returns-in-Ok-clause-led g c =

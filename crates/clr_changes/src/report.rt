@@ -1,7 +1,7 @@
-//! What is said of an update.
+//! The report of an update.
 ghost use Rattle.std.specs.Prelude.{◌≡◌, IfOk};
 ghost use Rattle.clr_changes.specs.Shown.{as_update};
-ghost use Rattle.clr_changes.specs.Told.{IsTold};
+ghost use Rattle.clr_changes.specs.Report.{IsReport};
 
 use crate::outcome::{Outcome, outcome_of};
 use crate::print::print_changes;
@@ -12,34 +12,34 @@ use clr_shelf::Shelf;
 use clr_update::Obstacle;
 use std::alloc::{AllocError, Global};
 
-/// What is said of an update.
+/// The report of an update.
 #[derive(Drop)]
-pub enum Told {
+pub enum Report {
     /// This is in its way.
     InTheWay(Obstacle),
     /// What changes, a line each.
     Changes(String),
 }
 
-/// What is said of an update of a book, which stays as it is.
-pub fn told_of<P, C, T, H>(
+/// The report of an update of a book, which stays as it is.
+pub fn report_of<P, C, T, H>(
     alloc: Global,
     book: &Book<P, C, T, H>,
     update: Update,
-) -> Result<Told, AllocError>
+) -> Result<Report, AllocError>
 where
     P: Shelf<PointState>,
     C: Shelf<Record>,
     T: Shelf<StepRow>,
     H: Shelf<Hold>,
-    ensures { IfOk result (IsTold book.now.register (as_update update)) }
+    ensures { IfOk result (IsReport book.now.register (as_update update)) }
 {
     let outcome = outcome_of(alloc, book, update)?;
     match outcome {
-        Outcome::InTheWay(obstacle) => Ok(Told::InTheWay(obstacle)),
+        Outcome::InTheWay(obstacle) => Ok(Report::InTheWay(obstacle)),
         Outcome::Accepted(after) => {
             let lines = print_changes(alloc, &after.changes)?;
-            Ok(Told::Changes(lines))
+            Ok(Report::Changes(lines))
         }
     }
 }

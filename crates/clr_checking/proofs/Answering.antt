@@ -1,0 +1,26 @@
+-- Lines more whose replies are those of a run.
+use Rattle.std.proofs.Common.{◌≡◌, ◌∙◌, Bool, true, false, List, [], ◌∷◌, ◌++◌, map, refl, ap}
+use Rattle.std.proofs.lemmas.List.{map-append}
+use Rattle.serde_json.specs.Data.{Data}
+use Rattle.clr_rules.specs.Register.{Register}
+use Rattle.clr_rules.specs.declared.command.Command.{Command}
+use Rattle.clr_journal.specs.Journals.{carried_out, commands_of, withdraws}
+use Rattle.clr_journal.specs.Line.{Entry, carried, withdrawn}
+use Rattle.clr_chain.proofs.LevelKept.{carried_out-append}
+use Rattle.clr_checking.specs.Checking.{AreAnswered, none, refused, gone, done}
+use Rattle.clr_checking.proofs.Places.{same_withdraws}
+
+-- lines, and lines after them of which the first does not withdraw
+pub answered_then : (more : List Entry) (T : Register) → withdraws more ≡ false → {R S : Register} {lines : List Entry} → AreAnswered R lines S → AreAnswered S more T
+    → AreAnswered R (lines ++ more) T
+answered_then more T kept (none R) next = next
+answered_then more T kept (refused R S receipt q reply rest not is are) next =
+    refused R T receipt q reply (rest ++ more) not is (answered_then more T kept are next)
+answered_then more T kept (gone R S receipt q reply n rest is are) next =
+    gone R T receipt q reply n (rest ++ more) is (answered_then more T kept are next)
+answered_then more T kept (done R S receipt q reply rest is stays own are) next =
+    done R T receipt q reply (rest ++ more) is (same_withdraws rest more kept ∙ stays) own (answered_then more T kept are next)
+
+pub commands_then : (xs ys : List Entry) → withdraws ys ≡ false → commands_of (xs ++ ys) ≡ commands_of xs ++ commands_of ys
+commands_then xs ys kept =
+    ap (map (λ (pair : Command × Data). pair.0)) (carried_out-append xs ys kept) ∙ map-append (λ (pair : Command × Data). pair.0) (carried_out xs) (carried_out ys)

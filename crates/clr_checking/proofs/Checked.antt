@@ -1,0 +1,327 @@
+-- How far a register was checked, after a line more, and after all.
+use Rattle.std.proofs.Common.{◌≡◌, ◌⊎◌, ◌∙◌, ℕ, Bool, true, false, List, [], ◌∷◌, ◌++◌, Option, None, Some, length, refl, ap, sym, subst, inl, inr, append_assoc, append-nil}
+use Rattle.clr_rules.specs.Register.{Register}
+use Rattle.clr_place.specs.declared.place.Place.{Place}
+use Rattle.clr_journal.specs.Journals.{commands_of, in_turn, withdraws}
+use Rattle.clr_journal.specs.Line.{Entry}
+use Rattle.clr_journal.specs.declared.line.Carried.{Carried}
+use Rattle.clr_journal.specs.Laws.{turn_behind}
+use Rattle.clr_chain.specs.Chain.{ReadOn, read_on}
+use Rattle.clr_chain.specs.First.{end_at, first_turn_at}
+use Rattle.clr_chain.specs.Level.{place_after}
+use Rattle.clr_chain.specs.Link.{next_link}
+use Rattle.clr_chain.specs.Sums.{sum_behind}
+use Rattle.clr_chain.specs.Walking.{bad, holds, part_of, step_of}
+use Rattle.clr_chain.specs.declared.chain_end.ChainEnd.{ChainEnd}
+use Rattle.clr_chain.specs.declared.walk.Walk.{Walk}
+use Rattle.clr_checking.specs.Checking.{AreAnswered, AreLines, EndsAt, IsBadAfter, IsChecked, IsCheckedFrom, Refuses}
+use Rattle.clr_checking.specs.CheckingOn.{CheckedTo, CheckedToFrom, ComesFrom, GoesOver, IsAfter, IsAtCommand, IsOf, IsOfLast, IsOfRun, Ran, RanOver, RunsFrom, Waits}
+use Rattle.clr_verify.specs.Replay.{open_entries}
+use Rattle.clr_checking.specs.declared.checking.Checking.{Checking}
+use Rattle.clr_checking.specs.declared.fault.CheckFault.{CheckFault}
+use Rattle.clr_checking.specs.declared.fault.CheckFault.TheVariants.{BadLine, Differs, NoMemory, OtherRegister, Reply, Tables, TooShort}
+use Rattle.clr_checking.proofs.Chained.{held, is_after, is_read, line_more, not_held, part_ends}
+use Rattle.clr_checking.proofs.Flat.{Each, IsFlat, read_are_flat}
+use Rattle.clr_checking.proofs.Places.{kept_more, place_on}
+use Rattle.clr_checking.proofs.Ran.{ran_none}
+use Rattle.clr_checking.proofs.Runs.{each_end, is_level, turns_closed, turns_end}
+
+-- ---- the chain goes on, and the rest stays
+
+ran_walk : (began R : Register) (first place : Place) (old : Checking) (walk : Walk) (entries : List Entry) → RanOver began first place R old entries
+    → RanOver began first place R (record old { walk = walk }) entries
+ran_walk began R first place old walk entries over = record { of = record { place_is = over.of.place_is; book_is = over.of.book_is }; ran = over.ran }
+
+waits_walk : (copied R : Register) (at first place : Place) (old : Checking) (walk : Walk) → Waits copied at first place R old
+    → Waits copied at first place R (record old { walk = walk })
+waits_walk copied R at first place old walk w = record {
+  of = record { place_is = w.of.place_is; book_is = w.of.book_is };
+  same_id = w.same_id;
+  from = w.from;
+  last = w.last;
+  register = w.register;
+  count = w.count;
+  met = w.met;
+}
+
+over_more : (first place : Place) (texts : List (List ℕ)) (text : List ℕ) (entries : List Entry) (entry : Entry) (old new : Checking) (walk : Walk)
+    → (holds entry, walk.end) ≡ step_of old.walk.end text → walk.id ≡ old.walk.id → new.walk ≡ walk
+    → GoesOver first place old texts entries → GoesOver first place new (texts ++ text ∷ []) (entries ++ entry ∷ [])
+over_more first place texts text entries entry old new walk step ids walks over =
+    let both = held old.walk.end walk.end text entry step in
+    let more = line_more first texts entries old.walk.end text entry over.lines over.end_is both.0 in
+    record {
+      same_id = over.same_id;
+      lines = more.0;
+      end_is = subst (λ (e : ChainEnd). EndsAt e (read_on (end_at first) (texts ++ text ∷ [])).end) (sym (ap (λ (w : Walk). w.end) walks ∙ both.1)) more.1;
+      id_is = ap (λ (w : Walk). w.id) walks ∙ ids ∙ over.id_is;
+    }
+
+after_over : (first place : Place) (texts : List (List ℕ)) (text : List ℕ) (entries : List Entry) (entry : Entry) (old : Checking) (walk : Walk)
+    → (holds entry, walk.end) ≡ step_of old.walk.end text → GoesOver first place old texts entries → IsAfter first place walk.end.sum entry entries
+after_over first place texts text entries entry old walk step over =
+    let both = held old.walk.end walk.end text entry step in
+    subst (λ (e : ChainEnd). IsAfter first place e.sum entry entries) (sym both.1)
+    (is_after first place texts entries old.walk.end text entry over.same_id over.lines over.end_is both.0)
+
+-- ---- the first line
+
+goes_first : (first place : Place) (old new : Checking) → old.walk.id ≡ first.id → old.walk.end ≡ end_at first → place.id ≡ first.id → new.walk ≡ old.walk
+    → GoesOver first place new [] []
+unfolding read_on
+goes_first first place old new ids ends same walks = record {
+  same_id = same;
+  lines = record { read = refl; all = refl };
+  end_is = subst (λ (e : ChainEnd). EndsAt e (end_at first)) (sym (ap (λ (w : Walk). w.end) walks ∙ ends)) (record { number = refl; sum = refl; closed = λ sure. sure });
+  id_is = ap (λ (w : Walk). w.id) walks ∙ ids;
+}
+
+at_first : (first place : Place) (old : Checking) → old.walk.end ≡ end_at first → place.id ≡ first.id
+    → IsAtCommand first place old.walk.end.turn.last old.walk.end.sum []
+at_first first place old ends same =
+    subst (λ (e : ChainEnd). IsAtCommand first place e.turn.last e.sum []) (sym ends) (record { here = refl; at_command = refl; same_id = same })
+
+pub begun_checked : (began R : Register) (first place : Place) (old new : Checking) → old.walk.id ≡ first.id → old.walk.end ≡ end_at first → old.place.id ≡ old.walk.id
+    → new.walk ≡ old.walk → (old.from ≡ None → new.from ≡ None)
+    → (IsAtCommand first place old.walk.end.turn.last old.walk.end.sum [] → old.from ≡ None → RanOver began first place R old [] → RanOver began first place R new [])
+    → old.from ≡ None → RanOver began first place R old [] → CheckedTo began first place R new []
+begun_checked began R first place old new ids ends own walks begun went none over =
+    let same : place.id ≡ first.id = ap (λ (p : Place). p.id) (sym over.of.place_is) ∙ own ∙ ids in
+    record {
+      entries = [];
+      over = goes_first first place old new ids ends same walks;
+      begun = begun none;
+      ran = went (at_first first place old ends same) none over;
+    }
+
+pub begun_checked_from : (copied R : Register) (at first place : Place) (old new : Checking) → old.walk.id ≡ first.id → old.walk.end ≡ end_at first
+    → old.place.id ≡ old.walk.id → at.id ≡ old.walk.id → new.walk ≡ old.walk
+    → (IsAtCommand first place old.walk.end.turn.last old.walk.end.sum [] → Waits copied at first place R old → ComesFrom copied at first place R new [] [])
+    → (at.id ≡ first.id → Waits copied at first place R old) → CheckedToFrom copied at first place R new []
+begun_checked_from copied R at first place old new ids ends own own_from walks waited waits =
+    let w = waits (own_from ∙ ids) in
+    let same : place.id ≡ first.id = ap (λ (p : Place). p.id) (sym w.of.place_is) ∙ own ∙ ids in
+    record {
+      before = [];
+      entries = [];
+      over = goes_first first place old new ids ends same walks;
+      come = waited (at_first first place old ends same) w;
+    }
+
+-- nothing was run yet
+pub fresh : (first : Place) (it : Checking) → it.last ≡ None → it.count ≡ 0 → it.is_met ≡ false
+    → RanOver it.desk.book.register first it.place it.book.now.register it []
+fresh first it last count met = record {
+  of = record { place_is = refl; book_is = refl };
+  ran = ran_none it.desk.book.register it.desk.book.register it.book.now.register first it.place it.last it.count it.is_met last refl count met;
+}
+
+-- ---- a line more
+
+-- what comes of a line that is run, and of one that is not
+abbrev pub Goes : Checking → Walk → Entry → Checking → Type 0
+Goes old walk entry new = (began : Register) (first place : Place) (R : Register) (entries : List Entry) → old.from ≡ None
+    → IsAfter first place walk.end.sum entry entries → RanOver began first place R (record old { walk = walk }) entries
+    → RanOver began first place R new (entries ++ entry ∷ [])
+
+abbrev pub StaysKept : Checking → Walk → Entry → Type 0
+StaysKept old walk entry = (began : Register) (first place : Place) (R : Register) → old.from ≡ None
+    → RanOver began first place R (record old { walk = walk }) [] → withdraws (entry ∷ []) ≡ false
+
+abbrev pub Waited : Checking → Walk → Entry → Checking → Type 0
+Waited old walk entry new = (copied : Register) (at first place : Place) (R : Register) (before : List Entry)
+    → IsAfter first place walk.end.sum entry before → Waits copied at first place R (record old { walk = walk })
+    → ComesFrom copied at first place R new (before ++ entry ∷ []) []
+
+pub line_checked : (began R : Register) (first place : Place) (texts : List (List ℕ)) (text : List ℕ) (entry : Entry) (old new : Checking) (walk : Walk)
+    → (holds entry, walk.end) ≡ step_of old.walk.end text → walk.id ≡ old.walk.id → new.walk ≡ walk → (old.from ≡ None → new.from ≡ None) → Goes old walk entry new
+    → CheckedTo began first place R old texts → CheckedTo began first place R new (texts ++ text ∷ [])
+line_checked began R first place texts text entry old new walk step ids walks begun goes it = record {
+  entries = it.entries ++ entry ∷ [];
+  over = over_more first place texts text it.entries entry old new walk step ids walks it.over;
+  begun = begun it.begun;
+  ran = goes began first place R it.entries it.begun (after_over first place texts text it.entries entry old walk step it.over)
+      (ran_walk began R first place old walk it.entries it.ran);
+}
+
+-- lines after a place are after it
+after_place : (first at place : Place) (sum : List ℕ) (entry : Entry) (before entries : List Entry) → at ≡ place_after first before
+    → IsAfter first place sum entry (before ++ entries) → IsAfter at place sum entry entries
+after_place first at place sum entry before entries is_at is =
+    let here : place_after at entries ≡ place_after first (before ++ entries) = ap (λ (s : Place). place_after s entries) is_at ∙ place_on first before entries in
+    let there : place_after at (entries ++ entry ∷ []) ≡ place_after first ((before ++ entries) ++ entry ∷ []) =
+    ap (λ (s : Place). place_after s (entries ++ entry ∷ [])) is_at ∙ place_on first before (entries ++ entry ∷ [])
+    ∙ ap (place_after first) (sym (append_assoc before entries (entry ∷ []))) in
+    record {
+      last = subst (λ (p : Place). IsOfLast entry p.number) (sym here) is.last;
+      sum_is = is.sum_is ∙ ap (λ (p : Place). p.sum) (sym there);
+      same_id = is.same_id ∙ ap (λ (p : Place). p.id) (sym is_at);
+    }
+
+waited_on : (copied R : Register) (at first place : Place) (texts : List (List ℕ)) (text : List ℕ) (entry : Entry) (old new : Checking) (walk : Walk) (before entries : List Entry)
+    → (holds entry, walk.end) ≡ step_of old.walk.end text → walk.id ≡ old.walk.id → new.walk ≡ walk → Waited old walk entry new
+    → GoesOver first place old texts (before ++ entries) → entries ≡ [] → Waits copied at first place R old
+    → CheckedToFrom copied at first place R new (texts ++ text ∷ [])
+waited_on copied R at first place texts text entry old new walk before entries step ids walks waited over none w =
+    let all : before ++ entries ≡ before = ap (λ (es : List Entry). before ++ es) none ∙ append-nil before in
+    let so_far : GoesOver first place old texts before = subst (λ (es : List Entry). GoesOver first place old texts es) all over in
+    record {
+      before = before ++ entry ∷ [];
+      entries = [];
+      over = subst (λ (es : List Entry). GoesOver first place new (texts ++ text ∷ []) es) (sym (append-nil (before ++ entry ∷ [])))
+          (over_more first place texts text before entry old new walk step ids walks so_far);
+      come = waited copied at first place R before (after_over first place texts text before entry old walk step so_far)
+          (waits_walk copied R at first place old walk w);
+    }
+
+run_on : (copied R : Register) (at first place : Place) (texts : List (List ℕ)) (text : List ℕ) (entry : Entry) (old new : Checking) (walk : Walk) (before entries : List Entry)
+    → (holds entry, walk.end) ≡ step_of old.walk.end text → walk.id ≡ old.walk.id → new.walk ≡ walk → (old.from ≡ None → new.from ≡ None)
+    → Goes old walk entry new → StaysKept old walk entry
+    → GoesOver first place old texts (before ++ entries) → RunsFrom copied at first place R old before entries
+    → CheckedToFrom copied at first place R new (texts ++ text ∷ [])
+run_on copied R at first place texts text entry old new walk before entries step ids walks begun goes stays over runs =
+    let is = after_place first at place walk.end.sum entry before entries runs.is_at
+    (after_over first place texts text (before ++ entries) entry old walk step over) in
+    let ran = ran_walk copied R at place old walk entries runs.ran in
+    record {
+      before = before;
+      entries = entries ++ entry ∷ [];
+      over = subst (λ (es : List Entry). GoesOver first place new (texts ++ text ∷ []) es) (append_assoc before entries (entry ∷ []))
+          (over_more first place texts text (before ++ entries) entry old new walk step ids walks over);
+      come = inr (record {
+        begun = begun runs.begun;
+        is_at = runs.is_at;
+        at_command = runs.at_command;
+        kept = kept_more entries entry runs.kept (λ none.
+            stays copied at place R runs.begun (subst (λ (es : List Entry). RanOver copied at place R (record old { walk = walk }) es) none ran));
+        ran = goes copied at place R entries runs.begun is ran;
+      });
+    }
+
+pub line_checked_from : (copied R : Register) (at first place : Place) (texts : List (List ℕ)) (text : List ℕ) (entry : Entry) (old new : Checking) (walk : Walk)
+    → (holds entry, walk.end) ≡ step_of old.walk.end text → walk.id ≡ old.walk.id → new.walk ≡ walk → (old.from ≡ None → new.from ≡ None)
+    → Goes old walk entry new → StaysKept old walk entry → Waited old walk entry new
+    → CheckedToFrom copied at first place R old texts → CheckedToFrom copied at first place R new (texts ++ text ∷ [])
+line_checked_from copied R at first place texts text entry old new walk step ids walks begun goes stays waited it = by it.come
+  where
+    by : ComesFrom copied at first place R old it.before it.entries → CheckedToFrom copied at first place R new (texts ++ text ∷ [])
+    by (inl w) = waited_on copied R at first place texts text entry old new walk it.before it.entries step ids walks waited it.over w.0 w.1
+    by (inr runs) = run_on copied R at first place texts text entry old new walk it.before it.entries step ids walks begun goes stays it.over runs
+
+-- ---- a line that does not hold its sum
+
+pub bad_over : (first place : Place) (texts : List (List ℕ)) (text : List ℕ) (entries : List Entry) (old : Checking) (after : ChainEnd) (n : ℕ)
+    → (bad n, after) ≡ step_of old.walk.end text → GoesOver first place old texts entries → IsBadAfter first texts text n
+bad_over first place texts text entries old after n step over =
+    let both = not_held old.walk.end after text n step in
+    record { entries = entries; lines = over.lines; end = old.walk.end; end_is = over.end_is; bad = both.0; number = both.1 }
+
+-- no other fault says so
+pub of_run : (first : Place) (texts : List (List ℕ)) (text : List ℕ) (fault : CheckFault) → IsOfRun fault → Refuses first texts text fault
+of_run first texts text (BadLine n) is = absurd is
+of_run first texts text (Reply n) is = tt
+of_run first texts text (Differs n) is = tt
+of_run first texts text (Tables found) is = tt
+of_run first texts text TooShort is = tt
+of_run first texts text OtherRegister is = tt
+of_run first texts text NoMemory is = tt
+
+-- ---- a further part
+
+over_part : (first place : Place) (texts : List (List ℕ)) (entries : List Entry) (old : Checking) (walk : Walk) (found : Option Place)
+    → (true, walk.end) ≡ part_of old.walk.id old.walk.end found → walk.id ≡ old.walk.id
+    → GoesOver first place old texts entries → GoesOver first place (record old { walk = walk }) texts entries
+over_part first place texts entries old walk found part ids over = record {
+  same_id = over.same_id;
+  lines = over.lines;
+  end_is = part_ends old.walk.id old.walk.end walk.end (read_on (end_at first) texts).end found part over.end_is;
+  id_is = ids ∙ over.id_is;
+}
+
+pub part_checked : (began R : Register) (first place : Place) (texts : List (List ℕ)) (old : Checking) (walk : Walk) (found : Option Place)
+    → (true, walk.end) ≡ part_of old.walk.id old.walk.end found → walk.id ≡ old.walk.id
+    → CheckedTo began first place R old texts → CheckedTo began first place R (record old { walk = walk }) texts
+part_checked began R first place texts old walk found part ids it = record {
+  entries = it.entries;
+  over = over_part first place texts it.entries old walk found part ids it.over;
+  begun = it.begun;
+  ran = ran_walk began R first place old walk it.entries it.ran;
+}
+
+pub part_checked_from : (copied R : Register) (at first place : Place) (texts : List (List ℕ)) (old : Checking) (walk : Walk) (found : Option Place)
+    → (true, walk.end) ≡ part_of old.walk.id old.walk.end found → walk.id ≡ old.walk.id
+    → CheckedToFrom copied at first place R old texts → CheckedToFrom copied at first place R (record old { walk = walk }) texts
+part_checked_from copied R at first place texts old walk found part ids it = record {
+  before = it.before;
+  entries = it.entries;
+  over = over_part first place texts (it.before ++ it.entries) old walk found part ids it.over;
+  come = by it.come;
+}
+  where
+    by : ComesFrom copied at first place R old it.before it.entries → ComesFrom copied at first place R (record old { walk = walk }) it.before it.entries
+    by (inl w) = inl (w.0, waits_walk copied R at first place old walk w.1)
+    by (inr runs) = inr (record {
+      begun = runs.begun;
+      is_at = runs.is_at;
+      at_command = runs.at_command;
+      kept = runs.kept;
+      ran = ran_walk copied R at place old walk it.entries runs.ran;
+    })
+
+-- ---- the end
+
+ran_all : (began R : Register) (first place : Place) (new : Checking) (entries : List Entry) → new.last ≡ None → (ran : RanOver began first place R new entries)
+    → ran.ran.done ≡ entries
+ran_all began R first place new entries closed over =
+    sym (over.ran.entries_are ∙ ap (λ (o : Option Carried). over.ran.done ++ open_entries o) closed ∙ append-nil over.ran.done)
+
+pub all_checked : (began R : Register) (first place : Place) (texts : List (List ℕ)) (old new : Checking) → new.last ≡ None → new.is_met ≡ true
+    → ((entries : List Entry) → RanOver began first place R old entries → RanOver began first place R new entries)
+    → CheckedTo began first place R old texts → IsChecked began first texts place R new.count
+all_checked began R first place texts old new closed met close it =
+    let over = close it.entries it.ran in
+    let done = ran_all began R first place new it.entries closed over in
+    let turns : in_turn (first_turn_at first) it.entries ≡ true =
+    subst (λ (es : List Entry). in_turn (first_turn_at first) es ≡ true) it.over.lines.read (is_read texts (end_at first)).turns in
+    let flat : Each IsFlat it.entries = subst (λ (es : List Entry). Each IsFlat es) it.over.lines.read (read_are_flat texts (end_at first)) in
+    record {
+      entries = it.entries;
+      lines = it.over.lines;
+      level = is_level began R first place it.entries turns flat (over.ran.met met);
+      left = new.desk.book.register;
+      answered = subst (λ (es : List Entry). AreAnswered began es new.desk.book.register) done over.ran.answered;
+      count_is = over.ran.count_is ∙ ap (λ (es : List Entry). length (commands_of es)) done;
+    }
+
+pub all_checked_from : (copied R : Register) (at first place : Place) (texts : List (List ℕ)) (old new : Checking) → new.last ≡ None → new.is_met ≡ true → old.from ≡ None
+    → ((entries : List Entry) → RanOver copied at place R old entries → RanOver copied at place R new entries)
+    → CheckedToFrom copied at first place R old texts → IsCheckedFrom copied at first texts place R new.count
+all_checked_from copied R at first place texts old new closed met begun close it = by it.come
+  where
+    all_run : RunsFrom copied at first place R old it.before it.entries → IsCheckedFrom copied at first texts place R new.count
+    all_run runs =
+        let over = close it.entries runs.ran in
+        let done = ran_all copied R at place new it.entries closed over in
+        let whole : in_turn (first_turn_at first) (it.before ++ it.entries) ≡ true =
+        subst (λ (es : List Entry). in_turn (first_turn_at first) es ≡ true) it.over.lines.read (is_read texts (end_at first)).turns in
+        let turns : in_turn (first_turn_at at) it.entries ≡ true =
+        turns_closed (turn_behind (first_turn_at first) it.before) at.number it.entries (ap (λ (p : Place). p.number) runs.is_at) runs.kept
+        (turns_end (first_turn_at first) it.before it.entries whole) in
+        let flat : Each IsFlat it.entries =
+        each_end IsFlat it.before it.entries (subst (λ (es : List Entry). Each IsFlat es) it.over.lines.read (read_are_flat texts (end_at first))) in
+        record {
+          before = it.before;
+          entries = it.entries;
+          lines = it.over.lines;
+          is_at = runs.is_at;
+          at_command = runs.at_command;
+          kept = runs.kept;
+          level = is_level copied R at place it.entries turns flat (over.ran.met met);
+          left = new.desk.book.register;
+          answered = subst (λ (es : List Entry). AreAnswered copied es new.desk.book.register) done over.ran.answered;
+          count_is = over.ran.count_is ∙ ap (λ (es : List Entry). length (commands_of es)) done;
+        }
+
+    by : ComesFrom copied at first place R old it.before it.entries → IsCheckedFrom copied at first texts place R new.count
+    by (inl w) = let none : Some at ≡ None = sym w.1.from ∙ begun in absurd (cc none)
+    by (inr runs) = all_run runs

@@ -1,0 +1,10 @@
+pub mod Results
+pub mod Places
+pub mod Answering
+pub mod Ran
+pub mod Steps
+pub mod Coming
+pub mod Chained
+pub mod Flat
+pub mod Runs
+pub mod Checked

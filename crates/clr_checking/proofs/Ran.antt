@@ -1,0 +1,215 @@
+-- The lines that were run, and one more.
+use Rattle.std.proofs.Common.{◌≡◌, ◌≢◌, ◌⊎◌, ◌∙◌, ◌+◌, ℕ, suc, Bool, true, false, cond, List, [], ◌∷◌, ◌++◌, Option, None, Some, length, map, refl, ap, sym, subst, append_assoc, append-nil, length-append, arith}
+use Rattle.std.proofs.lemmas.Bool.{true≢false}
+use Rattle.serde_json.specs.Data.{Data}
+use Rattle.serde_json.specs.View.{view}
+use Rattle.clr_rules.specs.Answer.{Answer, answer}
+use Rattle.clr_rules.specs.Register.{Register}
+use Rattle.clr_rules.specs.Run.{after}
+use Rattle.clr_rules.specs.declared.command.Command.{Command}
+use Rattle.clr_place.specs.declared.place.Place.{Place}
+use Rattle.clr_tables.specs.Tables.{tables_of}
+use Rattle.clr_journal.proofs.JournalsRead.{commands_grow, withdrawn_is_left_out}
+use Rattle.clr_journal.specs.Journals.{carried_out, commands_of, withdraws}
+use Rattle.clr_journal.specs.Laws.{turn_behind}
+use Rattle.clr_journal.specs.Line.{Entry, carried, withdrawn, is_accepted}
+use Rattle.clr_journal.specs.declared.line.Carried.{Carried}
+use Rattle.clr_journal.specs.declared.line.Receipt.{Receipt}
+use Rattle.clr_journal.specs.declared.reading.Turn.{Turn}
+use Rattle.clr_chain.specs.First.{first_turn_at}
+use Rattle.clr_chain.specs.Level.{ends_with_command, place_after}
+use Rattle.clr_chain.specs.Sums.{sum_behind}
+use Rattle.clr_checking.specs.Checking.{AreAnswered, none, refused, gone, done, is_brief}
+use Rattle.clr_checking.specs.CheckingOn.{IsAfter, IsAtCommand, IsMet, IsOpenAt, Ran}
+use Rattle.clr_verify.specs.Replay.{open_entries}
+use Rattle.clr_verify.specs.Replies.{IsReply}
+use Rattle.clr_checking.proofs.Answering.{answered_then}
+use Rattle.clr_checking.proofs.Places.{ends_so, kept_more, turn_more}
+
+-- ---- the place of the register
+
+met_more : (began R : Register) (first place : Place) (entries : List Entry) (entry : Entry) → (place ≡ place_after first entries → withdraws (entry ∷ []) ≡ false)
+    → IsMet began first entries place R → IsMet began first (entries ++ entry ∷ []) place R
+met_more began R first place entries entry stays it = record {
+  had = it.had;
+  more = it.more ++ entry ∷ [];
+  all = ap (λ es. es ++ entry ∷ []) it.all ∙ append_assoc it.had it.more (entry ∷ []);
+  is_at = it.is_at;
+  at_command = it.at_command;
+  kept = kept_more it.more entry it.kept
+      (λ before_it. stays (it.is_at ∙ ap (place_after first) (sym (it.all ∙ ap (λ more. it.had ++ more) before_it ∙ append-nil it.had))));
+  register = it.register;
+  answered = it.answered;
+  tables = it.tables;
+}
+
+met_here : (began S R : Register) (first place : Place) (entries : List Entry) → place ≡ place_after first entries → ends_with_command entries ≡ true
+    → AreAnswered began entries S → tables_of R ≡ tables_of S → IsMet began first entries place R
+met_here began S R first place entries is_at at_command answered tables = record {
+  had = entries;
+  more = [];
+  all = sym (append-nil entries);
+  is_at = is_at;
+  at_command = at_command;
+  kept = refl;
+  register = S;
+  answered = answered;
+  tables = tables;
+}
+
+-- it was met before, or is met now
+met_by : (M : Type 0) (met met' : Bool) → (met ≡ true → M) → (met' ≡ true → met ≡ false → M) → met' ≡ true → M
+met_by M true met' was newly sure = was refl
+met_by M false met' was newly sure = newly sure refl
+
+-- ---- how many commands were carried out
+
+many : (pairs : List (Command × Data)) → length (map (λ (pair : Command × Data). pair.0) pairs) ≡ length pairs
+many [] = refl
+many (pair ∷ pairs) = ap suc (many pairs)
+
+counted : (lines : List Entry) (receipt : Receipt) (q : Command) (reply : Data) → is_accepted reply ≡ true
+    → length (commands_of (lines ++ carried receipt q reply ∷ [])) ≡ length (commands_of lines) + 1
+counted lines receipt q reply accepted =
+    let out : carried_out (lines ++ carried receipt q reply ∷ []) ≡ carried_out lines ++ (q, reply) ∷ [] =
+    commands_grow lines receipt q reply ∙ ap (λ (b : Bool). carried_out lines ++ cond b ((q, reply) ∷ []) []) accepted in
+    many (carried_out (lines ++ carried receipt q reply ∷ [])) ∙ ap length out ∙ length-append (carried_out lines) ((q, reply) ∷ [])
+    ∙ ap (λ n. n + 1) (sym (many (carried_out lines)))
+
+not_counted : (lines : List Entry) (receipt : Receipt) (q : Command) (reply : Data) → is_accepted reply ≡ false
+    → commands_of (lines ++ carried receipt q reply ∷ []) ≡ commands_of lines
+not_counted lines receipt q reply not =
+    ap (map (λ (pair : Command × Data). pair.0))
+    (commands_grow lines receipt q reply ∙ ap (λ (b : Bool). carried_out lines ++ cond b ((q, reply) ∷ []) []) not ∙ append-nil (carried_out lines))
+
+gone_not_counted : (lines : List Entry) (receipt : Receipt) (q : Command) (reply : Data) (n : ℕ)
+    → commands_of (lines ++ carried receipt q reply ∷ withdrawn n ∷ []) ≡ commands_of lines
+gone_not_counted lines receipt q reply n = ap (map (λ (pair : Command × Data). pair.0)) (withdrawn_is_left_out lines receipt q reply n)
+
+-- ---- a line more
+
+-- the place after a command
+pub place_here : (first place : Place) (entries : List Entry) (receipt : Receipt) (q : Command) (reply : Data) (sum : List ℕ)
+    → IsAfter first place sum (carried receipt q reply) entries → (receipt.number ≡ place.number → place.sum ≡ sum)
+    → receipt.number ≡ place.number → place ≡ place_after first (entries ++ carried receipt q reply ∷ [])
+place_here first place entries receipt q reply sum is expected at =
+    let entry : Entry = carried receipt q reply in
+    let number : place.number ≡ (turn_behind (first_turn_at first) (entries ++ entry ∷ [])).last = sym at ∙ ap (λ (t : Turn). t.last) (sym (turn_more (first_turn_at first) entries entry)) in
+    let sums : place.sum ≡ sum_behind first.sum (entries ++ entry ∷ []) = expected at ∙ is.sum_is in
+    λ i. record { id = is.same_id i; number = number i; sum = sums i }
+
+-- the open command is carried out
+pub closes : (began S T R : Register) (first place : Place) (one : Carried) (count next : ℕ) (met met' : Bool) (entries : List Entry)
+    → is_accepted (view one.reply) ≡ true → IsReply (view one.reply) (Answer.reply (answer S one.command)) → T ≡ after S one.command → next ≡ count + 1
+    → (met' ≡ true → met ≡ false → (one.receipt.number ≡ place.number) × (tables_of R ≡ tables_of T))
+    → Ran began first place R (Some one) S count met entries → Ran began first place R None T next met' entries
+closes began S T R first place one count next met met' entries accepted own after_is next_is now ran =
+    let entry : Entry = carried one.receipt one.command (view one.reply) in
+    let line : AreAnswered S (entry ∷ []) T =
+    subst (λ (X : Register). AreAnswered S (entry ∷ []) X) (sym after_is)
+    (done S (after S one.command) one.receipt one.command (view one.reply) [] accepted refl own (none (after S one.command))) in
+    let answered : AreAnswered began (ran.done ++ entry ∷ []) T = answered_then (entry ∷ []) T refl ran.answered line in
+    record {
+      done = ran.done ++ entry ∷ [];
+      entries_are = ran.entries_are ∙ sym (append-nil (ran.done ++ entry ∷ []));
+      answered = answered;
+      count_is = next_is ∙ ap (λ (n : ℕ). n + 1) ran.count_is ∙ sym (counted ran.done one.receipt one.command (view one.reply) accepted);
+      open_at = tt;
+      met = met_by (IsMet began first entries place R) met met' ran.met (λ sure before_it.
+          met_here began T R first place entries (ran.open_at (now sure before_it).0)
+          (subst (λ (es : List Entry). ends_with_command es ≡ true) (sym ran.entries_are) (ends_so ran.done entry refl))
+          (subst (λ (es : List Entry). AreAnswered began es T) (sym ran.entries_are) answered) (now sure before_it).1);
+    }
+
+-- the open command is withdrawn
+pub withdraws_one : (began S R : Register) (first place : Place) (one : Carried) (count n : ℕ) (met : Bool) (entries : List Entry)
+    → is_accepted (view one.reply) ≡ true → n ≢ place.number → n ≡ (place_after first entries).number
+    → Ran began first place R (Some one) S count met entries → Ran began first place R None S count met (entries ++ withdrawn n ∷ [])
+withdraws_one began S R first place one count n met entries accepted other last ran =
+    let entry : Entry = carried one.receipt one.command (view one.reply) in
+    let lines : List Entry = entry ∷ withdrawn n ∷ [] in
+    record {
+      done = ran.done ++ lines;
+      entries_are = ap (λ (es : List Entry). es ++ withdrawn n ∷ []) ran.entries_are ∙ append_assoc ran.done (entry ∷ []) (withdrawn n ∷ [])
+          ∙ sym (append-nil (ran.done ++ lines));
+      answered = answered_then lines S refl ran.answered (gone S S one.receipt one.command (view one.reply) n [] accepted (none S));
+      count_is = ran.count_is ∙ ap length (sym (gone_not_counted ran.done one.receipt one.command (view one.reply) n));
+      open_at = tt;
+      met = λ sure. met_more began R first place entries (withdrawn n) (λ at. absurd (other (last ∙ ap (λ (p : Place). p.number) (sym at)))) (ran.met sure);
+    }
+
+-- a command that was accepted is the open one
+pub takes_accepted : (began S R : Register) (first place : Place) (one : Carried) (count : ℕ) (met : Bool) (entries : List Entry)
+    → (one.receipt.number ≡ place.number → place ≡ place_after first (entries ++ carried one.receipt one.command (view one.reply) ∷ []))
+    → Ran began first place R None S count met entries
+    → Ran began first place R (Some one) S count met (entries ++ carried one.receipt one.command (view one.reply) ∷ [])
+takes_accepted began S R first place one count met entries here ran =
+    let entry : Entry = carried one.receipt one.command (view one.reply) in
+    record {
+      done = ran.done;
+      entries_are = ap (λ (es : List Entry). es ++ entry ∷ []) (ran.entries_are ∙ append-nil ran.done);
+      answered = ran.answered;
+      count_is = ran.count_is;
+      open_at = here;
+      met = λ sure. met_more began R first place entries entry (λ at. refl) (ran.met sure);
+    }
+
+-- one that was refused is passed over
+pub takes_refused : (began S R : Register) (first place : Place) (receipt : Receipt) (q : Command) (reply : Data) (count : ℕ) (met met' : Bool) (entries : List Entry)
+    → is_accepted reply ≡ false → (is_brief q.kind ≡ true) ⊎ IsReply reply (Answer.reply (answer S q))
+    → (receipt.number ≡ place.number → place ≡ place_after first (entries ++ carried receipt q reply ∷ []))
+    → (met' ≡ true → met ≡ false → (receipt.number ≡ place.number) × (tables_of R ≡ tables_of S))
+    → Ran began first place R None S count met entries → Ran began first place R None S count met' (entries ++ carried receipt q reply ∷ [])
+takes_refused began S R first place receipt q reply count met met' entries not own here now ran =
+    let entry : Entry = carried receipt q reply in
+    let all : entries ++ entry ∷ [] ≡ ran.done ++ entry ∷ [] = ap (λ (es : List Entry). es ++ entry ∷ []) (ran.entries_are ∙ append-nil ran.done) in
+    let answered : AreAnswered began (ran.done ++ entry ∷ []) S =
+    answered_then (entry ∷ []) S refl ran.answered (refused S S receipt q reply [] not own (none S)) in
+    record {
+      done = ran.done ++ entry ∷ [];
+      entries_are = all ∙ sym (append-nil (ran.done ++ entry ∷ []));
+      answered = answered;
+      count_is = ran.count_is ∙ ap length (sym (not_counted ran.done receipt q reply not));
+      open_at = tt;
+      met = met_by (IsMet began first (entries ++ entry ∷ []) place R) met met' (λ sure. met_more began R first place entries entry (λ at. refl) (ran.met sure)) (λ sure before_it.
+          met_here began S R first place (entries ++ entry ∷ []) (here (now sure before_it).0) (ends_so entries entry refl)
+          (subst (λ (es : List Entry). AreAnswered began es S) (sym all) answered) (now sure before_it).1);
+    }
+
+-- ---- before the first line that is run
+
+nothing_done : (lines more : List Entry) → [] ≡ lines ++ more → (lines ≡ []) × (more ≡ [])
+nothing_done [] more is = (refl, sym is)
+nothing_done (entry ∷ lines) more is = absurd (cc is)
+
+-- the place of the register may be the one that the lines begin at
+pub begins : (began S R : Register) (first place : Place) (last : Option Carried) (count : ℕ) (met met' : Bool)
+    → (met' ≡ true → met ≡ false → (place ≡ first) × (tables_of R ≡ tables_of S))
+    → Ran began first place R last S count met [] → Ran began first place R last S count met' []
+begins began S R first place last count met met' now ran = record {
+  done = ran.done;
+  entries_are = ran.entries_are;
+  answered = ran.answered;
+  count_is = ran.count_is;
+  open_at = ran.open_at;
+  met = met_by (IsMet began first [] place R) met met' ran.met (λ sure before_it.
+      met_here began S R first place [] (now sure before_it).0 refl
+      (subst (λ (es : List Entry). AreAnswered began es S) (nothing_done ran.done (open_entries last) ran.entries_are).0 ran.answered) (now sure before_it).1);
+}
+
+-- no command is open where no line was run
+pub none_open : (began S R : Register) (first place : Place) (one : Carried) (count : ℕ) (met : Bool) → Ran began first place R (Some one) S count met [] → ⊥
+none_open began S R first place one count met ran = cc (nothing_done ran.done (open_entries (Some one)) ran.entries_are).1
+
+-- over the register of a copy nothing was run
+pub ran_none : (copied S R : Register) (at place : Place) (last : Option Carried) (count : ℕ) (met : Bool) → last ≡ None → S ≡ copied → count ≡ 0 → met ≡ false
+    → Ran copied at place R last S count met []
+unfolding carried_out
+ran_none copied S R at place last count met last_is is count_is met_is = record {
+  done = [];
+  entries_are = ap open_entries (sym last_is);
+  answered = subst (λ (X : Register). AreAnswered copied [] X) (sym is) (none copied);
+  count_is = count_is;
+  open_at = subst (λ (o : Option Carried). IsOpenAt at place [] o) (sym last_is) tt;
+  met = λ sure. absurd (true≢false (sym sure ∙ met_is));
+}

@@ -1,0 +1,89 @@
+-- Lines whose replies are those of a run are a run.
+use Rattle.std.proofs.Common.{◌≡◌, ◌∙◌, ◌==◌, ◌&&◌, ◌+◌, ℕ, Bool, true, false, not, cond, List, [], ◌∷◌, ◌++◌, Option, None, Some, map, refl, ap, ap₂, sym, subst}
+use Rattle.std.proofs.lemmas.Bool.{and_from, and_parts, true≢false}
+use Rattle.serde_json.specs.Data.{Data}
+use Rattle.clr_rules.specs.Answer.{Answer, answer}
+use Rattle.clr_rules.specs.Register.{Register}
+use Rattle.clr_rules.specs.Run.{after, after_all, replies}
+use Rattle.clr_rules.specs.declared.command.Command.{Command}
+use Rattle.clr_text.specs.Replies.{reply_data}
+use Rattle.clr_journal.specs.Journals.{carried_out, in_turn, is_next, onto_some, own_pair, turn_after, withdraws}
+use Rattle.clr_journal.specs.Laws.{turn_behind}
+use Rattle.clr_journal.specs.Line.{Entry, carried, withdrawn, is_accepted}
+use Rattle.clr_journal.specs.declared.reading.Turn.{Turn}
+use Rattle.clr_place.specs.declared.place.Place.{Place}
+use Rattle.clr_chain.specs.First.{end_at, first_turn_at}
+use Rattle.clr_chain.specs.Level.{IsLevel, IsRunOf, ends_with_command, place_after}
+use Rattle.clr_checking.specs.Checking.{AreAnswered, IsLevelByTables, none, refused, gone, done}
+use Rattle.clr_checking.specs.CheckingOn.{IsMet}
+use Rattle.clr_checking.proofs.Flat.{Each, IsFlat}
+
+run_of_none : (R : Register) → IsRunOf R (carried_out []) R
+unfolding carried_out after_all replies
+run_of_none R = record { register = refl; replied = refl }
+
+passed_over : (R S : Register) (entry : Entry) (rest : List Entry) → own_pair entry rest ≡ None → IsRunOf R (carried_out rest) S → IsRunOf R (carried_out (entry ∷ rest)) S
+unfolding carried_out
+passed_over R S entry rest own run = subst (λ o. IsRunOf R (onto_some o (carried_out rest)) S) (sym own) run
+
+one_first : (R S : Register) (q : Command) (reply : Data) (entry : Entry) (rest : List Entry) → own_pair entry rest ≡ Some (q, reply) → reply ≡ reply_data (Answer.reply (answer R q))
+    → IsRunOf (after R q) (carried_out rest) S → IsRunOf R (carried_out (entry ∷ rest)) S
+unfolding carried_out after_all replies
+one_first R S q reply entry rest own is run =
+    subst (λ o. IsRunOf R (onto_some o (carried_out rest)) S) (sym own) (record { register = run.register; replied = ap₂ (λ (d : Data) (ds : List Data). d ∷ ds) is run.replied })
+
+-- replies that nest no deeper than they may are exactly those of the run
+pub is_run : {R S : Register} {lines : List Entry} → Each IsFlat lines → AreAnswered R lines S → IsRunOf R (carried_out lines) S
+is_run flat (none R) = run_of_none R
+is_run flat (refused R S receipt q reply rest not_accepted own are) =
+    passed_over R S (carried receipt q reply) rest (ap (λ (b : Bool). cond (b && not (withdraws rest)) (Some (q, reply)) None) not_accepted) (is_run flat.1 are)
+is_run flat (gone R S receipt q reply n rest accepted are) =
+    passed_over R S (carried receipt q reply) (withdrawn n ∷ rest) (ap (λ (b : Bool). cond (b && false) (Some (q, reply)) None) accepted)
+    (passed_over R S (withdrawn n) rest refl (is_run flat.1.1 are))
+is_run flat (done R S receipt q reply rest accepted stays own are) =
+    one_first R S q reply (carried receipt q reply) rest
+    (ap₂ (λ (b c : Bool). cond (b && not c) (Some (q, reply)) None) accepted stays) (own flat.0) (is_run flat.1 are)
+
+-- ---- parts of lines
+
+pub each_front : {A : Type 0} (P : A → Type 0) (xs ys : List A) → Each P (xs ++ ys) → Each P xs
+each_front P [] ys each = tt
+each_front P (x ∷ xs) ys each = (each.0, each_front P xs ys each.1)
+
+pub each_end : {A : Type 0} (P : A → Type 0) (xs ys : List A) → Each P (xs ++ ys) → Each P ys
+each_end P [] ys each = each
+each_end P (x ∷ xs) ys each = each_end P xs ys each.1
+
+pub turns_end : (turn : Turn) (xs ys : List Entry) → in_turn turn (xs ++ ys) ≡ true → in_turn (turn_behind turn xs) ys ≡ true
+unfolding in_turn
+turns_end turn [] ys turns = turns
+turns_end turn (x ∷ xs) ys turns = turns_end (turn_after x) xs ys (and_parts (is_next turn x) (in_turn (turn_after x) (xs ++ ys)) turns).1
+
+-- whether a command is open is nothing to lines that begin with one
+pub turns_closed : (turn : Turn) (number : ℕ) (lines : List Entry) → number ≡ turn.last → withdraws lines ≡ false → in_turn turn lines ≡ true
+    → in_turn (record { last = number; is_open = false }) lines ≡ true
+unfolding in_turn
+turns_closed turn number [] is kept turns = refl
+turns_closed turn number (carried receipt q reply ∷ rest) is kept turns =
+    let parts = and_parts (receipt.number == turn.last + 1) (in_turn (turn_after (carried receipt q reply)) rest) turns in
+    and_from _ _ (subst (λ (n : ℕ). (receipt.number == n + 1) ≡ true) (sym is) parts.0) parts.1
+turns_closed turn number (withdrawn n ∷ rest) is kept turns = absurd (true≢false kept)
+
+-- ---- the yes
+
+pub is_level : (began R : Register) (first place : Place) (entries : List Entry) → in_turn (first_turn_at first) entries ≡ true → Each IsFlat entries
+    → IsMet began first entries place R → IsLevelByTables began first entries place R
+is_level began R first place entries turns flat it = record {
+  register = it.register;
+  level = record {
+    had = it.had;
+    more = it.more;
+    all = it.all;
+    turns = turns;
+    is_at = it.is_at;
+    at_command = it.at_command;
+    kept = it.kept;
+    run = is_run (each_front IsFlat it.had it.more (subst (λ (es : List Entry). Each IsFlat es) it.all flat)) it.answered;
+  };
+  tables = it.tables;
+}

@@ -1,0 +1,157 @@
+-- HOW FAR A REGISTER WAS CHECKED against its journal.
+use Rattle.std.specs.Prelude.{◌≡◌, ◌⊎◌, ℕ, Bool, true, false, List, [], ◌∷◌, ◌++◌, IfSome, None}
+use Rattle.std.specs.Prelude.{Option, Some, length, ⊤}
+use Rattle.clr_rules.specs.Good.{IsGood}
+use Rattle.clr_rules.specs.Register.{Register}
+use Rattle.clr_place.specs.declared.place.Place.{Place}
+use Rattle.clr_tables.specs.Tables.{tables_of}
+use Rattle.clr_journal.specs.Journals.{commands_of, withdraws}
+use Rattle.clr_journal.specs.Line.{Entry, carried, withdrawn}
+use Rattle.clr_journal.specs.declared.line.Carried.{Carried}
+use Rattle.clr_chain.specs.Chain.{read_on}
+use Rattle.clr_chain.specs.First.{end_at}
+use Rattle.clr_chain.specs.Level.{ends_with_command, place_after}
+use Rattle.clr_chain.specs.Sums.{sum_behind}
+use Rattle.clr_checking.specs.Checking.{AreAnswered, AreLines, EndsAt}
+use Rattle.clr_verify.specs.Replay.{IsAccepted, open_entries}
+use Rattle.clr_checking.specs.declared.fault.CheckFault.{CheckFault}
+use Rattle.clr_checking.specs.declared.fault.CheckFault.TheVariants.{BadLine, Differs, NoMemory}
+use Rattle.clr_checking.specs.declared.fault.CheckFault.TheVariants.{OtherRegister}
+use Rattle.clr_checking.specs.declared.fault.CheckFault.TheVariants.{Reply, Tables, TooShort}
+use Rattle.clr_checking.specs.declared.checking.Checking.{Checking}
+
+-- it can take a line: its register is good, and the last command was accepted
+pub record IsReady (it : Checking) : Type 0 where
+  pub good : IsGood it.desk.book.register
+  pub accepted : IfSome it.last IsAccepted
+
+-- what is checked: a register with this place
+pub record IsOf (place : Place) (R : Register) (it : Checking) : Type 0 where
+  pub place_is : it.place ≡ place
+  pub book_is : it.book.now.register ≡ R
+
+-- ---- the lines that were run
+
+-- THE REGISTER'S PLACE WAS MET: after the first of these lines, over which the run has the tables
+-- of the register
+pub record IsMet (began : Register) (first : Place) (entries : List Entry) (place : Place)
+    (R : Register) : Type 0 where
+  pub had : List Entry
+  pub more : List Entry
+  pub all : entries ≡ had ++ more
+  pub is_at : place ≡ place_after first had
+  pub at_command : ends_with_command had ≡ true
+  pub kept : withdraws more ≡ false
+  pub register : Register
+  pub answered : AreAnswered began had register
+  pub tables : tables_of R ≡ tables_of register
+
+-- at the number of the register's place the open command is that of the place
+abbrev pub IsOpenAt : Place → Place → List Entry → Option Carried → Type 0
+IsOpenAt first place entries None = ⊤
+IsOpenAt first place entries (Some one) =
+    one.receipt.number ≡ place.number → place ≡ place_after first entries
+
+-- THESE LINES WERE RUN, all but the open command, and each had the reply that is due. So many were
+-- carried out, and they lead to a register
+pub record Ran (began : Register) (first place : Place) (R : Register) (last : Option Carried)
+    (S : Register) (count : ℕ) (is_met : Bool) (entries : List Entry) : Type 0 where
+  pub done : List Entry
+  pub entries_are : entries ≡ done ++ open_entries last
+  pub answered : AreAnswered began done S
+  pub count_is : count ≡ length (commands_of done)
+  pub open_at : IsOpenAt first place entries last
+  pub met : is_met ≡ true → IsMet began first entries place R
+
+-- the same, over the register that they began with
+pub record RanOver (began : Register) (first place : Place) (R : Register) (it : Checking)
+    (entries : List Entry) : Type 0 where
+  pub of : IsOf place R it
+  pub ran : Ran began first place R it.last it.desk.book.register it.count it.is_met entries
+
+-- ---- the lines before the place of a copy
+
+-- the place of a copy is still to be met, and nothing was run over its register
+pub record Waits (copied : Register) (at first place : Place) (R : Register) (it : Checking)
+    : Type 0 where
+  pub of : IsOf place R it
+  pub same_id : at.id ≡ first.id
+  pub from : it.from ≡ Some at
+  pub last : it.last ≡ None
+  pub register : it.desk.book.register ≡ copied
+  pub count : it.count ≡ 0
+  pub met : it.is_met ≡ false
+
+-- it was met after these lines, and the lines after it were run
+pub record RunsFrom (copied : Register) (at first place : Place) (R : Register) (it : Checking)
+    (before entries : List Entry) : Type 0 where
+  pub begun : it.from ≡ None
+  pub is_at : at ≡ place_after first before
+  pub at_command : ends_with_command before ≡ true
+  pub kept : withdraws entries ≡ false
+  pub ran : RanOver copied at place R it entries
+
+-- one or the other
+abbrev pub ComesFrom : Register → Place → Place → Place → Register → Checking → List Entry
+    → List Entry → Type 0
+ComesFrom copied at first place R it before entries =
+    ((entries ≡ []) × Waits copied at first place R it)
+    ⊎ RunsFrom copied at first place R it before entries
+
+-- ---- the chain
+
+-- where the chain has come to
+pub record GoesOver (first place : Place) (it : Checking) (texts : List (List ℕ))
+    (entries : List Entry) : Type 0 where
+  pub same_id : place.id ≡ first.id
+  pub lines : AreLines first texts entries
+  pub end_is : EndsAt it.walk.end (read_on (end_at first) texts).end
+  pub id_is : it.walk.id ≡ first.id
+
+-- CHECKED SO FAR, from the register that the journal began with
+pub record CheckedTo (began : Register) (first place : Place) (R : Register) (it : Checking)
+    (texts : List (List ℕ)) : Type 0 where
+  pub entries : List Entry
+  pub over : GoesOver first place it texts entries
+  pub begun : it.from ≡ None
+  pub ran : RanOver began first place R it entries
+
+-- FROM A COPY: its place was not met yet, and nothing was run; or it was, and the lines after it
+-- were run
+pub record CheckedToFrom (copied : Register) (at first place : Place) (R : Register)
+    (it : Checking) (texts : List (List ℕ)) : Type 0 where
+  pub before : List Entry
+  pub entries : List Entry
+  pub over : GoesOver first place it texts (before ++ entries)
+  pub come : ComesFrom copied at first place R it before entries
+
+-- ---- a line more
+
+-- a line that withdraws does so with the command of this number
+abbrev pub IsOfLast : Entry → ℕ → Type 0
+IsOfLast (carried receipt q reply) number = ⊤
+IsOfLast (withdrawn n) number = n ≡ number
+
+-- a line comes after these, and the chain has come to it
+pub record IsAfter (first place : Place) (sum : List ℕ) (entry : Entry) (entries : List Entry)
+    : Type 0 where
+  pub last : IsOfLast entry (place_after first entries).number
+  pub sum_is : sum ≡ sum_behind first.sum (entries ++ entry ∷ [])
+  pub same_id : place.id ≡ first.id
+
+-- the chain has come to a command, of this number, or to its first line
+pub record IsAtCommand (first place : Place) (number : ℕ) (sum : List ℕ) (entries : List Entry)
+    : Type 0 where
+  pub here : place_after first entries ≡ record { id = first.id; number = number; sum = sum }
+  pub at_command : ends_with_command entries ≡ true
+  pub same_id : place.id ≡ first.id
+
+-- each fault but that of a line that does not hold its sum
+abbrev pub IsOfRun : CheckFault → Type 0
+IsOfRun (BadLine n) = ⊥
+IsOfRun (Reply n) = ⊤
+IsOfRun (Differs n) = ⊤
+IsOfRun (Tables found) = ⊤
+IsOfRun TooShort = ⊤
+IsOfRun OtherRegister = ⊤
+IsOfRun NoMemory = ⊤

@@ -1,0 +1,3 @@
+pub mod Checking
+pub mod CheckingOn
+pub mod Laws

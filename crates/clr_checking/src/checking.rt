@@ -1,0 +1,506 @@
+//! A register is checked against its journal, whose lines are run again one by one.
+ghost use Rattle.std.specs.Prelude.{◌≡◌, ◌≢◌, ◌⊎◌, ◌+◌, ◌∷◌, ◌++◌, [], ℕ, IfErr, IfOk, IsSome};
+ghost use Rattle.std.specs.Prelude.{List};
+ghost use Rattle.std.specs.Prelude.{None, OnOk, Some, false, true};
+ghost use Rattle.serde_json.specs.View.{view};
+ghost use Rattle.clr_rules.specs.Answer.{Answer, answer};
+ghost use Rattle.clr_rules.specs.Good.{IsGood};
+ghost use Rattle.clr_rules.specs.Register.{Register};
+ghost use Rattle.clr_rules.specs.Run.{after};
+ghost use Rattle.clr_place.specs.declared.place.Place.{Place as AnyPlace};
+ghost use Rattle.clr_tables.specs.Tables.{tables_of};
+ghost use Rattle.clr_journal.specs.Journals.{withdraws};
+ghost use Rattle.clr_journal.specs.Line.{Entry, carried, entry_of};
+ghost use Rattle.clr_chain.specs.First.{end_at, read_first};
+ghost use Rattle.clr_chain.specs.Walking.{part_of, step_of};
+ghost use Rattle.clr_checking.specs.Checking.{IsChecked, IsCheckedFrom, Refuses, is_brief};
+ghost use Rattle.clr_checking.specs.CheckingOn.{CheckedTo, CheckedToFrom, ComesFrom, IsAfter};
+ghost use Rattle.clr_checking.specs.CheckingOn.{IsAtCommand, IsOfRun, IsReady, RanOver, Waits};
+ghost use Rattle.clr_verify.specs.Replies.{IsReply};
+
+use crate::fault::CheckFault;
+use clr_chain::{Step, Walk};
+use clr_desk::{Desk, DeskBook, Unkept};
+use clr_journal::{Carried, Line, is_accepted};
+use clr_place::Place;
+use clr_rules::{Command, Kind};
+use clr_verify::{compare, is_reply};
+use std::alloc::Global;
+
+/// How far a register was checked against its journal.
+#[derive(Drop)]
+pub struct Checking<'a> {
+    /// Over the lines so far, kept nowhere.
+    desk: Desk<Unkept>,
+    walk: Walk,
+    /// The place of a copy that the desk begins with, until the lines come to it.
+    from: Option<Place>,
+    /// The place of the register, and its book.
+    place: Place,
+    book: &'a DeskBook,
+    /// Whether the lines came to that place, and the tables were the same there.
+    is_met: bool,
+    /// The last command that was accepted: it is carried out unless the next line withdraws it.
+    last: Option<Carried>,
+    count: usize,
+}
+
+impl<'a> Checking<'a> {
+    /// Begins over a good register, with which the journal began, at the first line.
+    pub fn over(
+        alloc: Global,
+        desk: Desk<Unkept>,
+        first: Place,
+        place: Place,
+        book: &'a DeskBook,
+    ) -> Result<Checking<'a>, CheckFault>
+        requires { IsGood desk.book.register }
+        ensures ready { IfOk result IsReady }
+        ensures same_id { OnOk result (place.id ≡ first.id) }
+        ensures begun { IfOk result (λ checking. CheckedTo desk.book.register first place
+            book.entry.now.register checking []) }
+    {
+        let checking = Checking {
+            desk,
+            walk: Walk::from(first),
+            from: None,
+            place,
+            book,
+            is_met: false,
+            last: None,
+            count: 0,
+        };
+        checking.met_at_first(alloc)
+    }
+
+    /// Begins over the register of a copy, which is at a place in the journal.
+    pub fn over_copy(
+        alloc: Global,
+        desk: Desk<Unkept>,
+        from: Place,
+        first: Place,
+        place: Place,
+        book: &'a DeskBook,
+    ) -> Result<Checking<'a>, CheckFault>
+        requires { IsGood desk.book.register }
+        ensures ready { IfOk result IsReady }
+        ensures same_id { OnOk result (place.id ≡ first.id) }
+        ensures begun { IfOk result (λ checking. CheckedToFrom desk.book.register from first place
+            book.entry.now.register checking []) }
+    {
+        let checking = Checking {
+            desk,
+            walk: Walk::from(first),
+            from: Some(from),
+            place,
+            book,
+            is_met: false,
+            last: None,
+            count: 0,
+        };
+        checking.met_at_first(alloc)
+    }
+
+    /// Looks whether the places are of this journal, and whether the first line is at them.
+    fn met_at_first(self, alloc: Global) -> Result<Checking<'a>, CheckFault>
+        requires ready { IsReady self }
+        ensures ready { IfOk result IsReady }
+        ensures same_id { OnOk result (self.entry.place.id ≡ self.entry.walk.id) }
+        ensures went { IfOk result (λ met. (began : Register) (first place : AnyPlace)
+            (R : Register) → self.entry.walk.id ≡ first.id → self.entry.walk.end ≡ end_at first
+            → self.entry.from ≡ None → RanOver began first place R self.entry []
+            → CheckedTo began first place R met []) }
+        ensures went_from { IfOk result (λ met. (copied : Register) (at first place : AnyPlace)
+            (R : Register) → self.entry.walk.id ≡ first.id → self.entry.walk.end ≡ end_at first
+            → self.entry.from ≡ Some at
+            → (at.id ≡ first.id → Waits copied at first place R self.entry)
+            → CheckedToFrom copied at first place R met []) }
+    {
+        if !self.is_of_journal() {
+            return Err(CheckFault::OtherRegister);
+        }
+        let mut checking = self;
+        let number = checking.walk.end.turn.last;
+        checking.begin_at(alloc, number)?;
+        Ok(checking)
+    }
+
+    /// The next line, as it is without its line feed.
+    pub fn line(&mut self, alloc: Global, text: &[u8]) -> Result<(), CheckFault>
+        requires { IsReady self.old }
+        ensures ready { OnOk result (IsReady self.new) }
+        ensures went { OnOk result ((began : Register) (first place : AnyPlace) (R : Register)
+            (texts : List (List ℕ)) → CheckedTo began first place R self.old texts
+            → CheckedTo began first place R self.new (texts ++ text.now ∷ [])) }
+        ensures went_from { OnOk result ((copied : Register) (at first place : AnyPlace)
+            (R : Register) (texts : List (List ℕ))
+            → CheckedToFrom copied at first place R self.old texts
+            → CheckedToFrom copied at first place R self.new (texts ++ text.now ∷ [])) }
+        ensures end { OnOk result
+            (self.new.walk.end ≡ (step_of self.old.walk.end text.now).1) }
+        ensures id { self.new.walk.id ≡ self.old.walk.id }
+        ensures refused { IfErr result (λ fault. (began : Register) (first place : AnyPlace)
+            (R : Register) (texts : List (List ℕ)) → CheckedTo began first place R self.old texts
+            → Refuses first texts text.now fault) }
+        ensures refused_from { IfErr result (λ fault. (copied : Register)
+            (at first place : AnyPlace) (R : Register) (texts : List (List ℕ))
+            → CheckedToFrom copied at first place R self.old texts
+            → Refuses first texts text.now fault) }
+    {
+        let seen = self.walk.step(alloc, text)?;
+        match seen {
+            Step::Bad(number) => Err(CheckFault::BadLine(number)),
+            Step::Holds(line) => self.next(alloc, line),
+        }
+    }
+
+    /// The first line of the next part, as it is without its line feed.
+    pub fn part(&mut self, alloc: Global, text: &[u8]) -> Result<(), CheckFault>
+        requires { IsReady self.old }
+        ensures ready { OnOk result (IsReady self.new) }
+        ensures goes_on { OnOk result
+            ((true, self.new.walk.end) ≡ part_of self.old.walk.id self.old.walk.end
+            (read_first text.now)) }
+        ensures went { OnOk result ((began : Register) (first place : AnyPlace) (R : Register)
+            (texts : List (List ℕ)) → CheckedTo began first place R self.old texts
+            → CheckedTo began first place R self.new texts) }
+        ensures went_from { OnOk result ((copied : Register) (at first place : AnyPlace)
+            (R : Register) (texts : List (List ℕ))
+            → CheckedToFrom copied at first place R self.old texts
+            → CheckedToFrom copied at first place R self.new texts) }
+        ensures id { self.new.walk.id ≡ self.old.walk.id }
+    {
+        let goes = self.walk.next_part(alloc, text)?;
+        if goes {
+            Ok(())
+        } else {
+            Err(CheckFault::BadLine(self.walk.end.turn.last))
+        }
+    }
+
+    /// After all lines: how many commands were carried out.
+    pub fn end(self, alloc: Global) -> Result<usize, CheckFault>
+        requires { IsReady self }
+        ensures yes { IfOk result (λ count. (began : Register) (first place : AnyPlace)
+            (R : Register) (texts : List (List ℕ)) → CheckedTo began first place R self.entry texts
+            → IsChecked began first texts place R count) }
+        ensures yes_from { IfOk result (λ count. (copied : Register) (at first place : AnyPlace)
+            (R : Register) (texts : List (List ℕ))
+            → CheckedToFrom copied at first place R self.entry texts
+            → IsCheckedFrom copied at first texts place R count) }
+    {
+        let mut checking = self;
+        checking.close(alloc)?;
+        if !checking.is_met {
+            return Err(CheckFault::TooShort);
+        }
+        match &checking.from {
+            None => Ok(checking.count),
+            Some(_) => Err(CheckFault::TooShort),
+        }
+    }
+
+    /// A line that holds its sum.
+    fn next(&mut self, alloc: Global, line: Line) -> Result<(), CheckFault>
+        requires { IsReady self.old }
+        ensures fault { IfErr result IsOfRun }
+        ensures ready { OnOk result (IsReady self.new) }
+        ensures walk { self.new.walk ≡ self.old.walk }
+        ensures begun { self.old.from ≡ None → self.new.from ≡ None }
+        ensures went { OnOk result ((began : Register) (first place : AnyPlace) (R : Register)
+            (entries : List Entry) → self.old.from ≡ None
+            → IsAfter first place self.old.walk.end.sum (entry_of line) entries
+            → RanOver began first place R self.old entries
+            → RanOver began first place R self.new (entries ++ entry_of line ∷ [])) }
+        ensures kept { OnOk result ((began : Register) (first place : AnyPlace) (R : Register)
+            → self.old.from ≡ None → RanOver began first place R self.old []
+            → withdraws (entry_of line ∷ []) ≡ false) }
+        ensures waited { OnOk result ((copied : Register) (at first place : AnyPlace)
+            (R : Register) (before : List Entry)
+            → IsAfter first place self.old.walk.end.sum (entry_of line) before
+            → Waits copied at first place R self.old
+            → ComesFrom copied at first place R self.new (before ++ entry_of line ∷ []) []) }
+    {
+        match &self.from {
+            Some(_) => self.wait(alloc, line),
+            None => self.run(alloc, line),
+        }
+    }
+
+    /// A line up to the place of a copy. Nothing is run.
+    fn wait(&mut self, alloc: Global, line: Line) -> Result<(), CheckFault>
+        requires { IsReady self.old }
+        ensures fault { IfErr result IsOfRun }
+        ensures ready { OnOk result (IsReady self.new) }
+        ensures walk { self.new.walk ≡ self.old.walk }
+        ensures waited { OnOk result ((copied : Register) (at first place : AnyPlace)
+            (R : Register) (before : List Entry)
+            → IsAfter first place self.old.walk.end.sum (entry_of line) before
+            → Waits copied at first place R self.old
+            → ComesFrom copied at first place R self.new (before ++ entry_of line ∷ []) []) }
+    {
+        match line {
+            Line::Withdrawn(_) => Ok(()),
+            Line::Carried(one) => self.begin_at(alloc, one.receipt.number),
+        }
+    }
+
+    /// A line that is run.
+    fn run(&mut self, alloc: Global, line: Line) -> Result<(), CheckFault>
+        requires { IsReady self.old }
+        ensures fault { IfErr result IsOfRun }
+        ensures ready { OnOk result (IsReady self.new) }
+        ensures walk { self.new.walk ≡ self.old.walk }
+        ensures begun { self.old.from ≡ None → self.new.from ≡ None }
+        ensures went { OnOk result ((began : Register) (first place : AnyPlace) (R : Register)
+            (entries : List Entry)
+            → IsAfter first place self.old.walk.end.sum (entry_of line) entries
+            → RanOver began first place R self.old entries
+            → RanOver began first place R self.new (entries ++ entry_of line ∷ [])) }
+        ensures kept { OnOk result ((began : Register) (first place : AnyPlace) (R : Register)
+            → RanOver began first place R self.old [] → withdraws (entry_of line ∷ []) ≡ false) }
+    {
+        match line {
+            Line::Withdrawn(number) => self.withdraw(number),
+            Line::Carried(one) => match self.close(alloc) {
+                Ok(()) => self.take_command(alloc, one),
+                Err(fault) => Err(fault),
+            },
+        }
+    }
+
+    /// A command, where none is open. It is carried out once it is known that the next line does
+    /// not withdraw it.
+    fn take_command(&mut self, alloc: Global, one: Carried) -> Result<(), CheckFault>
+        requires ready { IsReady self.old }
+        requires closed { self.old.last ≡ None }
+        ensures fault { IfErr result IsOfRun }
+        ensures ready { OnOk result (IsReady self.new) }
+        ensures walk { self.new.walk ≡ self.old.walk }
+        ensures from { self.new.from ≡ self.old.from }
+        ensures went { OnOk result ((began : Register) (first place : AnyPlace) (R : Register)
+            (entries : List Entry)
+            → IsAfter first place self.old.walk.end.sum
+            (carried one.receipt one.command (view one.reply)) entries
+            → RanOver began first place R self.old entries
+            → RanOver began first place R self.new (entries
+            ++ carried one.receipt one.command (view one.reply) ∷ [])) }
+    {
+        let number = one.receipt.number;
+        if !self.is_expected(number) {
+            return Err(CheckFault::Differs(number));
+        }
+        if is_accepted(&one.reply) {
+            self.last = Some(one);
+            return Ok(());
+        }
+        let refused = self.refuse(alloc, one)?;
+        self.compare_at(alloc, refused)
+    }
+
+    /// A line that withdraws the command of a number. That of a place is none; where no command is
+    /// open, it is that of the copy's place.
+    fn withdraw(&mut self, number: u64) -> Result<(), CheckFault>
+        ensures fault { IfErr result IsOfRun }
+        ensures others { self.new ≡ record self.old { last = self.new.last } }
+        ensures gone { OnOk result (self.new.last ≡ None) }
+        ensures other { OnOk result
+            ((number ≢ self.old.place.number) × IsSome self.old.last) }
+    {
+        if self.last.is_none() || number == self.place.number {
+            return Err(CheckFault::Differs(number));
+        }
+        self.last = None;
+        Ok(())
+    }
+
+    /// At a number before which nothing is run: where the lines come to the copy's place, or begin,
+    /// the register's place may be the same.
+    fn begin_at(&mut self, alloc: Global, number: u64) -> Result<(), CheckFault>
+        ensures fault { IfErr result IsOfRun }
+        ensures begun { self.old.from ≡ None → self.new.from ≡ None }
+        ensures others { self.new ≡ record self.old {
+          from = self.new.from;
+          is_met = self.new.is_met;
+        } }
+        ensures went { OnOk result ((began : Register) (first place : AnyPlace) (R : Register)
+            → IsAtCommand first place number self.old.walk.end.sum []
+            → self.old.from ≡ None → RanOver began first place R self.old []
+            → RanOver began first place R self.new []) }
+        ensures waited { OnOk result ((copied : Register) (at first place : AnyPlace)
+            (R : Register) (before : List Entry)
+            → IsAtCommand first place number self.old.walk.end.sum before
+            → Waits copied at first place R self.old
+            → ComesFrom copied at first place R self.new before []) }
+    {
+        if !self.come_to(number) {
+            return Err(CheckFault::Differs(number));
+        }
+        if self.from.is_some() {
+            return Ok(());
+        }
+        if !self.is_expected(number) {
+            return Err(CheckFault::Differs(number));
+        }
+        self.compare_at(alloc, number)
+    }
+
+    /// Carries out the open command, if there is one, and looks at its reply; and compares the
+    /// tables, if it is that of the register's place.
+    fn close(&mut self, alloc: Global) -> Result<(), CheckFault>
+        requires { IsReady self.old }
+        ensures fault { IfErr result IsOfRun }
+        ensures ready { OnOk result (IsReady self.new) }
+        ensures closed { self.new.last ≡ None }
+        ensures went { OnOk result ((began : Register) (first place : AnyPlace) (R : Register)
+            (entries : List Entry) → RanOver began first place R self.old entries
+            → RanOver began first place R self.new entries) }
+        ensures walk { self.new.walk ≡ self.old.walk }
+        ensures from { self.new.from ≡ self.old.from }
+    {
+        let Some(one) = self.last.take() else {
+            return Ok(());
+        };
+        let number = one.receipt.number;
+        match self.carry_out(alloc, one) {
+            Ok(()) => self.compare_at(alloc, number),
+            Err(fault) => Err(fault),
+        }
+    }
+
+    /// Carries out a command, and looks at its reply.
+    fn carry_out(&mut self, alloc: Global, one: Carried) -> Result<(), CheckFault>
+        requires { IsGood self.old.desk.book.register }
+        ensures fault { IfErr result IsOfRun }
+        ensures good { OnOk result (IsGood self.new.desk.book.register) }
+        ensures register { OnOk result (self.new.desk.book.register
+            ≡ after self.old.desk.book.register one.command) }
+        ensures reply { OnOk result (IsReply (view one.reply)
+            (Answer.reply (answer self.old.desk.book.register one.command))) }
+        ensures count { OnOk result (self.new.count ≡ self.old.count + 1) }
+        ensures others { self.new ≡ record self.old {
+          desk = self.new.desk;
+          count = self.new.count;
+        } }
+    {
+        let Carried {
+            receipt,
+            command,
+            reply,
+        } = one;
+        let Ok(own) = self.desk.one(command) else {
+            return Err(CheckFault::NoMemory);
+        };
+        let Some(count) = self.count.checked_add(1) else {
+            return Err(CheckFault::NoMemory);
+        };
+        self.count = count;
+        if is_reply(alloc, &reply, &own)? {
+            Ok(())
+        } else {
+            Err(CheckFault::Reply(receipt.number))
+        }
+    }
+
+    /// Looks at the reply of a command that was refused, unless its line may be in brief; and says
+    /// its number.
+    fn refuse(&self, alloc: Global, one: Carried) -> Result<u64, CheckFault>
+        requires { IsGood self.now.desk.book.register }
+        ensures fault { IfErr result IsOfRun }
+        ensures number { IfOk result (λ number. number ≡ one.receipt.number) }
+        ensures reply { OnOk result ((is_brief one.command.kind ≡ true) ⊎ IsReply (view one.reply)
+            (Answer.reply (answer self.now.desk.book.register one.command))) }
+    {
+        if is_brief(&one.command) {
+            return Ok(one.receipt.number);
+        }
+        let decision = self.desk.book().answer(&one.command)?;
+        if is_reply(alloc, &one.reply, &decision.reply)? {
+            Ok(one.receipt.number)
+        } else {
+            Err(CheckFault::Reply(one.receipt.number))
+        }
+    }
+
+    /// Where the number is that of the copy's place, the lines come to it, if the sum is its own.
+    /// Whether no other sum was found there.
+    fn come_to(&mut self, number: u64) -> bool
+        ensures begun { self.old.from ≡ None → self.new.from ≡ None }
+        ensures waited { result ≡ true → (at : AnyPlace) → self.old.from ≡ Some at
+            → (self.new.from ≡ Some at) ⊎ ((self.new.from ≡ None)
+            × (number ≡ at.number) × (at.sum ≡ self.old.walk.end.sum)) }
+        ensures others { self.new ≡ record self.old { from = self.new.from } }
+    {
+        let Some(from) = &self.from else {
+            return true;
+        };
+        if from.number != number {
+            return true;
+        }
+        if from.sum.as_str() != self.walk.end.sum.as_str() {
+            return false;
+        }
+        self.from = None;
+        true
+    }
+
+    /// Whether the places are of this journal.
+    fn is_of_journal(&self) -> bool
+        ensures place { result ≡ true → self.now.place.id ≡ self.now.walk.id }
+        ensures from { result ≡ true → (at : AnyPlace) → self.now.from ≡ Some at
+            → at.id ≡ self.now.walk.id }
+    {
+        let id = self.walk.id.as_str();
+        if let Some(from) = &self.from {
+            if from.id.as_str() != id {
+                return false;
+            }
+        }
+        self.place.id.as_str() == id
+    }
+
+    /// Whether the sum is the register's, if the number is that of its place.
+    fn is_expected(&self, number: u64) -> bool
+        ensures { result ≡ true → number ≡ self.now.place.number
+            → self.now.place.sum ≡ self.now.walk.end.sum }
+    {
+        number != self.place.number || self.place.sum.as_str() == self.walk.end.sum.as_str()
+    }
+
+    /// Where the number is that of the register's place, compares the tables.
+    fn compare_at(&mut self, alloc: Global, number: u64) -> Result<(), CheckFault>
+        ensures fault { IfErr result IsOfRun }
+        ensures met { OnOk result (self.new.is_met ≡ true → self.old.is_met ≡ false
+            → (number ≡ self.old.place.number) × (self.old.from ≡ None)
+            × (tables_of self.old.book.now.register
+            ≡ tables_of self.old.desk.book.register)) }
+        ensures others { self.new ≡ record self.old { is_met = self.new.is_met } }
+        ensures stays { self.old.is_met ≡ true → self.new.is_met ≡ true }
+    {
+        if number != self.place.number || self.from.is_some() {
+            return Ok(());
+        }
+        match compare(alloc, self.book, self.desk.book())? {
+            Some(found) => Err(CheckFault::Tables(found)),
+            None => {
+                self.is_met = true;
+                Ok(())
+            }
+        }
+    }
+}
+
+/// Whether a refused command may have lost its lists or its text in its line.
+fn is_brief(command: &Command) -> bool
+    ensures { result ≡ is_brief command.now.kind }
+{
+    match &command.kind {
+        Kind::Order { points, steps, .. } => {
+            points.as_slice().is_empty() && steps.as_slice().is_empty()
+        }
+        Kind::Restore { steps, .. } => steps.as_slice().is_empty(),
+        Kind::Switch { steps } => steps.as_slice().is_empty(),
+        Kind::Repeat { text, .. } => text.as_str().is_empty(),
+        _ => false,
+    }
+}
