@@ -429,6 +429,8 @@ impl<S: Alter + Drop> Store<S> {
         ensures cause { HasCleanDisk (state S.Store self.new) → (t : Tables)
             → HasTables (state S.Store self.old).now t
             → IfErr result (SqlHasCause (state S.Store self.old) (state S.Store self.new)) }
+        ensures was_saved { HasCleanDisk (state S.Store self.new)
+            → IsTrue (state S.Store self.new).is_open → IsSaved (state S.Store self.old) }
         ensures saved { HasCleanDisk (state S.Store self.new)
             → IsTrue (state S.Store self.new).is_open → IsSaved (state S.Store self.new) }
         ensures same { HasCleanDisk (state S.Store self.new)

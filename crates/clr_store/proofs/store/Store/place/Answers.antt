@@ -6,7 +6,7 @@ use Rattle.sqlite.specs.State.{HasCleanDisk}
 use Rattle.clr_place.specs.declared.place.Place.{Place}
 use Rattle.clr_tables.specs.RowsRead.{place_read}
 use Rattle.clr_load.specs.Cause.{SqlHasCause}
-use Rattle.clr_load.specs.Contract.{Gives}
+use Rattle.clr_load.specs.Contract.{Gives, IsSaved}
 use Rattle.clr_load.specs.declared.layout.Layout.{Layout}
 use Rattle.clr_load.specs.Schema.{schema_in}
 use Rattle.clr_load.specs.Stored.{HasPlaceIn, HasTables, IsPlaced}
@@ -30,3 +30,10 @@ returns-clause-cause g c clean t has =
     let here = HasTables.here has in
     subst (λ h. (l : Layout) → (state g.S.Store h).now.schema ≡ schema_in l → IsPlaced l (state g.S.Store h).now.trees → IfErr c.read_place.result (SqlHasCause (state g.S.Store h) new))
     is (c.read_place.ensures.cause out clean) (HasTables.layout has) here.holds.schema here.placed
+
+-- and it was saved before
+pub returns-clause-was_saved : goal.returns-clause-was_saved
+returns-clause-was_saved g c clean is_open =
+    let is : c.self.inside.connection ≡ c.args.self.now = search rules in
+    let out : c.self.inside.connection.in_transaction ≡ false = search rules in
+    subst (λ h. IsSaved (state g.S.Store h)) is (c.read_place.ensures.was_saved out clean is_open)
