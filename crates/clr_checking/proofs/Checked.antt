@@ -222,8 +222,8 @@ of_run first texts text (BadLine n) is = absurd is
 of_run first texts text (Reply n) is = tt
 of_run first texts text (Differs n) is = tt
 of_run first texts text (Tables found) is = tt
-of_run first texts text TooShort is = tt
-of_run first texts text OtherRegister is = tt
+of_run first texts text TooShort is = absurd is
+of_run first texts text OtherRegister is = absurd is
 of_run first texts text NoMemory is = tt
 
 -- ---- a further part

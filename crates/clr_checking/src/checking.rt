@@ -1,7 +1,6 @@
 //! A register is checked against its journal, whose lines are run again one by one.
 ghost use Rattle.std.specs.Prelude.{◌≡◌, ◌≢◌, ◌⊎◌, ◌+◌, ◌∷◌, ◌++◌, [], ℕ, IfErr, IfOk, IsSome};
-ghost use Rattle.std.specs.Prelude.{List};
-ghost use Rattle.std.specs.Prelude.{None, OnOk, Some, false, true};
+ghost use Rattle.std.specs.Prelude.{List, None, OnOk, Some, false, true};
 ghost use Rattle.serde_json.specs.View.{view};
 ghost use Rattle.clr_rules.specs.Answer.{Answer, answer};
 ghost use Rattle.clr_rules.specs.Good.{IsGood};
@@ -125,7 +124,7 @@ impl<'a> Checking<'a> {
         Ok(checking)
     }
 
-    /// The next line, as it is without its line feed.
+    /// The next line, as it is without its line feed. After a fault no line is taken any more.
     pub fn line(&mut self, alloc: Global, text: &[u8]) -> Result<(), CheckFault>
         requires { IsReady self.old }
         ensures ready { OnOk result (IsReady self.new) }
@@ -169,6 +168,9 @@ impl<'a> Checking<'a> {
             → CheckedToFrom copied at first place R self.old texts
             → CheckedToFrom copied at first place R self.new texts) }
         ensures id { self.new.walk.id ≡ self.old.walk.id }
+        ensures refused { IfErr result (λ fault. (fault ≡ CheckFault.NoMemory)
+            ⊎ ((fault ≡ CheckFault.BadLine self.new.walk.end.turn.last)
+            × ((part_of self.old.walk.id self.old.walk.end (read_first text.now)).0 ≡ false))) }
     {
         let goes = self.walk.next_part(alloc, text)?;
         if goes {
