@@ -1,3 +1,4 @@
 pub mod ArgumentRows
 pub mod Numbers
 pub mod ParsedWords
+pub mod JournalAsked

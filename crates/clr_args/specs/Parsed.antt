@@ -16,10 +16,13 @@ use Rattle.clr_args.specs.declared.asked.FenceArgs.{FenceArgs}
 use Rattle.clr_args.specs.declared.asked.Files.{Files}
 use Rattle.clr_args.specs.declared.asked.InitArgs.{InitArgs}
 use Rattle.clr_args.specs.declared.asked.JournalArgs.{JournalArgs}
+use Rattle.clr_args.specs.declared.asked.MigrateArgs.{MigrateArgs}
+use Rattle.clr_args.specs.declared.asked.NextPartArgs.{NextPartArgs}
 use Rattle.clr_args.specs.declared.asked.OrderArgs.{OrderArgs}
 use Rattle.clr_args.specs.declared.asked.RunArgs.{RunArgs}
 use Rattle.clr_args.specs.declared.asked.RunArgs.TheVariants as over
 use Rattle.clr_args.specs.declared.asked.ServeArgs.{ServeArgs}
+use Rattle.clr_args.specs.declared.asked.StoredArgs.{StoredArgs}
 use Rattle.clr_args.specs.declared.asked.UpdateArgs.{UpdateArgs}
 use Rattle.clr_args.specs.declared.asked.VerifyArgs.{VerifyArgs}
 use Rattle.clr_args.specs.declared.asked.VerifyFromArgs.{VerifyFromArgs}
@@ -46,9 +49,24 @@ abbrev pub AsksFiles : List Row → Files → Type 0
 AsksFiles rows files = AreFiles (word_in rows (codes "SECTIONS")) (word_in rows (codes "POINTS"))
     (word_in rows (codes "STAFF")) files
 
+-- a register is to be made in a database, with a journal that may go with it, or nowhere
+abbrev pub MakesIn : Option Text → Option Text → Option StoredArgs → Type 0
+MakesIn (Some database) journal (Some args) =
+    (args.database.now ≡ database) × (option_map (λ path. path.now) args.journal ≡ journal)
+MakesIn None None None = Unit {0}
+MakesIn database journal stored = ⊥
+
 pub record AsksInit (rows : List Row) (args : InitArgs) : Type 0 where
   pub files : AsksFiles rows args.files
-  pub database : option_map (λ path. path.now) args.database ≡ first_of (codes "db") rows
+  pub stored : MakesIn (first_of (codes "db") rows) (first_of (codes "journal") rows) args.stored
+
+-- no register is asked for: a journal goes with a database alone
+abbrev pub IsNoInitWith : Option Text → Option Text → Type 0
+IsNoInitWith None (Some journal) = Unit {0}
+IsNoInitWith database journal = ⊥
+
+abbrev pub IsNoInit : List Row → Type 0
+IsNoInit rows = IsNoInitWith (first_of (codes "db") rows) (first_of (codes "journal") rows)
 
 -- a run is asked for over a database and the journal that may go with it, where no files are named,
 -- or over three files
@@ -109,9 +127,48 @@ pub record AsksServe (rows : List Row) (args : ServeArgs) : Type 0 where
 
 pub record AsksJournal (rows : List Row) (args : JournalArgs) : Type 0 where
   pub path : args.path.now ≡ word_in rows (codes "FILE")
+  pub parts : map (λ word. word.now) args.parts.items ≡ words_in rows (codes "part")
   pub clearance : option_map (λ word. word.now) args.clearance ≡ first_of (codes "CLEARANCE") rows
   pub offset : args.offset.minutes ≡ offset_in (first_of (codes "offset") rows)
   pub commands : args.commands ≡ flag_in (first_of (codes "commands") rows)
+
+-- the next part of a journal is asked for, with these paths
+pub record IsNextPart (rows : List Row) (database next : Text) (args : NextPartArgs) : Type 0 where
+  pub path : args.path.now ≡ word_in rows (codes "FILE")
+  pub database_is : args.database.now ≡ database
+  pub next_is : args.next.now ≡ next
+
+abbrev pub AsksNextPart : List Row → Text → Text → Asked → Type 0
+AsksNextPart rows database next (asked.NextPart args) = IsNextPart rows database next args
+AsksNextPart rows database next what = ⊥
+
+-- more is asked for beside a next part: a clearance, or the commands
+abbrev pub IsMoreThanNext : Option Text → Bool → Type 0
+IsMoreThanNext None false = ⊥
+IsMoreThanNext clearance commands = Unit {0}
+
+-- a journal is to be printed, where neither a next part nor a database is named; or its next part is
+-- to be begun, where both are, and no further parts
+abbrev pub AsksJournalOver : List Row → Option Text → Option Text → List Text → Asked → Type 0
+AsksJournalOver rows None None parts (asked.Journal args) = AsksJournal rows args
+AsksJournalOver rows (Some next) (Some database) [] what = AsksNextPart rows database next what
+AsksJournalOver rows next database parts what = ⊥
+
+abbrev pub AsksOfJournal : List Row → Asked → Type 0
+AsksOfJournal rows what = AsksJournalOver rows (first_of (codes "next") rows)
+    (first_of (codes "db") rows) (words_in rows (codes "part")) what
+
+-- neither is asked for
+abbrev pub IsNoJournalOver : Option Text → Option Text → List Text → Option Text → Bool → Type 0
+IsNoJournalOver None None parts clearance commands = ⊥
+IsNoJournalOver (Some next) (Some database) [] clearance commands =
+    IsMoreThanNext clearance commands
+IsNoJournalOver next database parts clearance commands = Unit {0}
+
+abbrev pub IsNoJournal : List Row → Type 0
+IsNoJournal rows = IsNoJournalOver (first_of (codes "next") rows) (first_of (codes "db") rows)
+    (words_in rows (codes "part")) (first_of (codes "CLEARANCE") rows)
+    (flag_in (first_of (codes "commands") rows))
 
 -- a run of a journal begins with the register of three files, where no copy is named
 abbrev pub BeginsWithFiles : Option Text → List Text → Files → Type 0
@@ -121,6 +178,7 @@ BeginsWithFiles copy words files = ⊥
 pub record AsksVerify (rows : List Row) (args : VerifyArgs) : Type 0 where
   pub database : args.database.now ≡ word_in rows (codes "DB")
   pub journal : args.journal.now ≡ word_in rows (codes "JOURNAL")
+  pub parts : map (λ word. word.now) args.parts.items ≡ words_in rows (codes "part")
   pub files : BeginsWithFiles (first_of (codes "from") rows) (words_in rows (codes "FILES"))
       args.files
 
@@ -132,6 +190,7 @@ BeginsWithCopy copy words path = ⊥
 pub record AsksVerifyFrom (rows : List Row) (args : VerifyFromArgs) : Type 0 where
   pub database : args.database.now ≡ word_in rows (codes "DB")
   pub journal : args.journal.now ≡ word_in rows (codes "JOURNAL")
+  pub parts : map (λ word. word.now) args.parts.items ≡ words_in rows (codes "part")
   pub copy : BeginsWithCopy (first_of (codes "from") rows) (words_in rows (codes "FILES"))
       args.copy.now
 
@@ -160,6 +219,10 @@ pub record AsksArchive (rows : List Row) (args : ArchiveArgs) : Type 0 where
   pub database : args.database.now ≡ word_in rows (codes "DB")
   pub before : args.before ≡ moment_in (first_of (codes "before") rows)
 
+pub record AsksMigrate (rows : List Row) (args : MigrateArgs) : Type 0 where
+  pub database : args.database.now ≡ word_in rows (codes "DB")
+  pub journal : option_map (λ path. path.now) args.journal ≡ first_of (codes "journal") rows
+
 -- THE SUBCOMMAND of this name is asked for, on the words that its arguments were given
 abbrev pub Asks : Text → List Row → Asked → Type 0
 Asks name rows (asked.Fence args) = (name ≡ codes "fence") × AsksFence rows args
@@ -170,13 +233,15 @@ Asks name rows (asked.Order args) = (name ≡ codes "order") × AsksOrder rows a
 Asks name rows (asked.Board args) = (name ≡ codes "board") × AsksBoard rows args
 Asks name rows (asked.WayBack args) = (name ≡ codes "wayback") × AsksWayBack rows args
 Asks name rows (asked.Serve args) = (name ≡ codes "serve") × AsksServe rows args
-Asks name rows (asked.Journal args) = (name ≡ codes "journal") × AsksJournal rows args
+Asks name rows (asked.Journal args) = (name ≡ codes "journal")
+    × AsksOfJournal rows (asked.Journal args)
+Asks name rows (asked.NextPart args) = (name ≡ codes "journal")
+    × AsksOfJournal rows (asked.NextPart args)
 Asks name rows (asked.Verify args) = (name ≡ codes "verify") × AsksVerify rows args
 Asks name rows (asked.VerifyFrom args) = (name ≡ codes "verify") × AsksVerifyFrom rows args
 Asks name rows (asked.Update args) = (name ≡ codes "update") × AsksUpdate rows args
 Asks name rows (asked.Archive args) = (name ≡ codes "archive") × AsksArchive rows args
-Asks name rows (asked.Migrate path) = (name ≡ codes "migrate")
-    × (path.now ≡ word_in rows (codes "DB"))
+Asks name rows (asked.Migrate args) = (name ≡ codes "migrate") × AsksMigrate rows args
 
 -- no subcommand has this name
 pub record IsNoSubcommand (name : Text) : Type 0 where
@@ -226,6 +291,15 @@ run_usage None = codes "error: run takes three files, or --db FILE and no files\
 run_usage (Some journal) =
     codes "error: run takes --journal FILE only with --db FILE and no files\n"
 
+-- what is said of an `init` that is not taken
+abbrev pub init_usage : Text
+init_usage = codes "error: init takes --journal FILE only with --db FILE\n"
+
+-- what is said of a `journal` that is not taken
+abbrev pub journal_usage : Text
+journal_usage =
+    codes "error: journal takes --next FILE with --db DB, and then no other argument but FILE\n"
+
 -- what is said of a `serve` that is not taken
 abbrev pub serve_usage : Text
 serve_usage = codes "error: serve takes --logins FILE only with --desk\n"
@@ -239,7 +313,9 @@ abbrev pub IsNotTaken : Text → List Row → Text → Type 0
 IsNotTaken name rows said =
     ((name ≡ codes "run") × IsNoRun rows × (said ≡ run_usage (first_of (codes "journal") rows)))
     ⊎ (((name ≡ codes "serve") × IsNoServe rows × (said ≡ serve_usage))
-    ⊎ ((name ≡ codes "verify") × IsNoVerify rows × (said ≡ verify_usage)))
+    ⊎ (((name ≡ codes "verify") × IsNoVerify rows × (said ≡ verify_usage))
+    ⊎ (((name ≡ codes "init") × IsNoInit rows × (said ≡ init_usage))
+    ⊎ ((name ≡ codes "journal") × IsNoJournal rows × (said ≡ journal_usage)))))
 
 -- what the words of the subcommand of this name come to
 abbrev pub IsParsedAs : Text → List Row → Parsed → Type 0

@@ -61,10 +61,13 @@ fence = with_rule (with_rule (with_files (new_app (codes "fence"))) (required_ru
 abbrev pub check : App
 check = with_rule (with_files (new_app (codes "check"))) (required_rule (codes "STAFF"))
 
--- `init SECTIONS POINTS STAFF [--db FILE]`
+-- `init SECTIONS POINTS STAFF [--db FILE [--journal FILE]]`
 abbrev pub init : App
-init = with_rule (with_rule (with_files (new_app (codes "init"))) (required_rule (codes "STAFF")))
-    (option_rule (codes "db"))
+init =
+    with_rule (with_rule
+    (with_rule (with_files (new_app (codes "init"))) (required_rule (codes "STAFF")))
+    (option_rule (codes "db")))
+    (option_rule (codes "journal"))
 
 -- `run [--db FILE [--journal FILE]] [FILES]...`
 abbrev pub run : App
@@ -107,19 +110,27 @@ serve =
     (option_rule (codes "journal"))
 
 -- `journal FILE [CLEARANCE] [--offset MINUTES] [--commands]`
-abbrev pub journal : App
-journal =
+abbrev pub plain_journal : App
+plain_journal =
     with_rule (with_rule (with_rule
     (with_rule (new_app (codes "journal")) (required_rule (codes "FILE")))
     (optional_rule (codes "CLEARANCE")))
     offset_rule) (flag_rule (codes "commands"))
 
--- `verify DB JOURNAL [--from COPY] [FILES]...`
+-- the same with `[--part FILE]...`, or with `--db DB --next NEW`
+abbrev pub journal : App
+journal =
+    with_rule (with_rule (with_rule plain_journal (repeated_option_rule (codes "part")))
+    (option_rule (codes "db")))
+    (option_rule (codes "next"))
+
+-- `verify DB JOURNAL [--part FILE]... [--from COPY] [FILES]...`
 abbrev pub verify : App
 verify =
-    with_rule (with_rule (with_rule
+    with_rule (with_rule (with_rule (with_rule
     (with_rule (new_app (codes "verify")) (required_rule (codes "DB")))
     (required_rule (codes "JOURNAL")))
+    (repeated_option_rule (codes "part")))
     (option_rule (codes "from")))
     (repeated_rule (codes "FILES"))
 
@@ -138,9 +149,11 @@ update = with_rule (with_rule plain_update (flag_rule (codes "dry-run")))
 abbrev pub archive : App
 archive = with_rule (with_rule (new_app (codes "archive")) (required_rule (codes "DB"))) before_rule
 
--- `migrate DB`
+-- `migrate DB [--journal FILE]`
 abbrev pub migrate : App
-migrate = with_rule (new_app (codes "migrate")) (required_rule (codes "DB"))
+migrate =
+    with_rule (with_rule (new_app (codes "migrate")) (required_rule (codes "DB")))
+    (option_rule (codes "journal"))
 
 -- `gridclear` alone: it has a version, and asks for a subcommand
 abbrev pub top : App

@@ -22,6 +22,8 @@ pub enum Asked<'a> {
     Serve(ServeArgs<'a>),
     /// The commands that a journal keeps, printed.
     Journal(JournalArgs<'a>),
+    /// The next part of the journal of a register, begun.
+    NextPart(NextPartArgs<'a>),
     /// A register, compared with a run of its journal over the files that it began with.
     Verify(VerifyArgs<'a>),
     /// The same over a copy of the register, in place of the files.
@@ -30,8 +32,8 @@ pub enum Asked<'a> {
     Update(UpdateArgs<'a>),
     /// The steps of records that were closed before a moment, printed and then removed.
     Archive(ArchiveArgs<'a>),
-    /// The tables of the register at this path, brought to the version that is read.
-    Migrate(&'a str),
+    /// The tables of a register, brought to the version that is read; or a journal for it, begun.
+    Migrate(MigrateArgs<'a>),
 }
 
 /// The files of a network and its staff, by their paths.
@@ -59,8 +61,8 @@ pub struct FenceArgs<'a> {
 #[derive(Clone, Copy)]
 pub struct InitArgs<'a> {
     pub files: Files<'a>,
-    /// The path of the database to make the register in.
-    pub database: Option<&'a str>,
+    /// Where to make the register, if it is to be made.
+    pub stored: Option<StoredArgs<'a>>,
 }
 
 /// What the commands of `run` are answered over.
@@ -72,12 +74,12 @@ pub enum RunArgs<'a> {
     Stored(StoredArgs<'a>),
 }
 
-/// The register of a `run` that is in a database.
+/// A register in a database.
 #[derive(Clone, Copy)]
 pub struct StoredArgs<'a> {
     /// The path of the database.
     pub database: &'a str,
-    /// The path of the journal of its accepted commands.
+    /// The path of its journal.
     pub journal: Option<&'a str>,
 }
 
@@ -124,15 +126,17 @@ pub struct ServeArgs<'a> {
     pub desk: bool,
     /// The path of the file of who may speak for whom, which goes with `desk` alone.
     pub logins: Option<&'a str>,
-    /// The path of the journal of the accepted commands.
+    /// The path of its journal.
     pub journal: Option<&'a str>,
 }
 
 /// What `journal` is asked for.
-#[derive(Clone, Copy)]
+#[derive(Drop)]
 pub struct JournalArgs<'a> {
-    /// The path of the journal.
+    /// The path of the journal, or of its first part.
     pub path: &'a str,
+    /// The paths of its further parts, in order.
+    pub parts: Vec<&'a str>,
     /// The word that names the one clearance that is wanted.
     pub clearance: Option<&'a str>,
     pub offset: Offset,
@@ -140,26 +144,50 @@ pub struct JournalArgs<'a> {
     pub commands: bool,
 }
 
-/// What `verify` is asked for.
+/// What `journal --next` is asked for.
 #[derive(Clone, Copy)]
+pub struct NextPartArgs<'a> {
+    /// The path of the last part of the journal.
+    pub path: &'a str,
+    /// The path of the database.
+    pub database: &'a str,
+    /// The path of the part to begin.
+    pub next: &'a str,
+}
+
+/// What `verify` is asked for.
+#[derive(Drop)]
 pub struct VerifyArgs<'a> {
     /// The path of the database.
     pub database: &'a str,
-    /// The path of its journal.
+    /// The path of its journal, or of the first part of that.
     pub journal: &'a str,
+    /// The paths of its further parts, in order.
+    pub parts: Vec<&'a str>,
     /// The files that it began with.
     pub files: Files<'a>,
 }
 
 /// What `verify --from` is asked for.
-#[derive(Clone, Copy)]
+#[derive(Drop)]
 pub struct VerifyFromArgs<'a> {
     /// The path of the database.
     pub database: &'a str,
-    /// The path of its journal.
+    /// The path of its journal, or of the first part of that.
     pub journal: &'a str,
-    /// The path of a database with the register that the journal began with.
+    /// The paths of its further parts, in order.
+    pub parts: Vec<&'a str>,
+    /// The path of a copy of the database, which is at a place in the journal.
     pub copy: &'a str,
+}
+
+/// What `migrate` is asked for.
+#[derive(Clone, Copy)]
+pub struct MigrateArgs<'a> {
+    /// The path of the database.
+    pub database: &'a str,
+    /// The path of the journal to begin, if one is to be.
+    pub journal: Option<&'a str>,
 }
 
 /// What `update` is asked for.

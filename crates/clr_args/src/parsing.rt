@@ -1,16 +1,18 @@
 //! What the words of a command line come to: what they ask for, help, or why they do not parse.
-ghost use Rattle.std.specs.Prelude.{◌≡◌, ◌≢◌, IfOk, MatchOption, codes, map};
+ghost use Rattle.std.specs.Prelude.{◌≡◌, ◌≢◌, IfOk, MatchOption, codes, map, option_map};
 ghost use Rattle.clap.specs.Words.{first_of, found_of, kind_of, rows_of};
+ghost use Rattle.clr_args.specs.ArgumentWords.{flag_in, offset_in, word_in, words_in};
 ghost use Rattle.clr_args.specs.Parsed.{AsksArchive, AsksBoard, AsksFence, AsksFiles, AsksInit};
-ghost use Rattle.clr_args.specs.Parsed.{AsksJournal, AsksOrder, AsksRun, AsksServe, AsksUpdate};
-ghost use Rattle.clr_args.specs.Parsed.{AsksVerified, AsksWayBack};
+ghost use Rattle.clr_args.specs.Parsed.{AsksMigrate, AsksNextPart, AsksOfJournal, AsksOrder};
+ghost use Rattle.clr_args.specs.Parsed.{AsksRun, AsksServe, AsksUpdate, AsksVerified};
+ghost use Rattle.clr_args.specs.Parsed.{AsksWayBack, IsMoreThanNext, IsNoInit, IsNoJournal};
 ghost use Rattle.clr_args.specs.Parsed.{IsNoRun, IsNoServe, IsNoVerify, IsParsedAs, IsSaid};
-ghost use Rattle.clr_args.specs.Parsed.{IsUnreadAs, Parses};
-ghost use Rattle.clr_args.specs.Parsed.{run_usage};
+ghost use Rattle.clr_args.specs.Parsed.{IsUnreadAs, Parses, run_usage};
 
 use crate::asked::{
-    ArchiveArgs, Asked, BoardArgs, FenceArgs, Files, InitArgs, JournalArgs, OrderArgs, RunArgs,
-    ServeArgs, StoredArgs, UpdateArgs, VerifyArgs, VerifyFromArgs, WayBackArgs,
+    ArchiveArgs, Asked, BoardArgs, FenceArgs, Files, InitArgs, JournalArgs, MigrateArgs,
+    NextPartArgs, OrderArgs, RunArgs, ServeArgs, StoredArgs, UpdateArgs, VerifyArgs,
+    VerifyFromArgs, WayBackArgs,
 };
 use crate::syntax;
 use crate::words::{
@@ -20,6 +22,14 @@ use clap::ArgMatches;
 use clap::error::ErrorKind;
 use std::alloc::{AllocError, Global};
 use std::convert::AsStr;
+
+/// Why an `init` is not taken that names a journal without a database.
+const INIT_USAGE: &str = "error: init takes --journal FILE only with --db FILE\n";
+
+/// Why a `journal` is not taken that names a next part without a database, or a database without a
+/// next part, or more than these and the journal.
+const JOURNAL_USAGE: &str =
+    "error: journal takes --next FILE with --db DB, and then no other argument but FILE\n";
 
 /// Why a `run` is not taken that names both a database and files, or neither, or files that are not
 /// three.
@@ -91,7 +101,10 @@ fn asked<'a>(alloc: Global, name: &str, matches: &ArgMatches<'a>) -> Result<Pars
             Ok(Parsed::Asked(Asked::Fence(args)))
         }
         "check" => Ok(Parsed::Asked(Asked::Check(three_files(matches)))),
-        "init" => Ok(Parsed::Asked(Asked::Init(init_args(matches)))),
+        "init" => match init_args(matches) {
+            Some(args) => Ok(Parsed::Asked(Asked::Init(args))),
+            None => unread(alloc, INIT_USAGE),
+        },
         "run" => match run_args(alloc, matches)? {
             Some(args) => Ok(Parsed::Asked(Asked::Run(args))),
             None => unread(alloc, run_usage(matches)),
@@ -103,7 +116,10 @@ fn asked<'a>(alloc: Global, name: &str, matches: &ArgMatches<'a>) -> Result<Pars
             Some(args) => Ok(Parsed::Asked(Asked::Serve(args))),
             None => unread(alloc, SERVE_USAGE),
         },
-        "journal" => Ok(Parsed::Asked(Asked::Journal(journal_args(matches)))),
+        "journal" => match journal_asked(alloc, matches)? {
+            Some(asked) => Ok(Parsed::Asked(asked)),
+            None => unread(alloc, JOURNAL_USAGE),
+        },
         "verify" => match verify_asked(alloc, matches)? {
             Some(asked) => Ok(Parsed::Asked(asked)),
             None => unread(alloc, VERIFY_USAGE),
@@ -113,7 +129,7 @@ fn asked<'a>(alloc: Global, name: &str, matches: &ArgMatches<'a>) -> Result<Pars
             Ok(Parsed::Asked(Asked::Update(args)))
         }
         "archive" => Ok(Parsed::Asked(Asked::Archive(archive_args(matches)))),
-        "migrate" => Ok(Parsed::Asked(Asked::Migrate(word_of(matches, "DB")))),
+        "migrate" => Ok(Parsed::Asked(Asked::Migrate(migrate_args(matches)))),
         _ => {
             let text = format!(in alloc; "error: there is no subcommand {name}\n")?;
             Ok(Parsed::Unread(text))
@@ -156,13 +172,24 @@ fn three_files<'a>(matches: &ArgMatches<'a>) -> Files<'a>
     }
 }
 
-/// What `init SECTIONS POINTS STAFF [--db FILE]` asks for.
-fn init_args<'a>(matches: &ArgMatches<'a>) -> InitArgs<'a>
-    ensures { AsksInit (rows_of (found_of matches.now)) result }
+/// What `init SECTIONS POINTS STAFF [--db FILE [--journal FILE]]` asks for, if it names no journal
+/// without a database.
+fn init_args<'a>(matches: &ArgMatches<'a>) -> Option<InitArgs<'a>>
+    ensures { MatchOption result (IsNoInit (rows_of (found_of matches.now)))
+        (AsksInit (rows_of (found_of matches.now))) }
 {
-    InitArgs {
-        files: three_files(matches),
-        database: option_of(matches, "db"),
+    let files = three_files(matches);
+    let journal = option_of(matches, "journal");
+    match (option_of(matches, "db"), journal) {
+        (Some(database), _) => Some(InitArgs {
+            files,
+            stored: Some(StoredArgs { database, journal }),
+        }),
+        (None, None) => Some(InitArgs {
+            files,
+            stored: None,
+        }),
+        (None, Some(_)) => None,
     }
 }
 
@@ -250,20 +277,72 @@ fn serve_args<'a>(matches: &ArgMatches<'a>) -> Option<ServeArgs<'a>>
     }
 }
 
-/// What `journal FILE [CLEARANCE] [--offset MINUTES] [--commands]` asks for.
-fn journal_args<'a>(matches: &ArgMatches<'a>) -> JournalArgs<'a>
-    ensures { AsksJournal (rows_of (found_of matches.now)) result }
+/// What `journal FILE [CLEARANCE] [--part FILE]... [--offset MINUTES] [--commands]` asks for; or
+/// `journal FILE --db DB --next NEW`, if it names nothing else.
+fn journal_asked<'a>(
+    alloc: Global,
+    matches: &ArgMatches<'a>,
+) -> Result<Option<Asked<'a>>, AllocError>
+    ensures { IfOk result (λ asked. MatchOption asked
+        (IsNoJournal (rows_of (found_of matches.now)))
+        (AsksOfJournal (rows_of (found_of matches.now)))) }
+{
+    let parts = words_of(alloc, matches, "part")?;
+    match (option_of(matches, "next"), option_of(matches, "db")) {
+        (None, None) => Ok(Some(Asked::Journal(journal_args(matches, parts)))),
+        (Some(next), Some(database)) if parts.is_empty() => {
+            Ok(next_part_asked(matches, database, next))
+        }
+        _ => Ok(None),
+    }
+}
+
+/// What is printed of a journal with these further parts.
+fn journal_args<'a>(matches: &ArgMatches<'a>, parts: Vec<&'a str>) -> JournalArgs<'a>
+    ensures path { result.path.now ≡ word_in (rows_of (found_of matches.now)) (codes "FILE") }
+    ensures parts { result.parts ≡ parts.entry }
+    ensures clearance { option_map (λ word. word.now) result.clearance
+        ≡ first_of (codes "CLEARANCE") (rows_of (found_of matches.now)) }
+    ensures offset { result.offset.minutes
+        ≡ offset_in (first_of (codes "offset") (rows_of (found_of matches.now))) }
+    ensures commands { result.commands
+        ≡ flag_in (first_of (codes "commands") (rows_of (found_of matches.now))) }
 {
     JournalArgs {
         path: word_of(matches, "FILE"),
+        parts,
         clearance: option_of(matches, "CLEARANCE"),
         offset: offset_of(matches),
         commands: flag_of(matches, "commands"),
     }
 }
 
-/// What `verify DB JOURNAL [--from COPY] [FILES]...` asks for, if it names a copy and no files, or
-/// three files alone.
+/// The next part that is to be begun, if nothing is asked for beside it.
+fn next_part_asked<'a>(
+    matches: &ArgMatches<'a>,
+    database: &'a str,
+    next: &'a str,
+) -> Option<Asked<'a>>
+    ensures { MatchOption result
+        (IsMoreThanNext (first_of (codes "CLEARANCE") (rows_of (found_of matches.now)))
+        (flag_in (first_of (codes "commands") (rows_of (found_of matches.now)))))
+        (AsksNextPart (rows_of (found_of matches.now)) database.entry.now next.entry.now) }
+{
+    match (
+        option_of(matches, "CLEARANCE"),
+        flag_of(matches, "commands"),
+    ) {
+        (None, false) => Some(Asked::NextPart(NextPartArgs {
+            path: word_of(matches, "FILE"),
+            database,
+            next,
+        })),
+        _ => None,
+    }
+}
+
+/// What `verify DB JOURNAL [--part FILE]... [--from COPY] [FILES]...` asks for, if it names a copy
+/// and no files, or three files alone.
 fn verify_asked<'a>(
     alloc: Global,
     matches: &ArgMatches<'a>,
@@ -272,26 +351,69 @@ fn verify_asked<'a>(
         (IsNoVerify (rows_of (found_of matches.now)))
         (AsksVerified (rows_of (found_of matches.now)))) }
 {
-    let database = word_of(matches, "DB");
-    let journal = word_of(matches, "JOURNAL");
     let files = words_of(alloc, matches, "FILES")?;
     match (option_of(matches, "from"), files.as_slice()) {
-        (Some(copy), []) => Ok(Some(Asked::VerifyFrom(VerifyFromArgs {
-            database,
-            journal,
-            copy,
-        }))),
-        (None, [sections, points, staff]) => Ok(Some(Asked::Verify(VerifyArgs {
-            database,
-            journal,
-            files: Files {
+        (Some(copy), []) => {
+            let args = verify_from_args(alloc, matches, copy)?;
+            Ok(Some(Asked::VerifyFrom(args)))
+        }
+        (None, [sections, points, staff]) => {
+            let files = Files {
                 sections: *sections,
                 points: *points,
                 staff: *staff,
-            },
-        }))),
+            };
+            let args = verify_args(alloc, matches, files)?;
+            Ok(Some(Asked::Verify(args)))
+        }
         _ => Ok(None),
     }
+}
+
+/// What is verified with these files.
+fn verify_args<'a>(
+    alloc: Global,
+    matches: &ArgMatches<'a>,
+    files: Files<'a>,
+) -> Result<VerifyArgs<'a>, AllocError>
+    ensures database { IfOk result (λ args. args.database.now
+        ≡ word_in (rows_of (found_of matches.now)) (codes "DB")) }
+    ensures journal { IfOk result (λ args. args.journal.now
+        ≡ word_in (rows_of (found_of matches.now)) (codes "JOURNAL")) }
+    ensures parts { IfOk result (λ args. map (λ word. word.now) args.parts.items
+        ≡ words_in (rows_of (found_of matches.now)) (codes "part")) }
+    ensures files { IfOk result (λ args. args.files ≡ files.entry) }
+{
+    let parts = words_of(alloc, matches, "part")?;
+    Ok(VerifyArgs {
+        database: word_of(matches, "DB"),
+        journal: word_of(matches, "JOURNAL"),
+        parts,
+        files,
+    })
+}
+
+/// What is verified with this copy.
+fn verify_from_args<'a>(
+    alloc: Global,
+    matches: &ArgMatches<'a>,
+    copy: &'a str,
+) -> Result<VerifyFromArgs<'a>, AllocError>
+    ensures database { IfOk result (λ args. args.database.now
+        ≡ word_in (rows_of (found_of matches.now)) (codes "DB")) }
+    ensures journal { IfOk result (λ args. args.journal.now
+        ≡ word_in (rows_of (found_of matches.now)) (codes "JOURNAL")) }
+    ensures parts { IfOk result (λ args. map (λ word. word.now) args.parts.items
+        ≡ words_in (rows_of (found_of matches.now)) (codes "part")) }
+    ensures copy { IfOk result (λ args. args.copy.now ≡ copy.entry.now) }
+{
+    let parts = words_of(alloc, matches, "part")?;
+    Ok(VerifyFromArgs {
+        database: word_of(matches, "DB"),
+        journal: word_of(matches, "JOURNAL"),
+        parts,
+        copy,
+    })
 }
 
 /// What `update DB SECTIONS POINTS STAFF [--dry-run] [--without JUMPER]...` asks for.
@@ -317,5 +439,15 @@ fn archive_args<'a>(matches: &ArgMatches<'a>) -> ArchiveArgs<'a>
     ArchiveArgs {
         database: word_of(matches, "DB"),
         before: moment_of(matches),
+    }
+}
+
+/// What `migrate DB [--journal FILE]` asks for.
+fn migrate_args<'a>(matches: &ArgMatches<'a>) -> MigrateArgs<'a>
+    ensures { AsksMigrate (rows_of (found_of matches.now)) result }
+{
+    MigrateArgs {
+        database: word_of(matches, "DB"),
+        journal: option_of(matches, "journal"),
     }
 }

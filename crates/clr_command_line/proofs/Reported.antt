@@ -1,5 +1,5 @@
 -- What is reported is what every command line keeps to.
-use Rattle.std.proofs.Common.{◌≡◌, ◌⊎◌, ◌∙◌, ℕ, List, Result, Ok, Err, arith, inl, inr, refl, subst, sym}
+use Rattle.std.proofs.Common.{◌≡◌, ◌⊎◌, ◌∙◌, ℕ, List, Result, Ok, Err, ap, arith, inl, inr, refl, subst, sym}
 use Rattle.std.specs.Prelude.{◌≢◌, IfErr, IfSome, IsSomeAnd, Option, Some, None, String}
 use Rattle.std.specs.Borrow.{Bor}
 use Rattle.std.specs.declared.alloc.Global.{Global}
@@ -11,6 +11,7 @@ use Rattle.clr_args.specs.declared.asked.Asked.{Asked}
 use Rattle.clr_args.specs.declared.asked.Asked.TheVariants as asked
 use Rattle.clr_args.specs.declared.asked.Files.{Files}
 use Rattle.clr_args.specs.declared.asked.RunArgs.TheVariants as run
+use Rattle.clr_args.specs.declared.asked.StoredArgs.{StoredArgs}
 use Rattle.clr_args.specs.declared.parsing.Parsed.{Parsed}
 use Rattle.clr_args.specs.declared.parsing.Parsed.TheVariants as parsed
 use Rattle.clr_edge.specs.Visit.{Done}
@@ -18,13 +19,14 @@ use Rattle.clr_edge.specs.declared.fault.Fault.{Fault}
 use Rattle.clr_edge.specs.declared.fault.Fault.TheVariants.{Memory, Output}
 use Rattle.clr_commands.specs.Connections.{ReportsFirst}
 use Rattle.clr_commands.specs.Faults.{FailsAsSubcommand, IsOfSubcommand}
+use Rattle.clr_commands.specs.Journal.{IsSent}
 use Rattle.clr_commands.specs.declared.replies.Printed.{Printed}
 use Rattle.clr_commands.proofs.Archived.{HasWritten, archive_written}
 use Rattle.clr_commands.proofs.Written.{Writes, serve_written}
 use Rattle.clr_stream.specs.Streams.{Stream}
 use Rattle.clr_command_line.specs.Around.{Around, Steps}
 use Rattle.clr_command_line.specs.CommandLine.{AnswersNone, CarriesOut, DoesParsed, Moment}
-use Rattle.clr_command_line.specs.OwnFiles.{NamesOthers, NamesOwn, OwnsFile, UnlessMemory}
+use Rattle.clr_command_line.specs.OwnFiles.{NamesOthers, NamesOwn, OwnsFile, OwnsJournal, OwnsMade, UnlessMemory}
 use Rattle.clr_command_line.specs.Report.{HasServed, IsFaulted, IsReported, Reports, ReportsFault, ReportsRun, ReportsServed, ReportsText}
 
 -- a fault, at which nothing went to the output
@@ -129,24 +131,60 @@ file_other owns database files fault (inl (own, is)) e = cc (sym is ∙ e)
 file_other owns database files fault (inr (inl (own, is))) e = cc (sym is ∙ e)
 file_other owns database files fault (inr (inr (own, is))) e = cc (sym is ∙ e)
 
-init_other : (owns : List ℕ → List ℕ → Type 0) (database : Option (Bor (List ℕ))) (files : Files) (fault : Fault)
-    → IsSomeAnd database (λ d. OwnsFile owns d.now files fault) → fault ≢ Output
-init_other owns None files fault own e = absurd own
-init_other owns (Some d) files fault own e = file_other owns d.now files fault own e
+part_other : (owns : List ℕ → List ℕ → Type 0) (database : List ℕ) (found : Option (List ℕ)) (fault : Fault)
+    → IsSomeAnd found (λ path. OwnsJournal owns database path fault) → fault ≢ Output
+part_other owns database None fault own e = absurd own
+part_other owns database (Some path) fault (own, is) e = cc (sym is ∙ e)
+
+made_other : (owns : List ℕ → List ℕ → Type 0) (stored : Option StoredArgs) (files : Files) (fault : Fault)
+    → IsSomeAnd stored (λ made. OwnsMade owns made files fault) → fault ≢ Output
+made_other owns None files fault own e = absurd own
+made_other owns (Some made) files fault (inl own) e = file_other owns made.database.now files fault own e
+made_other owns (Some made) files fault (inr (own, is)) e = cc (sym is ∙ e)
 
 -- the fault of a file of the database is not of the output
 own_other : (owns : List ℕ → List ℕ → Type 0) (what : Asked) (fault : Fault) → UnlessMemory (NamesOwn owns what) fault → fault ≢ Output
 own_other owns what fault (inl memory) e = cc (sym memory ∙ e)
-own_other owns (asked.Init args) fault (inr own) e = init_other owns args.database args.files fault own e
+own_other owns (asked.Init args) fault (inr own) e = made_other owns args.stored args.files fault own e
 own_other owns (asked.Run (run.Stored args)) fault (inr (own, is)) e = cc (sym is ∙ e)
 own_other owns (asked.Serve args) fault (inr (inl (own, is))) e = cc (sym is ∙ e)
 own_other owns (asked.Serve args) fault (inr (inr (own, is))) e = cc (sym is ∙ e)
 own_other owns (asked.Verify args) fault (inr (inl (own, is))) e = cc (sym is ∙ e)
-own_other owns (asked.Verify args) fault (inr (inr own)) e = file_other owns args.database.now args.files fault own e
+own_other owns (asked.Verify args) fault (inr (inr (inl (place, own)))) e = part_other owns args.database.now _ fault own e
+own_other owns (asked.Verify args) fault (inr (inr (inr own))) e = file_other owns args.database.now args.files fault own e
 own_other owns (asked.VerifyFrom args) fault (inr (inl (own, is))) e = cc (sym is ∙ e)
-own_other owns (asked.VerifyFrom args) fault (inr (inr (own, is))) e = cc (sym is ∙ e)
+own_other owns (asked.VerifyFrom args) fault (inr (inr (inl (own, is)))) e = cc (sym is ∙ e)
+own_other owns (asked.VerifyFrom args) fault (inr (inr (inr (inl (place, own))))) e = part_other owns args.database.now _ fault own e
+own_other owns (asked.VerifyFrom args) fault (inr (inr (inr (inr (place, own))))) e = part_other owns args.copy.now _ fault own e
 own_other owns (asked.Update args) fault (inr own) e = file_other owns args.database.now args.files fault own e
+own_other owns (asked.NextPart args) fault (inr (inl (own, is))) e = cc (sym is ∙ e)
+own_other owns (asked.NextPart args) fault (inr (inr (own, is))) e = cc (sym is ∙ e)
+own_other owns (asked.Migrate args) fault (inr (own, is)) e = cc (sym is ∙ e)
 own_other owns what fault (inr own) e = absurd own
+
+-- a journal that was printed
+is_of_output : (fault : Fault) → (fault ≡ Output) ⊎ (fault ≢ Output)
+is_of_output Output = inl refl
+is_of_output fault = inr (λ e. cc e)
+
+printed_before : (fault : Fault) (output output' : Stream) → IsSent output output' (Err fault) → (fault ≡ Output) ⊎ (fault ≢ Output) → IsFaulted fault output output'
+printed_before fault output output' sent (inl is) = inl (is, sent.failed (ap Err is))
+printed_before fault output output' sent (inr other) = inr (other, sent.before other)
+
+reported_journal : (printed : Done) (status : ℕ) (output output' errors errors' : Stream) → IsSent output output' printed
+    → ReportsServed printed status errors errors' → IsReported status output output' errors errors'
+reported_journal (Ok value) status output output' errors errors' sent (zero, same) = record {
+  statuses = omega (arith, zero);
+  answered = λ _. (sent.done, inl same);
+  faulted = λ one. absurd (omega (arith, zero, one));
+  unread = λ two. absurd (omega (arith, zero, two));
+}
+reported_journal (Err fault) status output output' errors errors' sent (one, line) = record {
+  statuses = omega (arith, one);
+  answered = λ zero. absurd (omega (arith, zero, one));
+  faulted = λ _. (fault, errors, line, inl (refl, printed_before fault output output' sent (is_of_output fault)));
+  unread = λ two. absurd (omega (arith, one, two));
+}
 
 module _ {M D L R W I J C : Type 0} (by : Steps M D L R W J C) (around : Around I) where
   open by use {logs, medium, opens, shuts, ends, net, seen}
@@ -166,14 +204,15 @@ module _ {M D L R W I J C : Type 0} (by : Steps M D L R W J C) (around : Around 
       reported_served args.port args.count served status before.output after.output before.errors middle after.errors
       (serve_written logs net seen before.output after.output before.errors middle files args medium opens shuts ends served
       before.machine after.machine serves) reports
-  carried_out (asked.Journal args) status before after (answer, does, own, untouched, reports) = reported answer status _ _ _ _ own reports
+  carried_out (asked.Journal args) status before after (printed, untouched, prints, reports) = reported_journal printed status _ _ _ _ prints.sent reports
+  carried_out (asked.NextPart args) status before after (answer, does, own, untouched, reports) = reported answer status _ _ _ _ own reports
   carried_out (asked.Verify args) status before after (answer, does, own, untouched, reports) = reported answer status _ _ _ _ own reports
   carried_out (asked.VerifyFrom args) status before after (answer, does, own, untouched, reports) = reported answer status _ _ _ _ own reports
   carried_out (asked.Update args) status before after (answer, does, own, untouched, reports) = reported answer status _ _ _ _ own reports
   carried_out (asked.Archive args) status before after (archived, untouched, archives, reports) =
       reported_archive archived status _ _ _ _
       (archive_written before.output after.output medium opens shuts ends args archived before.machine after.machine archives) reports
-  carried_out (asked.Migrate path) status before after (answer, does, own, untouched, reports) = reported answer status _ _ _ _ own reports
+  carried_out (asked.Migrate args) status before after (answer, does, own, untouched, reports) = reported answer status _ _ _ _ own reports
 
   pub does : (what : Parsed) (status : ℕ) (before after : Moment M I)
       → DoesParsed by around what status before after

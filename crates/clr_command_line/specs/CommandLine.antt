@@ -1,5 +1,5 @@
 -- What a command line does: what its words ask for is carried out and reported.
-use Rattle.std.specs.Prelude.{◌≡◌, ◌⊎◌, ℕ, List, None, Result, IfErr, IfSome, IsErrOf}
+use Rattle.std.specs.Prelude.{◌≡◌, ◌⊎◌, ℕ, List, None, Result, IfErr}
 use Rattle.std.specs.Prelude.{String, codes, string_bytes}
 use Rattle.std.specs.declared.alloc.Global.{Global}
 use Rattle.std.specs.declared.io.ErrorKind.{ErrorKind}
@@ -9,28 +9,27 @@ use Rattle.clr_stream.specs.Streams.{Sends, Stream}
 use Rattle.clr_args.specs.Parsed.{Parses}
 use Rattle.clr_args.specs.declared.asked.Asked.{Asked}
 use Rattle.clr_args.specs.declared.asked.Asked.TheVariants as asked
-use Rattle.clr_args.specs.declared.asked.JournalArgs.{JournalArgs}
 use Rattle.clr_args.specs.declared.parsing.Parsed.{Parsed}
 use Rattle.clr_args.specs.declared.parsing.Parsed.TheVariants as parsed
-use Rattle.clr_edge.specs.Visit.{Alone, Comes, Done, MakesRegister, MovesRegister}
+use Rattle.clr_edge.specs.Beginning.{MakesRegisterAt}
+use Rattle.clr_edge.specs.Visit.{Alone, Comes, Done, MakesRegister}
 use Rattle.clr_edge.specs.declared.fault.Fault.{Fault}
-use Rattle.clr_edge.specs.declared.fault.Fault.TheVariants.{Journal, Memory}
-use Rattle.clr_edge.specs.declared.fault.JournalFault.TheVariants.{OpenFailed, ReadFailed}
+use Rattle.clr_edge.specs.declared.fault.Fault.TheVariants.{Memory}
 use Rattle.clr_commands.specs.Archive.{ArchivesAt}
 use Rattle.clr_commands.specs.Check.{ChecksAt}
 use Rattle.clr_commands.specs.Faults.{FailsAsSubcommand, IsOfSubcommand}
 use Rattle.clr_commands.specs.Fence.{FencesAt}
-use Rattle.clr_commands.specs.Init.{InitsAt}
-use Rattle.clr_commands.specs.Migrate.{Migrates}
-use Rattle.clr_commands.specs.Paths.{AtPaths}
+use Rattle.clr_commands.specs.Init.{InitsAt, InitsWith}
+use Rattle.clr_commands.specs.Migrate.{MigratesAt}
+use Rattle.clr_commands.specs.NextPart.{BeginsNext}
 use Rattle.clr_commands.specs.Run.{ReadsInput, RunsAsked, RunsKept}
 use Rattle.clr_commands.specs.Serve.{ServesAt}
 use Rattle.clr_commands.specs.Stored.{PrintsBoard, PrintsOrder}
-use Rattle.clr_commands.specs.Verify.{Copies, Verifies, VerifiesAt, VerifiesFromAt}
+use Rattle.clr_commands.specs.Verify.{ReadsPlaced, VerifiesAt, VerifiesFromAt}
 use Rattle.clr_commands.specs.Update.{UpdatesFiles}
 use Rattle.clr_commands.specs.WayBack.{PrintsWayBack}
 use Rattle.clr_commands.specs.declared.replies.Printed.{Printed}
-use Rattle.clr_commands.specs.Journal.{GivesJournal}
+use Rattle.clr_commands.specs.Journal.{PrintsParts}
 use Rattle.clr_command_line.specs.Around.{Around, Steps}
 use Rattle.clr_command_line.specs.OwnFiles.{NamesOthers, NamesOwn, UnlessMemory}
 use Rattle.clr_command_line.specs.Report.{Reports, ReportsFault, ReportsRun, ReportsServed}
@@ -59,13 +58,6 @@ ComesTo Does status before after = (answer : Result (String Global) Fault)
     × (after.input ≡ before.input)
     × Reports answer status before.output after.output before.errors after.errors
 
--- what `journal` prints of the file at a path, and why it goes unread
-pub record PrintsJournal (files : AtPaths) (args : JournalArgs)
-    (answer : Result (String Global) Fault) : Type 0 where
-  pub text : IfSome (files.bytes args.path.now) (λ bytes. GivesJournal args bytes answer)
-  pub unopened : IsErrOf answer (Journal OpenFailed) → files.fails args.path.now
-  pub unread : IsErrOf answer (Journal ReadFailed) → files.fails args.path.now
-
 -- over the steps of a machine, and what is seen of the files at paths and of the input
 module _ {M D L R W I J C : Type 0} (by : Steps M D L R W J C) (around : Around I) where
   open by use {logs, medium, makes, opens, shuts, ends, net, seen}
@@ -81,8 +73,8 @@ module _ {M D L R W I J C : Type 0} (by : Steps M D L R W J C) (around : Around 
       × ReportsRun answer status before.output after.output before.errors after.errors
 
   -- WHAT IS ASKED FOR IS CARRIED OUT, and reported: each subcommand makes its own visit of a
-  -- database, and one that names none leaves the machine as it was. A server and an archive write
-  -- as they go.
+  -- database, and one that names none leaves the machine as it was. A server, an archive and a journal
+  -- write as they go.
   abbrev pub CarriesOut : Asked → ℕ → Moment M I → Moment M I → Type 0
   CarriesOut (asked.Fence args) status before after = ComesTo
       (λ answer old new. FencesAt files args answer × (new ≡ old)) status before after
@@ -90,7 +82,9 @@ module _ {M D L R W I J C : Type 0} (by : Steps M D L R W J C) (around : Around 
       (λ answer old new. ChecksAt files three answer × (new ≡ old)) status before after
   CarriesOut (asked.Init args) status before after = ComesTo
       (InitsAt files (λ path register. Comes medium makes shuts ends path
-      (Alone (MakesRegister over_files register))) args) status before after
+      (Alone (MakesRegister over_files register)))
+      (InitsWith logs (λ path register first. Comes medium makes shuts ends path
+      (Alone (MakesRegisterAt over_files register first)))) args) status before after
   CarriesOut (asked.Run args) status before after = RunComesTo
       (RunsAsked files (RunsKept logs medium opens shuts ends (remaining before.input)) args
       (remaining before.input)) status before after
@@ -105,14 +99,18 @@ module _ {M D L R W I J C : Type 0} (by : Steps M D L R W J C) (around : Around 
       × ServesAt logs net seen files args before.output after.output before.errors reported
       medium opens shuts ends served before.machine after.machine
       × ReportsServed served status reported after.errors
-  CarriesOut (asked.Journal args) status before after = ComesTo
-      (λ answer old new. PrintsJournal files args answer × (new ≡ old)) status before after
+  CarriesOut (asked.Journal args) status before after =
+      (printed : Done) × IsUntouched before after
+      × PrintsParts files args before.output after.output printed
+      × ReportsServed printed status before.errors after.errors
+  CarriesOut (asked.NextPart args) status before after = ComesTo
+      (BeginsNext logs medium opens shuts ends args) status before after
   CarriesOut (asked.Verify args) status before after = ComesTo
-      (VerifiesAt files args (λ run. Comes medium opens shuts ends args.database.now (Verifies run)))
+      (VerifiesAt files args (Comes medium opens shuts ends args.database.now ReadsPlaced))
       status before after
   CarriesOut (asked.VerifyFrom args) status before after = ComesTo
-      (VerifiesFromAt files args (Comes medium opens shuts ends args.copy.now Copies)
-      (λ run. Comes medium opens shuts ends args.database.now (Verifies run))) status before after
+      (VerifiesFromAt files args (Comes medium opens shuts ends args.copy.now ReadsPlaced)
+      (Comes medium opens shuts ends args.database.now ReadsPlaced)) status before after
   CarriesOut (asked.Update args) status before after = ComesTo
       (UpdatesFiles files medium opens shuts ends args) status before after
   CarriesOut (asked.Archive args) status before after =
@@ -120,9 +118,8 @@ module _ {M D L R W I J C : Type 0} (by : Steps M D L R W J C) (around : Around 
       × ArchivesAt medium opens shuts ends args before.output after.output archived before.machine
       after.machine
       × ReportsServed archived status before.errors after.errors
-  CarriesOut (asked.Migrate path) status before after = ComesTo
-      (Migrates (Comes medium opens shuts ends path.now (Alone (MovesRegister over_files))))
-      status before after
+  CarriesOut (asked.Migrate args) status before after = ComesTo
+      (MigratesAt logs medium opens shuts ends args) status before after
 
   -- a file that is named beside a database is one of its own, or memory ran out: nothing is done
   abbrev pub RefusesOwn : Asked → ℕ → Moment M I → Moment M I → Type 0

@@ -40,7 +40,7 @@ ReportsRun (Ok printed) status output output' errors errors' =
 ReportsRun (Err fault) status output output' errors errors' = (output' ≡ output)
     × ReportsFault fault status errors errors'
 
--- and of a server or an archive, which wrote before
+-- and of a server, an archive or a journal, which wrote before
 abbrev pub ReportsServed : {T : Type 0} → Result T Fault → ℕ → Stream → Stream → Type 0
 ReportsServed (Ok value) status errors errors' = ReportsEnd None status errors errors'
 ReportsServed (Err fault) status errors errors' = ReportsEnd (Some fault) status errors errors'

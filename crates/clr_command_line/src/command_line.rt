@@ -21,6 +21,7 @@ use clr_commands::fence::fence;
 use clr_commands::init::init;
 use clr_commands::journal::journal;
 use clr_commands::migrate::migrate;
+use clr_commands::next_part::next_part;
 use clr_commands::order::order;
 use clr_commands::run::run;
 use clr_commands::serve::serve;
@@ -189,12 +190,13 @@ where
             let served = serve(alloc, rt, paths, args, output, errors);
             report_served(served, errors)
         }
-        Asked::Journal(args) => report(journal(alloc, paths, args), output, errors),
+        Asked::Journal(args) => report_served(journal(alloc, paths, args, output), errors),
+        Asked::NextPart(args) => report(next_part(alloc, rt, args), output, errors),
         Asked::Verify(args) => report(verify(alloc, rt, paths, args), output, errors),
         Asked::VerifyFrom(args) => report(verify_from(alloc, rt, paths, args), output, errors),
         Asked::Update(args) => report(update(alloc, rt, paths, args), output, errors),
         Asked::Archive(args) => report_served(archive(alloc, rt, args, output), errors),
-        Asked::Migrate(path) => report(migrate(alloc, rt, *path), output, errors),
+        Asked::Migrate(args) => report(migrate(alloc, rt, args), output, errors),
     }
 }
 

@@ -1,11 +1,15 @@
 //! Files that are named beside a database, none of which is to be one of the database's own.
-ghost use Rattle.std.specs.Prelude.{◌≡◌, IfErr, OnOk};
-ghost use Rattle.clr_command_line.specs.OwnFiles.{NamesOthers, NamesOwn, OwnsFile, OwnsOne};
-ghost use Rattle.clr_command_line.specs.OwnFiles.{OwnsServed, OwnsVerified, OwnsVerifiedFrom};
-ghost use Rattle.clr_command_line.specs.OwnFiles.{SparesFiles, SparesOne, SparesServed};
-ghost use Rattle.clr_command_line.specs.OwnFiles.{SparesVerified, SparesVerifiedFrom, UnlessMemory};
+ghost use Rattle.std.specs.Prelude.{◌≡◌, IfErr, OnOk, map};
+ghost use Rattle.clr_command_line.specs.OwnFiles.{NamesOthers, NamesOwn, OwnsFile, OwnsMade};
+ghost use Rattle.clr_command_line.specs.OwnFiles.{OwnsNext, OwnsOne, OwnsPart, OwnsServed};
+ghost use Rattle.clr_command_line.specs.OwnFiles.{OwnsVerified, OwnsVerifiedFrom, SparesFiles};
+ghost use Rattle.clr_command_line.specs.OwnFiles.{SparesMade, SparesNext, SparesOne, SparesParts};
+ghost use Rattle.clr_command_line.specs.OwnFiles.{SparesServed, SparesVerified};
+ghost use Rattle.clr_command_line.specs.OwnFiles.{SparesVerifiedFrom, UnlessMemory};
 
-use clr_args::asked::{Asked, Files, RunArgs, ServeArgs, StoredArgs, VerifyArgs, VerifyFromArgs};
+use clr_args::asked::{
+    Asked, Files, NextPartArgs, RunArgs, ServeArgs, StoredArgs, VerifyArgs, VerifyFromArgs,
+};
 use clr_edge::fault::{Fault, ImportFile, JournalFault};
 use clr_edge::paths::Opens;
 use std::alloc::{AllocError, Global};
@@ -21,8 +25,8 @@ pub(crate) fn expect_others<'a, O: Opens<'a>>(
     ensures own { IfErr result (UnlessMemory (NamesOwn (O.owns paths.now) asked.now)) }
 {
     match asked {
-        Asked::Init(args) => match args.database {
-            Some(database) => expect_files(alloc, paths, database, &args.files),
+        Asked::Init(args) => match &args.stored {
+            Some(stored) => expect_made(alloc, paths, stored, &args.files),
             None => Ok(()),
         },
         Asked::Run(RunArgs::Stored(args)) => expect_journal(alloc, paths, args),
@@ -30,6 +34,14 @@ pub(crate) fn expect_others<'a, O: Opens<'a>>(
         Asked::Verify(args) => expect_verified(alloc, paths, args),
         Asked::VerifyFrom(args) => expect_verified_from(alloc, paths, args),
         Asked::Update(args) => expect_files(alloc, paths, args.database, &args.files),
+        Asked::NextPart(args) => expect_next(alloc, paths, args),
+        Asked::Migrate(args) => {
+            let stored = StoredArgs {
+                database: args.database,
+                journal: args.journal,
+            };
+            expect_journal(alloc, paths, &stored)
+        }
         _ => Ok(()),
     }
 }
@@ -50,6 +62,54 @@ fn expect_journal<'a, O: Opens<'a>>(
         Some(journal) => expect_other(alloc, paths, args.database, journal, fault),
         None => Ok(()),
     }
+}
+
+/// Refuses files to begin with, or a journal to begin, that are a file of the database to make.
+fn expect_made<'a, O: Opens<'a>>(
+    alloc: Global,
+    paths: &O,
+    stored: &StoredArgs<'a>,
+    files: &Files<'a>,
+) -> Result<(), Fault>
+    ensures others { OnOk result (SparesMade (O.spares paths.now) stored.now files.now) }
+    ensures own { IfErr result (UnlessMemory (OwnsMade (O.owns paths.now) stored.now files.now)) }
+{
+    expect_files(alloc, paths, stored.database, files)?;
+    expect_journal(alloc, paths, stored)
+}
+
+/// Refuses parts of a journal that are a file of the database.
+fn expect_parts<'a, O: Opens<'a>>(
+    alloc: Global,
+    paths: &O,
+    database: &str,
+    parts: &[&'a str],
+) -> Result<(), Fault>
+    ensures others { OnOk result (SparesParts (O.spares paths.now) database.now
+        (map (λ path. path.now) parts.now)) }
+    ensures own { IfErr result (UnlessMemory (OwnsPart (O.owns paths.now) database.now
+        (map (λ path. path.now) parts.now))) }
+{
+    for path in parts {
+        let fault = Fault::Journal(JournalFault::SameFile);
+        expect_other(alloc, paths, database, *path, fault)?;
+    }
+    Ok(())
+}
+
+/// Refuses a part of a journal, or the next one, that is a file of the database.
+fn expect_next<'a, O: Opens<'a>>(
+    alloc: Global,
+    paths: &O,
+    args: &NextPartArgs<'a>,
+) -> Result<(), Fault>
+    ensures others { OnOk result (SparesNext (O.spares paths.now) args.now) }
+    ensures own { IfErr result (UnlessMemory (OwnsNext (O.owns paths.now) args.now)) }
+{
+    let fault = Fault::Journal(JournalFault::SameFile);
+    expect_other(alloc, paths, args.database, args.path, fault)?;
+    let fault_of_next = Fault::Journal(JournalFault::SameFile);
+    expect_other(alloc, paths, args.database, args.next, fault_of_next)
 }
 
 /// Refuses logins or a journal that are a file of the database.
@@ -86,6 +146,7 @@ fn expect_verified<'a, O: Opens<'a>>(
         journal: Some(args.journal),
     };
     expect_journal(alloc, paths, &stored)?;
+    expect_parts(alloc, paths, args.database, args.parts.as_slice())?;
     expect_files(alloc, paths, args.database, &args.files)
 }
 
@@ -98,10 +159,12 @@ fn expect_verified_from<'a, O: Opens<'a>>(
     ensures others { OnOk result (SparesVerifiedFrom (O.spares paths.now) args.now) }
     ensures own { IfErr result (UnlessMemory (OwnsVerifiedFrom (O.owns paths.now) args.now)) }
 {
-    let of_database = Fault::Journal(JournalFault::SameFile);
-    expect_other(alloc, paths, args.database, args.journal, of_database)?;
-    let of_copy = Fault::Journal(JournalFault::SameFile);
-    expect_other(alloc, paths, args.copy, args.journal, of_copy)
+    let fault = Fault::Journal(JournalFault::SameFile);
+    expect_other(alloc, paths, args.database, args.journal, fault)?;
+    let fault_by_copy = Fault::Journal(JournalFault::SameFile);
+    expect_other(alloc, paths, args.copy, args.journal, fault_by_copy)?;
+    expect_parts(alloc, paths, args.database, args.parts.as_slice())?;
+    expect_parts(alloc, paths, args.copy, args.parts.as_slice())
 }
 
 /// Refuses three files of which one is a file of the database.

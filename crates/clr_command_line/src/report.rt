@@ -56,7 +56,8 @@ pub fn report_text<W: CountedFlush, E: CountedFlush>(
     }
 }
 
-/// The status of a server or an archive that came to its end, of which a fault is written.
+/// The status of a server, an archive or a journal that came to its end, of which a fault is
+/// written.
 pub fn report_served<E: CountedFlush>(served: Result<(), Fault>, errors: &mut E) -> u8
     ensures { ReportsServed served result (E.stream errors.old) (E.stream errors.new) }
 {

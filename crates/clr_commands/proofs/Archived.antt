@@ -9,13 +9,13 @@ use Rattle.clr_args.specs.declared.asked.ArchiveArgs.{ArchiveArgs}
 use Rattle.clr_desk.specs.declared.desk.Desk.{Desk}
 use Rattle.clr_stream.specs.Streams.{HasFailed, Stream, WentOut}
 use Rattle.clr_edge.specs.Database.{IsOfLine}
-use Rattle.clr_edge.specs.Keeping.{IsNotRead, IsNotUp, IsUp, plain}
+use Rattle.clr_edge.specs.Keeping.{IsNotReadAlone, IsNotUp, IsUp, unlogged}
 use Rattle.clr_edge.specs.Visit.{Done, Ending, Ends, Opening, Over, Shutting, both}
 use Rattle.clr_edge.specs.declared.fault.Fault.{Fault}
 use Rattle.clr_edge.specs.declared.fault.Fault.TheVariants.{Output}
 use Rattle.clr_commands.specs.Archive.{Archives, ArchivesAt, ArchivesOver, IsArchived}
 use Rattle.clr_commands.specs.ArchiveText.{archive_text}
-use Rattle.clr_commands.proofs.Written.{line_other, other_as, store_other}
+use Rattle.clr_commands.proofs.Written.{line_other, not_alone_other}
 
 -- what went out, by the result: a text, flushed; at a fault of the output, what it took; at any
 -- other nothing, or a text, flushed
@@ -44,10 +44,10 @@ module _ (output output' : Stream) where
     over_written : (result closed : Done) → ArchivesOver g args output output' result before after closed → HasWritten output output' result
     over_written result closed it = subst (HasWritten output output') (sym it.result_is) (of it.told it.did)
       where
-        of : (told : Done) → (IsErrAnd told (λ fault. IsNotRead g before fault after) × (output' ≡ output)) ⊎ Archives g args output output' told before after
+        of : (told : Done) → (IsErrAnd told (λ fault. IsNotReadAlone g before fault after) × (output' ≡ output)) ⊎ Archives g args output output' told before after
             → HasWritten output output' (both told closed)
         of (Ok value) (inl (refused, same)) = absurd refused
-        of (Err fault) (inl (refused, same)) = inr (other_as fault _ refused.refused.told_is (store_other refused.refused.fault), inl same)
+        of (Err fault) (inl (refused, same)) = inr (not_alone_other g before after fault refused, inl same)
         of told (inr done) = archived_written told closed done it.closing
 
   module _ {M D : Type 0} (g : disk.Ghosts D) (opens : Opening M D) (shuts : Shutting M) (ends : Ending M D) (args : ArchiveArgs) where
@@ -59,7 +59,7 @@ module _ (output output' : Stream) where
 
     -- the register of the database at the path was archived
     pub archived_at : (before : ℕ) (told closed result : Done) (old between new : M) (desk : Desk (Over g)) (store after : Over g)
-        → IsUp g opens args.database.now (plain over_files) old between desk → before ≡ args.before
+        → IsUp g opens args.database.now (unlogged over_files) old between desk → before ≡ args.before
         → IsArchived over_files before output output' desk.book.register told desk.store store → after ≡ store
         → Ends ends after closed between new → IfErr closed IsOfLine → result ≡ both told closed
         → ArchivesAt g opens shuts ends args output output' result old new
@@ -90,7 +90,7 @@ module _ (output output' : Stream) where
 
     -- or it was not read, and nothing went out
     pub unarchived_at : (result : Done) (old new : M) (fault : Fault) → output' ≡ output → IsErrAnd result (λ cause. cause ≡ fault)
-        → IsNotUp g opens shuts ends args.database.now (plain over_files) old new fault → ArchivesAt g opens shuts ends args output output' result old new
+        → IsNotUp g opens shuts ends args.database.now (unlogged over_files) old new fault → ArchivesAt g opens shuts ends args output output' result old new
     unarchived_at (Ok value) old new fault same is not = absurd is
     unarchived_at (Err cause) old new fault same is (inl (line, shut)) = inl (fault, ap Err is, line, (shut, same))
     unarchived_at (Err cause) old new fault same is (inr visit) = inr (record {

@@ -15,7 +15,17 @@ use Rattle.clr_desk.specs.declared.desk_fault.DeskFault.{DeskFault}
 use Rattle.clr_desk.specs.declared.desk_fault.DeskFault.TheVariants as desk
 use Rattle.clr_edge.specs.Database.{IsOfLine, IsOfStore}
 use Rattle.clr_edge.specs.Fault.{IsOfFile, of_desk, of_file, of_name, of_network, of_staff, of_store}
-use Rattle.clr_edge.specs.Journals.{IsOfTakingUp}
+use Rattle.clr_chain.specs.declared.fault.ChainFault.{ChainFault}
+use Rattle.clr_chain.specs.declared.fault.ChainFault.TheVariants as chain
+use Rattle.clr_chain.specs.declared.fault.NewFault.{NewFault}
+use Rattle.clr_chain.specs.declared.fault.NewFault.TheVariants as unbegun
+use Rattle.clr_level.specs.declared.fault.OpeningFault.{OpeningFault}
+use Rattle.clr_level.specs.declared.fault.OpeningFault.TheVariants as opening
+use Rattle.clr_checking.specs.declared.fault.CheckFault.{CheckFault}
+use Rattle.clr_checking.specs.declared.fault.CheckFault.TheVariants as check
+use Rattle.clr_edge.specs.Beginning.{IsOfBegun}
+use Rattle.clr_edge.specs.Journals.{IsOfBeginning, of_chain, of_new}
+use Rattle.clr_edge.specs.TakenUp.{IsOfTakingUp, of_opening}
 use Rattle.clr_edge.specs.declared.fault.Fault.{Fault}
 use Rattle.clr_edge.specs.declared.fault.Fault.TheVariants.{Accept, Listen, Memory, Output, SameFile, Update}
 use Rattle.clr_update.specs.declared.obstacle.Obstacle.{Obstacle}
@@ -28,9 +38,9 @@ use Rattle.clr_commands.specs.Import.{IsOfAnyFile}
 use Rattle.clr_commands.specs.Run.{IsOfInput}
 use Rattle.clr_commands.specs.declared.replies.Printed.{Printed}
 use Rattle.clr_commands.specs.Stored.{IsOfOrder}
-use Rattle.clr_commands.specs.Verify.{IsOfVerify}
+use Rattle.clr_commands.specs.Parts.{IsOfPart}
+use Rattle.clr_commands.specs.Verify.{IsOfCheck, of_check}
 use Rattle.clr_commands.specs.WayBack.{IsOfWayBack}
-use Rattle.clr_commands.specs.Files.{IsOfFile as IsOfJournalFile}
 
 abbrev is_plain : Fault → Bool
 is_plain Output = false
@@ -115,18 +125,62 @@ way_back_plain fault (inl memory) = memory_plain fault memory
 way_back_plain fault (inr (inl none)) = plain_as fault _ none refl
 way_back_plain fault (inr (inr hangs)) = plain_as fault _ hangs refl
 
-pub verify_plain : (fault : Fault) → IsOfVerify fault → IsOfSubcommand fault
-verify_plain fault (inl memory) = memory_plain fault memory
-verify_plain fault (inr (found, is)) = plain_as fault _ is refl
+-- those of journals
+of_chain_plain : (cause : ChainFault) → IsOfSubcommand (of_chain cause)
+of_chain_plain chain.OpenFailed = plain _ refl
+of_chain_plain chain.NoMemory = plain _ refl
+of_chain_plain chain.OtherRegister = plain _ refl
+of_chain_plain chain.TooShort = plain _ refl
+of_chain_plain (chain.Differs number) = plain _ refl
+of_chain_plain (chain.BadLine number) = plain _ refl
 
-pub history_plain : (fault : Fault) → IsOfJournalFile fault → IsOfSubcommand fault
-history_plain fault (inl memory) = memory_plain fault memory
-history_plain fault (inr (cause, is, read_only, apart)) = plain_as fault _ is refl
+of_new_plain : (cause : NewFault) → IsOfSubcommand (of_new cause)
+of_new_plain unbegun.HasBytes = plain _ refl
+of_new_plain unbegun.WriteFailed = plain _ refl
+of_new_plain unbegun.TooLong = plain _ refl
+of_new_plain unbegun.NoMemory = plain _ refl
+
+of_opening_plain : (cause : OpeningFault) → IsOfSubcommand (of_opening cause)
+of_opening_plain opening.OtherRegister = plain _ refl
+of_opening_plain opening.TooShort = plain _ refl
+of_opening_plain (opening.Differs number) = plain _ refl
+of_opening_plain (opening.BadLine number) = plain _ refl
+of_opening_plain (opening.Desk cause) = of_desk_plain cause
+
+pub of_check_plain : (cause : CheckFault) → IsOfSubcommand (of_check cause)
+of_check_plain check.OtherRegister = plain _ refl
+of_check_plain (check.BadLine number) = plain _ refl
+of_check_plain (check.Differs number) = plain _ refl
+of_check_plain check.TooShort = plain _ refl
+of_check_plain (check.Reply number) = plain _ refl
+of_check_plain (check.Tables found) = plain _ refl
+of_check_plain check.NoMemory = plain _ refl
 
 pub taking_up_plain : (fault : Fault) → IsOfTakingUp fault → IsOfSubcommand fault
-taking_up_plain fault (inl (inl memory)) = memory_plain fault memory
-taking_up_plain fault (inl (inr shut)) = plain_as fault _ shut refl
-taking_up_plain fault (inr (cause, is)) = subst (λ (f : Fault). IsOfSubcommand f) (sym is) (of_desk_plain cause)
+taking_up_plain fault (inl (cause, is)) = subst (λ (f : Fault). IsOfSubcommand f) (sym is) (of_desk_plain cause)
+taking_up_plain fault (inr (inl missing)) = plain_as fault _ missing refl
+taking_up_plain fault (inr (inr (inl (cause, is)))) = subst (λ (f : Fault). IsOfSubcommand f) (sym is) (of_chain_plain cause)
+taking_up_plain fault (inr (inr (inr (cause, is)))) = subst (λ (f : Fault). IsOfSubcommand f) (sym is) (of_opening_plain cause)
+
+pub beginning_plain : (fault : Fault) → IsOfBeginning fault → IsOfSubcommand fault
+beginning_plain fault (inl unopened) = plain_as fault _ unopened refl
+beginning_plain fault (inr (cause, is)) = subst (λ (f : Fault). IsOfSubcommand f) (sym is) (of_new_plain cause)
+
+pub begun_plain : (fault : Fault) → IsOfBegun fault → IsOfSubcommand fault
+begun_plain fault (inl of) = beginning_plain fault of
+begun_plain fault (inr begun) = plain_as fault _ begun refl
+
+pub part_plain : (fault : Fault) → IsOfPart fault → IsOfSubcommand fault
+part_plain fault (inl memory) = memory_plain fault memory
+part_plain fault (inr (inl unopened)) = plain_as fault _ unopened refl
+part_plain fault (inr (inr (inl unread))) = plain_as fault _ unread refl
+part_plain fault (inr (inr (inr (inl long)))) = plain_as fault _ long refl
+part_plain fault (inr (inr (inr (inr (number, bad))))) = plain_as fault _ bad refl
+
+pub check_plain : (fault : Fault) → IsOfCheck fault → IsOfSubcommand fault
+check_plain fault (inl of) = part_plain fault of
+check_plain fault (inr (inl others)) = plain_as fault _ others refl
+check_plain fault (inr (inr (cause, is))) = subst (λ (f : Fault). IsOfSubcommand f) (sym is) (of_check_plain cause)
 
 pub store_plain : (fault : Fault) → IsOfStore fault → IsOfSubcommand fault
 store_plain fault (inl memory) = memory_plain fault memory

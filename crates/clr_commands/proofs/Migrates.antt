@@ -1,12 +1,118 @@
--- What `migrate` prints of tables that were not moved.
-use Rattle.std.proofs.Common.{◌≡◌, ap, sym, Result, Ok, Err}
-use Rattle.std.specs.Prelude.{IsErrAnd, String}
+-- What `migrate` prints of tables that were not moved, and of a journal that was begun.
+use Rattle.std.proofs.Common.{◌≡◌, ap, inl, inr, refl, subst, sym, ℕ, List, [], Result, Ok, Err}
+use Rattle.std.specs.Prelude.{IfErr, IsErrAnd, None, Option, Some, String, pos, string_bytes}
+use Rattle.std.specs.Borrow.{Bor}
 use Rattle.std.specs.declared.alloc.Global.{Global}
+use Rattle.sqlite.specs.Files.{over_files}
+use Rattle.sqlite.specs.Held.{Held}
+use Rattle.sqlite_disk.specs.declared.Disk as disk
+use Rattle.sqlite_trees.specs.declared.store.Store.{Ghosts}
+use Rattle.clr_rules.specs.Register.{Register}
+use Rattle.clr_place.specs.declared.place.Place.{Place}
+use Rattle.clr_print.specs.Printed.{board_text}
+use Rattle.clr_desk.specs.declared.desk.Desk.{Desk}
+use Rattle.clr_edge.specs.Beginning.{IsOfBegun, PlacesAt}
+use Rattle.clr_edge.specs.Database.{IsOfLine}
+use Rattle.clr_edge.specs.Keeping.{IsNotUp, IsUp, unlogged}
+use Rattle.clr_edge.specs.TakenUp.{Logs}
+use Rattle.clr_edge.specs.Visit.{Alone, Comes, Done, Ending, Ends, MovesRegister, Opening, Over, Shutting}
 use Rattle.clr_edge.specs.declared.fault.Fault.{Fault}
-use Rattle.clr_commands.specs.Migrate.{PrintsMoved}
+use Rattle.clr_edge.specs.declared.fault.Fault.TheVariants.{Memory}
+use Rattle.clr_args.specs.declared.asked.MigrateArgs.{MigrateArgs}
+use Rattle.clr_commands.specs.Faults.{IsOfSubcommand}
+use Rattle.clr_commands.specs.First.{board_files, first_place, made_at}
+use Rattle.clr_commands.specs.Migrate.{BeginsIn, BeginsJournal, BeginsOver, Migrates, MigratesAt, MigratesBy, PrintsBegun, PrintsMoved, journal_line, text_or}
+use Rattle.clr_commands.proofs.Faults.{line_plain}
 
 -- the fault is passed on
 pub PrintsMoved-fault : (result : Result (String Global) Fault) (fault : Fault) → IsErrAnd result (λ cause. cause ≡ fault)
     → PrintsMoved (Err fault) result
 PrintsMoved-fault (Ok text) fault is = absurd is
 PrintsMoved-fault (Err cause) fault is = ap Err (sym is)
+
+-- the printed board stands in for the files
+pub board_files-is : (R : Register) (sections points staff : List ℕ) → sections ≡ board_text R (pos 0) → points ≡ [] → staff ≡ []
+    → record { sections = sections; points = points; staff = staff } ≡ board_files R
+board_files-is R sections points staff s p e = λ i. record { sections = s i; points = p i; staff = e i }
+
+-- what is printed, once the database was closed
+pub text_or-plain : (told : Result (String Global) Fault) (closed : Done) (result : Result (String Global) Fault) → IfErr told IsOfSubcommand → IfErr closed IsOfLine
+    → result ≡ text_or told closed → IfErr result IsOfSubcommand
+text_or-plain told closed result plain line is = subst (λ (it : Result (String Global) Fault). IfErr it IsOfSubcommand) (sym is) (by told closed plain line)
+  where
+    by : (told : Result (String Global) Fault) (closed : Done) → IfErr told IsOfSubcommand → IfErr closed IsOfLine → IfErr (text_or told closed) IsOfSubcommand
+    by (Ok text) (Ok value) plain line = tt
+    by (Ok text) (Err fault) plain line = line_plain fault line
+    by (Err fault) closed plain line = plain
+
+-- a journal was begun over a register, at its first place
+pub BeginsOver-placed : {M J C T : Type 0} (g : Ghosts T) (logs : Logs M J C) (first place : Place) (path : List ℕ) (result : Result (String Global) Fault)
+    (told : Done) (old new : M) (read after : Held T) → place ≡ first → PrintsBegun place told result → PlacesAt g logs path place told old new read after
+    → BeginsOver g logs first path result old new read after
+BeginsOver-placed g logs first place path result told old new read after is prints places =
+    subst (λ (p : Place). BeginsOver g logs p path result old new read after) is (inr (told, prints, places))
+
+module _ {M D J C : Type 0} (logs : Logs M J C) (g : disk.Ghosts D) (opens : Opening M D) (shuts : Shutting M) (ends : Ending M D) (moment : ℕ) (path journal : List ℕ) where
+  -- the register of the database at the path got a journal
+  pub begun_at : (told result : Result (String Global) Fault) (closed : Done) (old between later new : M) (desk : Desk (Over g)) (after : Over g)
+      → IsUp g opens path (unlogged over_files) old between desk
+      → BeginsOver over_files logs (first_place (board_files desk.book.register) (made_at moment path journal)) journal told between later desk.store after
+      → Ends ends after closed later new → IfErr closed IsOfLine → result ≡ text_or told closed
+      → Comes g opens shuts ends path (BeginsIn over_files logs moment path journal) result old new
+  begun_at told result closed old between later new desk after up begun ended line is = inr (record {
+    before = up.before;
+    after = after;
+    closed = closed;
+    middle = up.middle;
+    later = later;
+    opened = up.opened;
+    mode = up.mode;
+    does = record {
+      told = told;
+      did = inr (
+        desk.book.register,
+        desk.store,
+        up.taken_up.1,
+        subst (λ (m : M). BeginsOver over_files logs (first_place (board_files desk.book.register) (made_at moment path journal)) journal told m later desk.store after)
+            up.taken_up.0 begun,
+      );
+      closing = line;
+      result_is = is;
+    };
+    ended = ended;
+  })
+
+  -- or it was not read, or has one
+  pub unbegun_at : (result : Result (String Global) Fault) (old new : M) (fault : Fault) → IsErrAnd result (λ cause. cause ≡ fault)
+      → IsNotUp g opens shuts ends path (unlogged over_files) old new fault
+      → Comes g opens shuts ends path (BeginsIn over_files logs moment path journal) result old new
+  unbegun_at (Ok value) old new fault is not = absurd is
+  unbegun_at (Err cause) old new fault is (inl (line, shut)) = inl (fault, ap Err is, line, shut)
+  unbegun_at (Err cause) old new fault is (inr visit) = inr (record {
+    before = visit.before;
+    after = visit.after;
+    closed = visit.closed;
+    middle = visit.middle;
+    later = visit.later;
+    opened = visit.opened;
+    mode = visit.mode;
+    does = record {
+      told = Err fault;
+      did = inl (visit.does.0.1, visit.does.0.0);
+      closing = visit.does.1;
+      result_is = ap Err is;
+    };
+    ended = visit.ended;
+  })
+
+-- what is asked for: the tables moved, or a journal
+module _ {M D J C : Type 0} (logs : Logs M J C) (g : disk.Ghosts D) (opens : Opening M D) (shuts : Shutting M) (ends : Ending M D) (args : MigrateArgs)
+    (result : Result (String Global) Fault) (old new : M) where
+  pub MigratesAt-moved : args.journal ≡ None → Migrates (Comes g opens shuts ends args.database.now (Alone (MovesRegister over_files))) result old new
+      → MigratesAt logs g opens shuts ends args result old new
+  MigratesAt-moved none moves = subst (λ (it : Option (Bor (List ℕ))). MigratesBy logs g opens shuts ends args.database.now it result old new) (sym none) moves
+
+  pub MigratesAt-begun : (journal : Bor (List ℕ)) → args.journal ≡ Some journal
+      → BeginsJournal logs g opens shuts ends args.database.now journal.now result old new → MigratesAt logs g opens shuts ends args result old new
+  MigratesAt-begun journal some begins =
+      subst (λ (it : Option (Bor (List ℕ))). MigratesBy logs g opens shuts ends args.database.now it result old new) (sym some) begins

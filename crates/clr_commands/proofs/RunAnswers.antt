@@ -4,7 +4,11 @@ use Rattle.std.specs.Prelude.{Some, None, IfErr, IfSome, IsErrAnd, IsErrOf, opti
 use Rattle.clr_stream.specs.Failures.{Rose}
 use Rattle.clr_desk.specs.Taking.{Taking}
 use Rattle.clr_desk.specs.declared.desk.Desk.{Desk}
-use Rattle.clr_journaled.specs.declared.journaled.Journaled.{Journaled}
+use Rattle.clr_level.specs.declared.fault.OpeningFault.{OpeningFault}
+use Rattle.clr_level.specs.declared.fault.OpeningFault.TheVariants as opening
+use Rattle.clr_level.specs.declared.keeper.Keeper.{Keeper}
+use Rattle.clr_chain.specs.declared.fault.ChainFault.{ChainFault}
+use Rattle.clr_chain.specs.declared.fault.ChainFault.TheVariants as chain
 use Rattle.clr_load.specs.declared.fault.StoreFault.{StoreFault}
 use Rattle.clr_load.specs.declared.fault.StoreFault.TheVariants as store
 use Rattle.sqlite.specs.State.{State}
@@ -13,8 +17,9 @@ use Rattle.clr_desk.specs.declared.desk_fault.DeskFault.{DeskFault}
 use Rattle.clr_desk.specs.declared.desk_fault.DeskFault.TheVariants as desk
 use Rattle.clr_edge.specs.Database.{IsOfLine}
 use Rattle.clr_edge.specs.Fault.{of_desk, of_store}
-use Rattle.clr_edge.specs.Journals.{IsOfTakingUp}
+use Rattle.clr_edge.specs.Journals.{of_chain}
 use Rattle.clr_edge.specs.Keeping.{IsDoneOver}
+use Rattle.clr_edge.specs.TakenUp.{IsOfTakingUp, of_opening}
 use Rattle.clr_edge.specs.Visit.{Done}
 use Rattle.clr_edge.specs.declared.fault.Fault.{Fault}
 use Rattle.clr_edge.specs.declared.fault.Fault.TheVariants.{Input}
@@ -67,10 +72,26 @@ desk-no_input desk.NoMemory fault is e = cc (sym is ∙ e)
 desk-no_input desk.Journal fault is e = cc (sym is ∙ e)
 desk-no_input (desk.Store cause) fault is e = of_store-no_input cause fault is e
 
+chain-no_input : (cause : ChainFault) (fault : Fault) → fault ≡ of_chain cause → fault ≡ Input ReadFailed → ⊥
+chain-no_input chain.OpenFailed fault is e = cc (sym is ∙ e)
+chain-no_input chain.NoMemory fault is e = cc (sym is ∙ e)
+chain-no_input chain.OtherRegister fault is e = cc (sym is ∙ e)
+chain-no_input chain.TooShort fault is e = cc (sym is ∙ e)
+chain-no_input (chain.Differs number) fault is e = cc (sym is ∙ e)
+chain-no_input (chain.BadLine number) fault is e = cc (sym is ∙ e)
+
+opening-no_input : (cause : OpeningFault) (fault : Fault) → fault ≡ of_opening cause → fault ≡ Input ReadFailed → ⊥
+opening-no_input opening.OtherRegister fault is e = cc (sym is ∙ e)
+opening-no_input opening.TooShort fault is e = cc (sym is ∙ e)
+opening-no_input (opening.Differs number) fault is e = cc (sym is ∙ e)
+opening-no_input (opening.BadLine number) fault is e = cc (sym is ∙ e)
+opening-no_input (opening.Desk cause) fault is e = desk-no_input cause fault is e
+
 pub taking_up-no_input : (fault : Fault) → IsOfTakingUp fault → fault ≡ Input ReadFailed → ⊥
-taking_up-no_input fault (inl (inl memory)) e = cc (sym memory ∙ e)
-taking_up-no_input fault (inl (inr shut)) e = cc (sym shut ∙ e)
-taking_up-no_input fault (inr (cause, is)) e = desk-no_input cause fault is e
+taking_up-no_input fault (inl (cause, is)) e = desk-no_input cause fault is e
+taking_up-no_input fault (inr (inl missing)) e = cc (sym missing ∙ e)
+taking_up-no_input fault (inr (inr (inl (cause, is)))) e = chain-no_input cause fault is e
+taking_up-no_input fault (inr (inr (inr (cause, is)))) e = opening-no_input cause fault is e
 
 -- closing its database reads no more of it
 pub ReadsInput-closed : {X : Type 0} (input : Option (List ℕ)) (n n' : ℕ) (before after : X) (printed : Result Printed Fault)
@@ -86,7 +107,7 @@ ReadsInput-closed input n n' before after printed closed result is reads =
 -- ---- over a desk
 
 -- what is done over a desk alone is no step of a machine
-pub done_alone : {M K J C : Type 0} (m : M) (P : Desk K → Desk K → Type 0) (Q : Desk (Journaled K J C) → Desk (Journaled K J C) → Type 0) (old new : Opened K J C)
+pub done_alone : {M K J C : Type 0} (m : M) (P : Desk K → Desk K → Type 0) (Q : Desk (Keeper K J C) → Desk (Keeper K J C) → Type 0) (old new : Opened K J C)
     → IsDoneOver P Q old new → IsDoneOver (λ taken left. (m ≡ m) × P taken left) (λ taken left. (m ≡ m) × Q taken left) old new
 done_alone m P Q (Plain old) (Plain new) did = (refl, did)
 done_alone m P Q (Logged old) (Logged new) did = (refl, did)

@@ -28,7 +28,7 @@ use Rattle.clr_desk.specs.declared.desk_fault.DeskFault.{DeskFault}
 use Rattle.clr_desk.specs.declared.desk_fault.DeskFault.TheVariants as desk
 use Rattle.clr_edge.specs.Database.{IsOfLine}
 use Rattle.clr_edge.specs.Fault.{of_desk}
-use Rattle.clr_edge.specs.Keeping.{IsNotUp, IsUp, plain}
+use Rattle.clr_edge.specs.Keeping.{IsNotUp, IsUp, unlogged}
 use Rattle.clr_edge.specs.Visit.{Done, Ending, Ends, Opening, Over, Shutting}
 use Rattle.clr_edge.specs.declared.fault.Fault.{Fault}
 use Rattle.clr_edge.specs.declared.fault.Fault.TheVariants.{Memory}
@@ -126,7 +126,7 @@ answer_plain R u report closed result reports line is = subst (λ (it : Texts). 
 module _ {M D : Type 0} (g : disk.Ghosts D) (opens : Opening M D) (shuts : Shutting M) (ends : Ending M D) (path : List ℕ) (dry_run : Bool) (u : Update) where
   -- the register of the database at the path was updated, or something was in the way
   pub updated_at : (report result : Texts) (closed : Done) (old between new : M) (desk : Desk (Over g)) (store after : Over g)
-      → IsUp g opens path (plain over_files) old between desk → ReportsUpdate desk.book.register u report
+      → IsUp g opens path (unlogged over_files) old between desk → ReportsUpdate desk.book.register u report
       → IsDone over_files dry_run desk.book.register u report desk.store store → after ≡ store → Ends ends after closed between new → IfErr closed IsOfLine
       → result ≡ text_or report closed → UpdatesAt g opens shuts ends path dry_run u result old new
   updated_at report result closed old between new desk store after up reports done same ended line is = inr (record {
@@ -151,7 +151,7 @@ module _ {M D : Type 0} (g : disk.Ghosts D) (opens : Opening M D) (shuts : Shutt
 
   -- or it was not read
   pub not_updated_at : (result : Texts) (old new : M) (fault : Fault) → IsErrAnd result (λ cause. cause ≡ fault)
-      → IsNotUp g opens shuts ends path (plain over_files) old new fault → UpdatesAt g opens shuts ends path dry_run u result old new
+      → IsNotUp g opens shuts ends path (unlogged over_files) old new fault → UpdatesAt g opens shuts ends path dry_run u result old new
   not_updated_at (Ok value) old new fault is not = absurd is
   not_updated_at (Err cause) old new fault is (inl (line, shut)) = inl (fault, ap Err is, line, shut)
   not_updated_at (Err cause) old new fault is (inr visit) = inr (record {

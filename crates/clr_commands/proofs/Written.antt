@@ -22,15 +22,14 @@ use Rattle.clr_load.specs.declared.fault.StoreFault.{StoreFault}
 use Rattle.clr_load.specs.declared.fault.StoreFault.TheVariants as store
 use Rattle.clr_edge.specs.Database.{IsOfLine}
 use Rattle.clr_edge.specs.Fault.{of_store}
-use Rattle.clr_edge.specs.Journals.{IsOfRedo}
-use Rattle.clr_edge.specs.Keeping.{Keeping, Works, WorksIn, logged, plain}
+use Rattle.clr_edge.specs.Keeping.{IsNotReadAlone, Keeping, Works, WorksIn, logged, unlogged}
 use Rattle.clr_edge.specs.TakenUp.{IsNotTakenUp, Logs}
+use Rattle.clr_edge.specs.TakenUp.IsNotTakenUp.{apart as was_apart, refused as was_refused, unopened as was_unopened, unplaced as was_unplaced, without as was_without}
 use Rattle.clr_edge.specs.Logins.{is_employee, unless_unknown}
 use Rattle.clr_edge.specs.Loopback.{listen_fault}
 use Rattle.clr_edge.specs.Visit.{Copies, Done, Ending, Opening, Shutting, both}
 use Rattle.clr_edge.specs.declared.fault.Fault.{Fault}
 use Rattle.clr_edge.specs.declared.fault.Fault.TheVariants.{Output, UnknownEmployee}
-use Rattle.clr_edge.specs.declared.journals.Journals as journals
 use Rattle.clr_edge.specs.declared.loopback.Loopback as loopback
 use Rattle.clr_commands.specs.Connections.{ReportsConnection, ReportsFirst, Seen, TakesFirst, TakesNext, accept_fault}
 use Rattle.clr_commands.specs.Desks.{desk_keeps}
@@ -38,7 +37,7 @@ use Rattle.clr_commands.specs.Logins.{NamesLogins, terms_of, terms_with}
 use Rattle.clr_commands.specs.Paths.{AtPaths}
 use Rattle.clr_commands.specs.Serve.{ServesAt, ServesDesk, ServesKeeper, ServesKept, ServesOn, serving_line}
 use Rattle.clr_commands.specs.declared.serve.Terms.{Terms}
-use Rattle.clr_commands.proofs.Faults.{file_plain}
+use Rattle.clr_commands.proofs.Faults.{file_plain, taking_up_plain}
 
 module _ {D M L R W : Type 0} (by : registrar.Ghosts D) (net : loopback.Ghosts M L R W) (seen : Seen R W) (terms : Terms) (listener : L) where
   next_reported : (number : ℕ) (k k' : D) (errors errors' : Stream) (old new : M)
@@ -80,16 +79,18 @@ listen_other _ e = cc e
 pub other_as : (fault found : Fault) → fault ≡ found → found ≢ Output → fault ≢ Output
 other_as fault found is other e = other (sym is ∙ e)
 
-redo_other : (fault : Fault) → IsOfRedo fault → fault ≢ Output
-redo_other fault (inl line) e = line_other fault line e
-redo_other fault (inr shut) e = cc (sym shut ∙ e)
+pub not_alone_other : {T : Type 0} (g : Ghosts T) (before after : Held T) (fault : Fault) → IsNotReadAlone g before fault after → fault ≢ Output
+not_alone_other g before after fault (inl unread) e = other_as fault _ unread.refused.told_is (store_other unread.refused.fault) e
+not_alone_other g before after fault (inr (inl unplaced)) e = other_as fault _ unplaced.lacks.fault_is (store_other unplaced.lacks.cause) e
+not_alone_other g before after fault (inr (inr missing)) e = cc (sym missing.fault_is ∙ e)
 
-not_taken_other : {M J C T : Type 0} (g : Ghosts T) (at : journals.Ghosts M J C) (path : List ℕ) (old new : M) (before after : Held T) (fault : Fault)
-    → IsNotTakenUp g at path before fault after old new → fault ≢ Output
-not_taken_other g at path old new before after fault (inl (refused, survives, same)) e = other_as fault _ refused.told_is (store_other refused.fault) e
-not_taken_other g at path old new before after fault (inr (inl (inl memory, read, shuts))) e = cc (sym memory ∙ e)
-not_taken_other g at path old new before after fault (inr (inl (inr shut, read, shuts))) e = cc (sym shut ∙ e)
-not_taken_other g at path old new before after fault (inr (inr refused)) e = redo_other fault refused.of e
+not_taken_other : {M J C T : Type 0} (g : Ghosts T) (logs : Logs M J C) (path : List ℕ) (old new : M) (before after : Held T) (fault : Fault)
+    → IsNotTakenUp g logs path before fault after old new → fault ≢ Output
+not_taken_other g logs path old new before after fault (was_refused it survives same) e = other_as fault _ it.told_is (store_other it.fault) e
+not_taken_other g logs path old new before after fault (was_unplaced it same) e = other_as fault _ it.lacks.fault_is (store_other it.lacks.cause) e
+not_taken_other g logs path old new before after fault (was_without it is same) e = cc (sym is ∙ e)
+not_taken_other g logs path old new before after fault (was_unopened place it of shuts) e = (taking_up_plain fault (inr (inr (inl of)))).0 e
+not_taken_other g logs path old new before after fault (was_apart it) e = (taking_up_plain fault (inr (inr (inr (it.cause, it.fault_is))))).0 e
 
 closed_other : {D : Type 0} (g : disk.Ghosts D) (c : Held (FileStore D g)) (last : FileStore D g) (files : Files D) (closed : Done)
     → Copies g c last files closed → IfErr closed (λ fault. fault ≢ Output)
@@ -189,11 +190,11 @@ module _ {M L R W : Type 0} (net : loopback.Ghosts M L R W) (seen : Seen R W) (o
       unserved_written output output' errors errors' args.port args.count fault result (line_other fault line) is same quiet
   kept_written logs g opens shuts ends None path result old new (inr visit) =
       let (files, left, back) = visit.ended in
-      over_written (plain over_files) (λ old new before after fault not. other_as fault _ not.1.refused.told_is (store_other not.1.refused.fault))
+      over_written (unlogged over_files) (λ old new before after fault not. not_alone_other over_files before after fault not.1)
       result visit.middle visit.later visit.before visit.after visit.closed (closed_other g visit.after left.last files visit.closed left.copies) visit.does
   kept_written logs g opens shuts ends (Some journal) path result old new (inr visit) =
       let (files, left, back) = visit.ended in
-      over_written (logged over_files logs journal.now) (λ old new before after fault not. not_taken_other over_files logs.steps journal.now old new before after fault not)
+      over_written (logged over_files logs journal.now) (λ old new before after fault not. not_taken_other over_files logs journal.now old new before after fault not)
       result visit.middle visit.later visit.before visit.after visit.closed (closed_other g visit.after left.last files visit.closed left.copies) visit.does
 
 module _ {M L R W J C : Type 0} (logs : Logs M J C) (net : loopback.Ghosts M L R W) (seen : Seen R W) (output output' errors errors' : Stream) where

@@ -15,7 +15,7 @@ use Rattle.clr_rules.specs.Register.{Register}
 use Rattle.clr_stream.specs.Streams.{IsCut, Stream, WentOut}
 use Rattle.clr_tables.specs.Tables.{tables_of}
 use Rattle.clr_edge.specs.Database.{IsOfLine}
-use Rattle.clr_edge.specs.Keeping.{IsNotRead, IsReadFrom}
+use Rattle.clr_edge.specs.Keeping.{IsNotReadAlone, IsReadAlone}
 use Rattle.clr_edge.specs.Visit.{Alone, Comes, Done, Ending, Opening, Shutting, both}
 use Rattle.clr_edge.specs.declared.fault.Fault.{Fault}
 use Rattle.clr_edge.specs.declared.fault.Fault.TheVariants.{Memory, Output}
@@ -51,7 +51,7 @@ pub record Archives {S : Type 0} (g : Ghosts S) (args : ArchiveArgs) (output out
     (told : Done) (before after : Held S) : Type 0 where
   pub register : Register
   pub read : Held S
-  pub is_read : IsReadFrom g before read register
+  pub is_read : IsReadAlone g before read register
   pub archived : IsArchived g args.before output output' register told read after
 
 -- the same, unless it was not read, and then nothing went out. The database is closed after it, and
@@ -59,7 +59,7 @@ pub record Archives {S : Type 0} (g : Ghosts S) (args : ArchiveArgs) (output out
 pub record ArchivesOver {S : Type 0} (g : Ghosts S) (args : ArchiveArgs) (output output' : Stream)
     (result : Done) (before after : Held S) (closed : Done) : Type 0 where
   pub told : Done
-  pub did : (IsErrAnd told (λ fault. IsNotRead g before fault after) × (output' ≡ output))
+  pub did : (IsErrAnd told (λ fault. IsNotReadAlone g before fault after) × (output' ≡ output))
       ⊎ Archives g args output output' told before after
   pub closing : IfErr closed IsOfLine
   pub result_is : result ≡ both told closed

@@ -1,9 +1,23 @@
 -- What `migrate` prints of the database at a path.
-use Rattle.std.specs.Prelude.{◌≡◌, ◌⊎◌, ℕ, List, Result, Ok, Err, String, codes, string_bytes}
+use Rattle.std.specs.Prelude.{◌≡◌, ◌⊎◌, ℕ, List, ◌++◌, IfErr, IsErrAnd, None, Option, Result, Ok, Err}
+use Rattle.std.specs.Prelude.{Some, String, codes, string_bytes}
+use Rattle.std.specs.Borrow.{Bor}
 use Rattle.std.specs.declared.alloc.Global.{Global}
-use Rattle.clr_edge.specs.Visit.{Done}
+use Rattle.sqlite.specs.Files.{over_files}
+use Rattle.sqlite.specs.Held.{Held}
+use Rattle.sqlite_disk.specs.declared.Disk as disk
+use Rattle.sqlite_trees.specs.declared.store.Store.{Ghosts}
+use Rattle.clr_rules.specs.Register.{Register}
+use Rattle.clr_place.specs.declared.place.Place.{Place}
+use Rattle.clr_args.specs.declared.asked.MigrateArgs.{MigrateArgs}
+use Rattle.clr_edge.specs.Beginning.{PlacesAt}
+use Rattle.clr_edge.specs.Database.{IsOfLine}
+use Rattle.clr_edge.specs.Keeping.{IsNotReadAlone, IsReadAlone}
+use Rattle.clr_edge.specs.TakenUp.{Logs}
+use Rattle.clr_edge.specs.Visit.{Alone, Comes, Done, Ending, MovesRegister, Opening, Shutting}
 use Rattle.clr_edge.specs.declared.fault.Fault.{Fault}
 use Rattle.clr_edge.specs.declared.fault.Fault.TheVariants.{Memory}
+use Rattle.clr_commands.specs.First.{board_files, first_place, made_at}
 
 -- the version of the tables, on a line
 abbrev pub version_line : List ℕ
@@ -19,3 +33,61 @@ abbrev pub Migrates : {M : Type 0} → (Done → M → M → Type 0) → Result 
     → Type 0
 Migrates Comes result old new = ((result ≡ Err Memory) × (new ≡ old))
     ⊎ ((moved : Done) × PrintsMoved moved result × Comes moved old new)
+
+-- ---- a journal for a register that has none
+
+-- its id, on a line
+abbrev pub journal_line : List ℕ → List ℕ
+journal_line id = codes "journal " ++ (id ++ codes "\n")
+
+abbrev pub text_or : Result (String Global) Fault → Done → Result (String Global) Fault
+text_or (Ok text) (Ok value) = Ok text
+text_or (Ok text) (Err fault) = Err fault
+text_or (Err fault) closed = Err fault
+
+-- what is printed once the register has its place, or why it has none
+abbrev pub PrintsBegun : Place → Done → Result (String Global) Fault → Type 0
+PrintsBegun first told (Ok text) = (told ≡ Ok tt) × (string_bytes text ≡ journal_line first.id)
+PrintsBegun first told (Err fault) = told ≡ Err fault
+
+-- A JOURNAL IS BEGUN at a path for a register that was read, with this first place; or memory ran out
+-- before
+abbrev pub BeginsOver : {M J C T : Type 0} → Ghosts T → Logs M J C → Place → List ℕ
+    → Result (String Global) Fault → M → M → Held T → Held T → Type 0
+BeginsOver g logs first path result old new read after =
+    ((result ≡ Err Memory) × (new ≡ old) × (after ≡ read))
+    ⊎ ((told : Done) × PrintsBegun first told result
+    × PlacesAt g logs path first told old new read after)
+
+-- over the database at a path, whose register has no journal; its first place is made of what a clock
+-- of the machine showed before
+pub record BeginsIn {M J C T : Type 0} (g : Ghosts T) (logs : Logs M J C) (moment : ℕ)
+    (path journal : List ℕ) (result : Result (String Global) Fault) (old : M)
+    (before after : Held T) (closed : Done) (new : M) : Type 0 where
+  pub told : Result (String Global) Fault
+  pub did : (IsErrAnd told (λ fault. IsNotReadAlone g before fault after) × (new ≡ old))
+      ⊎ ((R : Register) × (read : Held T) × IsReadAlone g before read R
+      × BeginsOver g logs (first_place (board_files R) (made_at moment path journal)) journal told
+      old new read after)
+  pub closing : IfErr closed IsOfLine
+  pub result_is : result ≡ text_or told closed
+
+abbrev pub BeginsJournal : {M D J C : Type 0} → Logs M J C → (g : disk.Ghosts D) → Opening M D
+    → Shutting M → Ending M D → List ℕ → List ℕ → Result (String Global) Fault → M → M → Type 0
+BeginsJournal {C = C} logs g opens shuts ends path journal result old new = (time : C)
+    × logs.steps.has_time old time × (moment : ℕ) × logs.shows time moment
+    × Comes g opens shuts ends path (BeginsIn over_files logs moment path journal) result old new
+
+-- what `migrate` does of what it is asked
+abbrev pub MigratesBy : {M D J C : Type 0} → Logs M J C → (g : disk.Ghosts D) → Opening M D
+    → Shutting M → Ending M D → List ℕ → Option (Bor (List ℕ)) → Result (String Global) Fault
+    → M → M → Type 0
+MigratesBy logs g opens shuts ends path None =
+    Migrates (Comes g opens shuts ends path (Alone (MovesRegister over_files)))
+MigratesBy logs g opens shuts ends path (Some journal) =
+    BeginsJournal logs g opens shuts ends path journal.now
+
+abbrev pub MigratesAt : {M D J C : Type 0} → Logs M J C → (g : disk.Ghosts D) → Opening M D
+    → Shutting M → Ending M D → MigrateArgs → Result (String Global) Fault → M → M → Type 0
+MigratesAt logs g opens shuts ends args =
+    MigratesBy logs g opens shuts ends args.database.now args.journal

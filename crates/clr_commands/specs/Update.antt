@@ -29,7 +29,7 @@ use Rattle.clr_desk.specs.declared.desk_fault.DeskFault.{DeskFault}
 use Rattle.clr_args.specs.declared.asked.UpdateArgs.{UpdateArgs}
 use Rattle.clr_edge.specs.Database.{IsOfLine}
 use Rattle.clr_edge.specs.Fault.{of_desk}
-use Rattle.clr_edge.specs.Keeping.{IsNotRead, IsReadFrom}
+use Rattle.clr_edge.specs.Keeping.{IsNotReadAlone, IsReadAlone}
 use Rattle.clr_edge.specs.Visit.{Alone, Comes, Done, Ending, Opening, Shutting}
 use Rattle.clr_edge.specs.declared.fault.Fault.{Fault}
 use Rattle.clr_edge.specs.declared.fault.Fault.TheVariants.{Memory, Update as InTheWay}
@@ -100,7 +100,7 @@ pub record Updates {S : Type 0} (g : Ghosts S) (dry_run : Bool) (u : Update) (re
     (before after : Held S) : Type 0 where
   pub register : Register
   pub read : Held S
-  pub is_read : IsReadFrom g before read register
+  pub is_read : IsReadAlone g before read register
   pub reports : ReportsUpdate register u report
   pub is_done : IsDone g dry_run register u report read after
 
@@ -115,7 +115,7 @@ text_or (Err fault) closed = Err fault
 pub record UpdatesOver {S : Type 0} (g : Ghosts S) (dry_run : Bool) (u : Update) (result : Texts)
     (before after : Held S) (closed : Done) : Type 0 where
   pub report : Texts
-  pub did : IsErrAnd report (λ fault. IsNotRead g before fault after)
+  pub did : IsErrAnd report (λ fault. IsNotReadAlone g before fault after)
       ⊎ Updates g dry_run u report before after
   pub closing : IfErr closed IsOfLine
   pub result_is : result ≡ text_or report closed

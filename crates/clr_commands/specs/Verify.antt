@@ -1,163 +1,227 @@
--- WHAT `verify` ANSWERS: the tables of a database, compared with those that a journal's commands
--- leave over the opening register of the files.
-use Rattle.std.specs.Prelude.{◌≡◌, ◌⊎◌, ℕ, List, ◌++◌, Option, Some, Result, Ok, Err, IfSome}
-use Rattle.std.specs.Prelude.{IsErrAnd, OnErr, String, codes, decimal, length, map}
+-- WHAT `verify` ANSWERS: whether the register of a database is level with a journal, over the register
+-- of the files that the journal began with, or over that of a copy.
+use Rattle.std.specs.Prelude.{◌≡◌, ◌≢◌, ◌⊎◌, ℕ, true, List, [], ◌∷◌, ◌++◌, None, Option, Some}
+use Rattle.std.specs.Prelude.{Result, Ok, Err}
+use Rattle.std.specs.Prelude.{IfSome, OnErr, String, codes, decimal, map, string_bytes}
 use Rattle.std.specs.declared.alloc.Global.{Global}
 use Rattle.sqlite.specs.Files.{over_files}
-use Rattle.sqlite.specs.Held.{Held}
+use Rattle.sqlite.specs.Held.{Held, state}
 use Rattle.sqlite_disk.specs.declared.Disk as disk
 use Rattle.sqlite_trees.specs.declared.store.Store.{Ghosts}
+use Rattle.clr_append.specs.Lines.{ended_lines}
+use Rattle.clr_book.specs.Book.{Shelved}
 use Rattle.clr_rules.specs.Register.{Register}
-use Rattle.clr_rules.specs.Run.{after_all, replies}
-use Rattle.clr_tables.specs.Tables.{tables_of}
-use Rattle.clr_desk.specs.declared.commit.Unkept.{Unkept}
-use Rattle.clr_desk.specs.declared.desk.Desk.{Desk}
+use Rattle.clr_place.specs.declared.place.Place.{Place}
+use Rattle.clr_chain.specs.First.{end_at, read_first}
+use Rattle.clr_chain.specs.Sums.{Files, first_sum}
+use Rattle.clr_chain.specs.Walking.{part_of}
+use Rattle.clr_chain.specs.declared.chain_end.ChainEnd.{ChainEnd}
 use Rattle.clr_args.specs.declared.asked.VerifyArgs.{VerifyArgs}
 use Rattle.clr_args.specs.declared.asked.VerifyFromArgs.{VerifyFromArgs}
 use Rattle.clr_edge.specs.Answers.{After}
 use Rattle.clr_edge.specs.Keeping.{IsNotRead, IsReadFrom}
+use Rattle.clr_edge.specs.TakenUp.{HasPlace, IsUnplaced, IsUnsuited, LacksPlace, StaysRead}
 use Rattle.clr_edge.specs.Visit.{Done, Over}
 use Rattle.clr_edge.specs.declared.fault.Fault.{Fault}
 use Rattle.clr_edge.specs.declared.fault.Fault.TheVariants.{Journal, Memory, Verify}
-use Rattle.clr_edge.specs.declared.fault.JournalFault.TheVariants.{OpenFailed, ReadFailed}
-use Rattle.clr_edge.specs.declared.fault.VerifyFault.TheVariants.{Differs, Reply}
-use Rattle.clr_commands.specs.Files.{lines_of}
-use Rattle.clr_journal.specs.Journals.{commands_of, read_journal}
-use Rattle.clr_journal.specs.Line.{Entry}
-use Rattle.clr_verify.specs.Replay.{answered_in}
-use Rattle.clr_verify.specs.Rerun.{FailsToRerun, IsRerun}
-use Rattle.clr_verify.specs.declared.rerun.Rerun.{Rerun}
-use Rattle.clr_verify.specs.declared.rerun.RerunFault.TheVariants as rerun
-use Rattle.clr_text.specs.Replies.{reply_data}
-use Rattle.clr_verify.specs.Registers.{IsFirstDifference}
-use Rattle.clr_verify.specs.declared.registers.Difference.{Difference}
-use Rattle.clr_commands.specs.Answers.{Answers}
-use Rattle.clr_commands.specs.Import.{AnswersFiles, FileRows}
+use Rattle.clr_edge.specs.declared.fault.JournalFault.TheVariants as why
+use Rattle.clr_edge.specs.declared.fault.VerifyFault.TheVariants.{Differs, Files as OtherFiles}
+use Rattle.clr_edge.specs.declared.fault.VerifyFault.TheVariants.{Reply}
+use Rattle.clr_checking.specs.Checking.{IsChecked, IsCheckedFrom}
+use Rattle.clr_checking.specs.CheckingOn.{CheckedTo, CheckedToFrom}
+use Rattle.clr_checking.specs.declared.checking.Checking.{Checking}
+use Rattle.clr_checking.specs.declared.fault.CheckFault.{CheckFault}
+use Rattle.clr_checking.specs.declared.fault.CheckFault.TheVariants as check
+use Rattle.clr_commands.specs.First.{files_of}
+use Rattle.clr_commands.specs.Import.{AnswersFiles, AreKnown, Contents, FileRows, rows_of}
+use Rattle.clr_commands.specs.Journal.{all_known}
+use Rattle.clr_commands.specs.Parts.{IsOfPart, walked}
 use Rattle.clr_commands.specs.Paths.{AtPaths}
 use Rattle.clr_commands.specs.Run.{IsOpeningOf, rows_fault}
-use Rattle.clr_commands.specs.Stored.{AnswersOf, WhileOpen}
+use Rattle.clr_commands.specs.Stored.{WhileOpen}
 
--- ---- the run of the journal
+-- ---- the register of a database, with its place
 
--- the lines of a journal's file, as far as its bytes are known
-abbrev pub HasLines : Option (List ℕ) → List Entry → Type 0
-HasLines file entries = IfSome file (λ bytes. lines_of bytes ≡ Ok entries)
+-- a register and its place, as they were read
+abbrev pub Placed : Type 0
+Placed = Shelved × Place
 
--- THE JOURNAL WAS RUN AGAIN over this register
-pub record RunsOver (file : Option (List ℕ)) (began : Register) (run : Rerun) : Type 0 where
-  pub entries : List Entry
-  pub bytes : List ℕ
-  pub is_file : IfSome file (λ known. bytes ≡ known)
-  pub read : read_journal bytes ≡ Ok entries
-  pub has_lines : HasLines file entries
-  pub runs : IsRerun began entries run
+-- A REGISTER WAS READ WITH ITS PLACE from a database, which was not changed; or it was not, and why:
+-- the database or its place was refused, or it has no journal
+abbrev pub IsRead : {S : Type 0} → Ghosts S → Result Placed Fault → Held S → Held S → Type 0
+IsRead g (Ok read) before after = IsReadFrom g before after read.0.register
+    × HasPlace g before after (Some read.1)
+IsRead g (Err fault) before after = IsNotRead g before fault after
+    ⊎ IsUnplaced g before fault after
+    ⊎ ((fault ≡ Journal why.OtherRegister) × IsUnsuited g before None after)
 
--- the command of this number has another reply in that run than in its line
-pub record RepliesElse (file : Option (List ℕ)) (began : Register) (number : ℕ) : Type 0 where
-  pub entries : List Entry
-  pub has_lines : HasLines file entries
-  pub differs : FailsToRerun began entries (rerun.Reply number)
+-- while the database is open
+abbrev pub ReadsPlaced : {M D : Type 0} {g : disk.Ghosts D} → Result Placed Fault → M → Over g
+    → Over g → Done → M → Type 0
+ReadsPlaced = WhileOpen (IsRead over_files)
 
--- the run, or why there is none: a line of the journal is bad, or a command has another reply
-abbrev pub IsRunOver : Option (List ℕ) → Register → Result Rerun Fault → Type 0
-IsRunOver file began (Ok run) = RunsOver file began run
-IsRunOver file began (Err fault) = IfSome file (λ bytes. lines_of bytes ≡ Err fault)
-    ⊎ ((number : ℕ) × (fault ≡ Verify (Reply number)) × RepliesElse file began number)
+-- the same over a desk, whose register was read before
+abbrev pub IsPlacedRead : {S : Type 0} → Ghosts S → Held S → Register → Result Placed Fault
+    → Held S → Type 0
+IsPlacedRead g desk R (Ok read) after = (read.0.register ≡ R)
+    × HasPlace g desk after (Some read.1) × StaysRead (state g desk) (state g after)
+IsPlacedRead g desk R (Err fault) after = StaysRead (state g desk) (state g after)
+    × (LacksPlace g desk fault after
+    ⊎ ((fault ≡ Journal why.OtherRegister) × HasPlace g desk after None))
 
--- the same over the opening register of these rows, if they are a network and a staff
-abbrev pub IsRunOfJournal : Option (List ℕ) → FileRows → Result Rerun Fault → Type 0
-IsRunOfJournal file rows result = IsErrAnd result (λ fault. rows_fault rows ≡ Err fault)
-    ⊎ ((rows_fault rows ≡ Ok tt) × (began : Register) × IsOpeningOf rows began
-    × IsRunOver file began result)
+-- ---- the journal
 
--- why the file at a path gives no lines, whatever its bytes are: memory ran out, or it could not be
--- opened or read
-abbrev pub GoesUnread : AtPaths → List ℕ → Fault → Type 0
-GoesUnread at path fault = (fault ≡ Memory)
-    ⊎ (((fault ≡ Journal OpenFailed) ⊎ (fault ≡ Journal ReadFailed)) × at.fails path)
+-- the lines of further parts, each of which goes on where the one before it ends
+unfoldable pub GoOn : List ℕ → ChainEnd → List (List ℕ) → List (List ℕ) → Type 0
+GoOn id end [] texts = texts ≡ []
+GoOn id end (bytes ∷ rest) texts = (text : List ℕ) × (lines more : List (List ℕ))
+    × (next : ChainEnd) × (ended_lines bytes ≡ text ∷ lines)
+    × (part_of id end (read_first text) ≡ (true, next)) × (texts ≡ lines ++ more)
+    × GoOn id (walked next lines).1 rest more
 
--- the same of the files at three paths, which are read first, and of the journal at another
-abbrev pub RunsJournalAt : AtPaths → VerifyArgs → Result Rerun Fault → Type 0
-RunsJournalAt at args result = AnswersFiles at args.files (Unit {0})
-    (λ rows. Answers (GoesUnread at args.journal.now) (λ run. run)
-    (IsRunOfJournal (at.bytes args.journal.now) rows)) result
+-- THE FIRST LINE AND THE LINES AFTER IT, of all parts
+pub record HasLines (one : List ℕ) (parts : List (List ℕ)) (first : Place)
+    (texts : List (List ℕ)) : Type 0 where
+  pub text : List ℕ
+  pub lines : List (List ℕ)
+  pub more : List (List ℕ)
+  pub lines_are : ended_lines one ≡ text ∷ lines
+  pub read : read_first text ≡ Some first
+  pub go_on : GoOn first.id (walked (end_at first) lines).1 parts more
+  pub texts_are : texts ≡ lines ++ more
 
--- ---- the comparison
+-- THE FIRST LINE IS OF THESE FILES: its number is 0, and its sum of the files and its id
+pub record IsOfFiles (files : Files) (first : Place) : Type 0 where
+  pub number : first.number ≡ 0
+  pub sum : first.sum ≡ first_sum files first.id
 
 -- `verified 1234 commands`
 abbrev pub verified_text : ℕ → List ℕ
 verified_text count = codes "verified " ++ decimal count ++ codes " commands\n"
 
--- THE ANSWER OF A REGISTER AND A RUN: the tables are those that the run leaves; or a fault names the
--- first table that is not, and the key of the first row there
-abbrev pub IsVerified : Rerun → Register → Result (List ℕ) Fault → Type 0
-IsVerified run R (Ok text) = (tables_of R ≡ tables_of run.book.register)
-    × (text ≡ verified_text run.count)
-IsVerified run R (Err fault) = (found : Difference) × (fault ≡ Verify (Differs found))
-    × IsFirstDifference R run.book.register (Some found)
+-- the fault that is reported of a check
+abbrev pub of_check : CheckFault → Fault
+of_check check.OtherRegister = Journal why.OtherRegister
+of_check (check.BadLine number) = Journal (why.BadLine number)
+of_check (check.Differs number) = Journal (why.Differs number)
+of_check check.TooShort = Journal why.TooShort
+of_check (check.Reply number) = Verify (Reply number)
+of_check (check.Tables found) = Verify (Differs found)
+of_check check.NoMemory = Memory
 
--- the faults that are its own
-abbrev pub IsOfVerify : Fault → Type 0
-IsOfVerify fault = (fault ≡ Memory) ⊎ ((found : Difference) × (fault ≡ Verify (Differs found)))
+-- why there is no yes
+abbrev pub IsOfCheck : Fault → Type 0
+IsOfCheck fault = IsOfPart fault ⊎ (fault ≡ Verify OtherFiles)
+    ⊎ ((cause : CheckFault) × (fault ≡ of_check cause))
 
--- what `verify` does over a database that is opened for it
-abbrev pub Verifies : {M D : Type 0} {g : disk.Ghosts D} → Rerun → Result (String Global) Fault → M
-    → Over g → Over g → Done → M → Type 0
-Verifies run = WhileOpen (AnswersOf over_files IsOfVerify (IsVerified run))
+-- ONE STATE OF A CHECK LEADS TO ANOTHER by these lines, whatever was checked before them
+pub record ChecksOn (old new : Checking) (lines : List (List ℕ)) : Type 0 where
+  pub end : new.walk.end ≡ (walked old.walk.end lines).1
+  pub went : (began : Register) (first place : Place) (R : Register) (texts : List (List ℕ))
+      → CheckedTo began first place R old texts
+      → CheckedTo began first place R new (texts ++ lines)
+  pub went_from : (copied : Register) (at first place : Place) (R : Register)
+      (texts : List (List ℕ)) → CheckedToFrom copied at first place R old texts
+      → CheckedToFrom copied at first place R new (texts ++ lines)
 
--- WHAT `verify` DOES: the journal is run again, and only then the database is opened
-pub record VerifiesAt {M : Type 0} (at : AtPaths) (args : VerifyArgs)
-    (Visits : Rerun → Result (String Global) Fault → M → M → Type 0)
+-- THE YES OF A CHECK at a first line: of these lines, and of those of the further parts
+pub record ChecksAll (it : Checking) (lines parts : List (List ℕ)) (text : List ℕ) : Type 0 where
+  pub more : List (List ℕ)
+  pub go_on : GoOn it.walk.id (walked it.walk.end lines).1 parts more
+  pub count : ℕ
+  pub text_is : text ≡ verified_text count
+  pub yes : (began : Register) (first place : Place) (R : Register)
+      → CheckedTo began first place R it []
+      → IsChecked began first (lines ++ more) place R count
+  pub yes_from : (copied : Register) (at first place : Place) (R : Register)
+      → CheckedToFrom copied at first place R it []
+      → IsCheckedFrom copied at first (lines ++ more) place R count
+
+-- THE YES OF A JOURNAL in these parts, for a register at this place: its first line is of the files,
+-- and the register is level with it
+pub record IsYes (files : Files) (began : Register) (one : List ℕ) (parts : List (List ℕ))
+    (place : Place) (R : Register) (text : List ℕ) : Type 0 where
+  pub first : Place
+  pub texts : List (List ℕ)
+  pub has_lines : HasLines one parts first texts
+  pub of_files : IsOfFiles files first
+  pub count : ℕ
+  pub checked : IsChecked began first texts place R count
+  pub text_is : text ≡ verified_text count
+
+abbrev pub Checks : Files → Register → List ℕ → List (List ℕ) → Place → Register
+    → Result (String Global) Fault → Type 0
+Checks files began one parts place R (Ok text) =
+    IsYes files began one parts place R (string_bytes text)
+Checks files began one parts place R (Err fault) = IsOfCheck fault
+
+-- from a copy, which is at a place too
+pub record IsYesFrom (copied : Register) (at : Place) (one : List ℕ) (parts : List (List ℕ))
+    (place : Place) (R : Register) (text : List ℕ) : Type 0 where
+  pub first : Place
+  pub texts : List (List ℕ)
+  pub has_lines : HasLines one parts first texts
+  pub count : ℕ
+  pub checked : IsCheckedFrom copied at first texts place R count
+  pub text_is : text ≡ verified_text count
+
+abbrev pub ChecksFrom : Register → Place → List ℕ → List (List ℕ) → Place → Register
+    → Result (String Global) Fault → Type 0
+ChecksFrom copied at one parts place R (Ok text) =
+    IsYesFrom copied at one parts place R (string_bytes text)
+ChecksFrom copied at one parts place R (Err fault) = IsOfCheck fault
+
+-- ---- the subcommand
+
+-- where the bytes of all parts are known
+abbrev pub WhereKnown : Option (List ℕ) → Option (List (List ℕ))
+    → (List ℕ → List (List ℕ) → Type 0) → Type 0
+WhereKnown one parts Is = IfSome one (λ bytes. IfSome parts (λ more. Is bytes more))
+
+-- WHAT `verify` DOES of the rows of its files: they are no network or no staff, and nothing is
+-- opened; or the register of the database is read, and then the journal is checked
+pub record VerifiesRows {M : Type 0} (at : AtPaths) (args : VerifyArgs) (rows : FileRows)
+    (texts : Contents) (Reads : Result Placed Fault → M → M → Type 0)
     (result : Result (String Global) Fault) (old new : M) : Type 0 where
-  pub run : Result Rerun Fault
-  pub runs : RunsJournalAt at args run
-  pub visit : After run (λ rerun answer. Visits rerun answer old new) result
-  pub unvisited : OnErr run (new ≡ old)
+  pub began : Register
+  pub is_opening : IsOpeningOf rows began
+  pub read : Result Placed Fault
+  pub reads : Reads read old new
+  pub answer : After read (λ placed told. WhereKnown (at.bytes args.journal.now)
+      (all_known (map (λ path. at.bytes path.now) args.parts.items)) (λ one parts.
+      Checks (files_of texts) began one parts placed.1 placed.0.register told)) result
 
--- ---- from a copy
+abbrev pub VerifiesAt : {M : Type 0} → AtPaths → VerifyArgs
+    → (Result Placed Fault → M → M → Type 0) → Result (String Global) Fault → M → M → Type 0
+VerifiesAt at args Reads result old new =
+    AnswersFiles at args.files (new ≡ old) (λ rows told. (texts : Contents)
+    × (rows_of texts ≡ Ok rows) × AreKnown at.bytes args.files texts
+    × (((fault : Fault) × (told ≡ Err fault) × (fault ≢ Memory → rows_fault rows ≡ Err fault)
+    × (new ≡ old))
+    ⊎ VerifiesRows at args rows texts Reads told old new)) result
 
--- A REGISTER WAS READ FROM A COPY, which was not changed; or it was not, and why
-abbrev pub IsCopied : {S : Type 0} → Ghosts S → Result (Desk Unkept) Fault → Held S → Held S
-    → Type 0
-IsCopied g (Ok desk) before after = IsReadFrom g before after desk.book.register
-IsCopied g (Err fault) before after = IsNotRead g before fault after
-
--- while the copy is open
-abbrev pub Copies : {M D : Type 0} {g : disk.Ghosts D} → Result (Desk Unkept) Fault → M → Over g
-    → Over g → Done → M → Type 0
-Copies = WhileOpen (IsCopied over_files)
-
--- WHAT `verify --from` DOES: the register of the copy is read, the journal is run again over it, and
--- only then the database is opened
+-- WHAT `verify --from` DOES: the register of the copy is read, then that of the database, and then the
+-- journal is checked from the copy's place on
 pub record VerifiesFromAt {M : Type 0} (at : AtPaths) (args : VerifyFromArgs)
-    (CopyIs : Result (Desk Unkept) Fault → M → M → Type 0)
-    (Visits : Rerun → Result (String Global) Fault → M → M → Type 0)
+    (CopyReads Reads : Result Placed Fault → M → M → Type 0)
     (result : Result (String Global) Fault) (old new : M) : Type 0 where
-  pub copy : Result (Desk Unkept) Fault
+  pub copy : Result Placed Fault
   pub middle : M
-  pub copied : CopyIs copy old middle
-  pub run : Result Rerun Fault
-  pub runs : After copy (λ desk run. Answers (GoesUnread at args.journal.now) (λ run. run)
-      (IsRunOver (at.bytes args.journal.now) desk.book.register) run) run
-  pub visit : After run (λ rerun answer. Visits rerun answer middle new) result
-  pub unvisited : OnErr run (new ≡ middle)
+  pub copied : CopyReads copy old middle
+  pub unread : OnErr copy (new ≡ middle)
+  pub answer : After copy (λ from told. (read : Result Placed Fault) × Reads read middle new
+      × After read (λ placed said. WhereKnown (at.bytes args.journal.now)
+      (all_known (map (λ path. at.bytes path.now) args.parts.items)) (λ one parts.
+      ChecksFrom from.0.register from.1 one parts placed.1 placed.0.register said)) told) result
 
 -- ---- what its yes says
 
--- A REGISTER IS WHAT A JOURNAL SAYS of the register that it began with: its tables are those that the
--- commands of the journal leave, those that were accepted and not withdrawn; and each has the reply
--- there that it has in its line
-pub record IsSaidFrom (bytes : List ℕ) (began R : Register) (n : ℕ) : Type 0 where
-  pub entries : List Entry
-  pub lines : read_journal bytes ≡ Ok entries
-  pub tables : tables_of R ≡ tables_of (after_all began (commands_of entries))
-  pub replied : map (λ line. line.reply) (answered_in entries)
-      ≡ map reply_data (replies began (commands_of entries))
-  pub count : n ≡ length (commands_of entries)
-
--- A YES SAYS SO, and of how many commands
-abbrev pub YesIsOfJournal : Type 0
-YesIsOfJournal = (file : Option (List ℕ)) (began : Register) (run : Rerun) (R : Register)
-    (text : List ℕ) → RunsOver file began run → IsVerified run R (Ok text)
-    → (bytes : List ℕ) × IfSome file (λ known. bytes ≡ known)
-    × (count : ℕ) × (text ≡ verified_text count) × IsSaidFrom bytes began R count
+-- A YES IS OF A LEVEL PAIR: the lines of the journal, up to the place of the register, are those of a
+-- run over the register of the files, with these replies, to one with the same tables
+abbrev pub YesIsLevel : Type 0
+YesIsLevel = (files : Files) (began : Register) (one : List ℕ) (parts : List (List ℕ))
+    (place : Place) (R : Register) (text : List ℕ)
+    → IsYes files began one parts place R text
+    → (first : Place) × (texts : List (List ℕ)) × HasLines one parts first texts
+    × IsOfFiles files first × (count : ℕ) × (text ≡ verified_text count)
+    × IsChecked began first texts place R count

@@ -16,7 +16,7 @@ use clr_desk::Desk;
 use clr_edge::database::{Databases, close};
 use clr_edge::fault::Fault;
 use clr_edge::output::write_out;
-use clr_edge::taking_up::open_desk;
+use clr_edge::taking_up::unlogged_desk;
 use clr_rules::{Hold, Moment, PointState, Record, StepRow};
 use clr_shelf::Shelf;
 use clr_store::Store;
@@ -40,7 +40,7 @@ pub fn archive<R: Databases, W: CountedFlush>(
     ensures visit { ArchivesAt R.Medium.Disk R.opens R.shuts R.ends args.now
         (W.stream output.old) (W.stream output.new) result rt.old rt.new }
 {
-    let desk = open_desk(alloc, rt, args.database)?;
+    let desk = unlogged_desk(alloc, rt, args.database)?;
     let (archived, store) = archive_desk(alloc, desk, moment_of(args), output);
     let closed = close(rt, store.end());
     both(archived, closed)

@@ -1,6 +1,6 @@
 //! Laws of the definitions: the headline between two servers, and what the yes of `verify` says.
 ghost use Rattle.clr_commands.specs.ConnectionLaws.{RunsGetTheSame};
-ghost use Rattle.clr_commands.specs.Verify.{YesIsOfJournal};
+ghost use Rattle.clr_commands.specs.Verify.{YesIsLevel};
 
 use clr_rules::laws::run_headline::headline_holds_of_runs;
 
@@ -12,7 +12,7 @@ pub fn runs_get_the_same()
     headline_holds_of_runs();
 }
 
-/// What `verify` says yes of is what the journal says: a law, with nothing to do.
-pub fn yes_is_of_the_journal()
-    ensures { YesIsOfJournal }
+/// What `verify` says yes of is level with the journal: a law, with nothing to do.
+pub fn yes_is_level()
+    ensures { YesIsLevel }
 {}

@@ -10,20 +10,21 @@ ghost use Rattle.clr_commands.specs.Paths.{at_paths};
 ghost use Rattle.clr_commands.specs.Run.{IsInput, IsOfInput, IsOpeningOf, ReadsInput, RunsAsked};
 ghost use Rattle.clr_commands.specs.Run.{RunsAt, RunsDesk, RunsKept, RunsOnDesk};
 ghost use Rattle.clr_commands.specs.Run.{ended_by, printed_after, rows_fault};
-ghost use Rattle.clr_edge.specs.Keeping.{IsDoneOver};
+ghost use Rattle.clr_edge.specs.Keeping.{IsDoneOver, StaysLevelOver};
 ghost use Rattle.clr_edge.specs.TakenUp.{logs};
 
 use crate::import::{Rows, rows_at};
 use crate::replies::{Printed, print, read_lines};
 use clr_args::asked::{Files, RunArgs, StoredArgs};
-use clr_desk::{Commit, Desk, Unkept};
+use clr_desk::{Commit, CommitAt, Desk, Unkept};
 use clr_edge::database::Databases;
 use clr_edge::fault::{Fault, InputFault};
 use clr_edge::journals::Journals;
 use clr_edge::paths::Opens;
 use clr_edge::taking_up::{Opened, let_go, take_up};
 use clr_journal::Journal;
-use clr_journaled::{Clock, Journaled};
+use clr_level::laws::level_is_kept;
+use clr_level::{Clock, Keeper};
 use clr_net::Network;
 use clr_staff::Staff;
 use clr_stream::{CountedRead, read_whole};
@@ -55,8 +56,8 @@ pub fn run<'a, R: Databases + Journals, O: Opens<'a>, I: CountedRead>(
 }
 
 /// The replies to the commands of the input, over the register that a database has. With a journal
-/// each command has its line there before it is carried out. Both are opened before the input is
-/// read.
+/// each command has its line there before it is carried out, and register and journal stay level.
+/// Both are opened before the input is read.
 pub fn run_stored<R: Databases + Journals, I: CountedRead>(
     alloc: Global,
     rt: &mut R,
@@ -77,18 +78,20 @@ pub fn run_stored<R: Databases + Journals, I: CountedRead>(
 }
 
 /// The replies to the commands of the input, over a register that was taken up.
-fn run_opened<K: Commit, J: Journal + Drop, C: Clock, I: CountedRead>(
+fn run_opened<K: CommitAt, J: Journal + Drop, C: Clock, I: CountedRead>(
     alloc: Global,
     opened: &mut Opened<K, J, C>,
     input: &mut I,
 ) -> Result<Printed, Fault>
     ensures ran { IsDoneOver (RunsDesk K.Commit (I.remaining input.old) result)
-        (RunsDesk ⟦<Journaled<K, J, C> as Commit>⟧ (I.remaining input.old) result)
+        (RunsDesk ⟦<Keeper<K, J, C> as Commit>⟧ (I.remaining input.old) result)
         opened.old opened.new }
+    ensures level { StaysLevelOver K.kept K.has_place J.Journal opened.old opened.new }
     ensures input { ReadsInput (I.remaining input.old) (I.failure_count input.old)
         (I.failure_count input.new) input.old input.new result }
     ensures faults { FailsAsSubcommand result }
 {
+    level_is_kept::<K, J, C>();
     match opened {
         Opened::Plain(desk) => run_taken_up(alloc, desk, input),
         Opened::Logged(desk) => run_taken_up(alloc, desk, input),

@@ -1,7 +1,7 @@
 //! The subcommand `serve`: the register of a database, answered over HTTP.
 ghost use Rattle.std.specs.Prelude.{◌≡◌, Err, IfErr, OnErr, OnOk, false, true};
 ghost use Rattle.std.specs.IoError.{error_kind};
-ghost use Rattle.clr_edge.specs.Keeping.{IsDoneOver};
+ghost use Rattle.clr_edge.specs.Keeping.{IsDoneOver, StaysLevelOver};
 ghost use Rattle.clr_edge.specs.TakenUp.{logs};
 ghost use Rattle.clr_edge.specs.Visit.{both};
 ghost use Rattle.clr_rules.specs.Good.{IsGood};
@@ -17,7 +17,7 @@ ghost use Rattle.clr_commands.specs.Serve.{ServesOn};
 
 use crate::serve_line::{connection_line, serving_line};
 use clr_args::asked::ServeArgs;
-use clr_desk::{Commit, Desk};
+use clr_desk::{Commit, CommitAt, Desk};
 use clr_edge::database::Databases;
 use clr_edge::fault::{Fault, JournalFault};
 use clr_edge::files::logins_from;
@@ -29,7 +29,8 @@ use clr_edge::paths::Opens;
 use clr_edge::taking_up::{Opened, let_go, take_up};
 use clr_http::{HttpFault, Registrar, Served, Service, may_be_unread, serve_request};
 use clr_journal::Journal;
-use clr_journaled::{Clock, Journaled};
+use clr_level::laws::level_is_kept;
+use clr_level::{Clock, Keeper};
 use clr_logins::Logins;
 use clr_rules::laws::run_headline::headline_holds_of_runs;
 use clr_staff::Staff;
@@ -116,22 +117,24 @@ fn serve_opened<K, J, C, L, W, E>(
     errors: &mut E,
 ) -> Result<(), Fault>
 where
-    K: Commit,
+    K: CommitAt,
     J: Journal + Drop,
     C: Clock,
     L: Loopback,
     W: CountedFlush,
     E: CountedFlush,
-    ensures { IsDoneOver
+    ensures served { IsDoneOver
         (ServesDesk L.Loopback (seen L.Reader.remaining L.Reader.failure_count L.Writer.stream)
         args.now logins (W.stream output.old) (W.stream output.new)
         (E.stream errors.old) (E.stream errors.new) K.Commit result net.old net.new)
         (ServesDesk L.Loopback (seen L.Reader.remaining L.Reader.failure_count L.Writer.stream)
         args.now logins (W.stream output.old) (W.stream output.new)
-        (E.stream errors.old) (E.stream errors.new) ⟦<Journaled<K, J, C> as Commit>⟧
+        (E.stream errors.old) (E.stream errors.new) ⟦<Keeper<K, J, C> as Commit>⟧
         result net.old net.new)
         opened.old opened.new }
+    ensures level { StaysLevelOver K.kept K.has_place J.Journal opened.old opened.new }
 {
+    level_is_kept::<K, J, C>();
     match opened {
         Opened::Plain(desk) => serve_asked(alloc, net, desk, args, logins, output, errors),
         Opened::Logged(desk) => serve_asked(alloc, net, desk, args, logins, output, errors),

@@ -19,7 +19,7 @@ use clr_desk::{Desk, DeskBook, DeskFault};
 use clr_edge::database::{Databases, close};
 use clr_edge::fault::Fault;
 use clr_edge::paths::Opens;
-use clr_edge::taking_up::open_desk;
+use clr_edge::taking_up::unlogged_desk;
 use clr_net::{Name, Network};
 use clr_staff::Staff;
 use clr_store::Store;
@@ -117,7 +117,7 @@ fn update_register<R: Databases>(
         (as_update update) result rt.old rt.new }
     ensures faults { IfErr result IsOfSubcommand }
 {
-    let desk = open_desk(alloc, rt, path)?;
+    let desk = unlogged_desk(alloc, rt, path)?;
     let (report, store) = update_desk(alloc, desk, update, dry_run);
     let closed = close(rt, store.end());
     text_or(report, closed)

@@ -107,12 +107,19 @@ abbrev pub journal_fault_name : JournalFault → List ℕ
 journal_fault_name journal.OpenFailed = codes "OpenFailed"
 journal_fault_name journal.ReadFailed = codes "ReadFailed"
 journal_fault_name journal.TooLong = codes "TooLong"
-journal_fault_name (journal.BadLine place) = codes "BadLine"
+journal_fault_name (journal.BadLine number) = codes "BadLine"
 journal_fault_name journal.WriteFailed = codes "WriteFailed"
 journal_fault_name journal.SameFile = codes "SameFile"
 journal_fault_name journal.InDoubt = codes "InDoubt"
+journal_fault_name journal.OtherRegister = codes "OtherRegister"
+journal_fault_name journal.TooShort = codes "TooShort"
+journal_fault_name (journal.Differs number) = codes "Differs"
+journal_fault_name journal.Missing = codes "Missing"
+journal_fault_name journal.HasBytes = codes "HasBytes"
+journal_fault_name journal.Begun = codes "Begun"
 
 abbrev pub verify_fault_name : VerifyFault → List ℕ
+verify_fault_name verify.Files = codes "Files"
 verify_fault_name (verify.Reply number) = codes "Reply"
 verify_fault_name (verify.Differs found) = codes "Differs"
 
@@ -190,10 +197,12 @@ store_fault_detail (store.BadRow name) = detail.Table name
 store_fault_detail cause = detail.Nothing
 
 abbrev pub journal_fault_detail : JournalFault → Detail
-journal_fault_detail (journal.BadLine place) = detail.Number place
+journal_fault_detail (journal.BadLine number) = detail.Number number
+journal_fault_detail (journal.Differs number) = detail.Number number
 journal_fault_detail cause = detail.Nothing
 
 abbrev pub verify_fault_detail : VerifyFault → Detail
+verify_fault_detail verify.Files = detail.Nothing
 verify_fault_detail (verify.Reply number) = detail.Number number
 verify_fault_detail (verify.Differs found) = detail.Differs found
 

@@ -1,12 +1,13 @@
 -- The rows that files give, one file after the other.
 use Rattle.std.specs.Prelude.{◌≡◌, ◌≢◌, ◌⊎◌, ℕ, List, None, Option, Some, Result, Ok, Err, IfSome}
-use Rattle.std.specs.Prelude.{IsErr, IsErrOf, OnErr}
+use Rattle.std.specs.Prelude.{IsErr, IsErrOf, OnErr, Vec, false, length, nat_lt, true}
+use Rattle.std.specs.declared.alloc.Global.{Global}
 use Rattle.std.specs.Io.KnownBytes.{ReadConsumes}
 use Rattle.std.specs.declared.io.ErrorKind.{ErrorKind}
 use Rattle.std.specs.declared.io.ErrorKind.TheVariants.{OutOfMemory}
 use Rattle.clr_stream.specs.Failures.{Rose}
 use Rattle.clr_csv.specs.declared.fault.CsvFault.{CsvFault}
-use Rattle.clr_csv.specs.declared.fault.CsvFault.TheVariants.{NoMemory, ReadFailed}
+use Rattle.clr_csv.specs.declared.fault.CsvFault.TheVariants.{NoMemory, ReadFailed, TooLong}
 use Rattle.clr_edge.specs.declared.fault.ImportFile.{ImportFile}
 use Rattle.clr_edge.specs.declared.fault.Fault.{Fault}
 use Rattle.clr_edge.specs.declared.fault.Fault.TheVariants.{Memory, File}
@@ -40,6 +41,20 @@ abbrev pub GivesRows : {A T : Type 0} → ImportFile → (T → List A) → Resu
     → Result T Fault → Type 0
 GivesRows file view told (Ok rows) = told ≡ Ok (view rows)
 GivesRows file view told (Err fault) = (IsUnread file fault → ⊥) → told ≡ Err fault
+
+-- the bytes of a file, if they are at most 4 MiB; only a file that goes unread, or want of memory,
+-- may come in their place
+abbrev pub GivesBytes : List ℕ → Result (Vec ℕ Global) CsvFault → Type 0
+GivesBytes known (Ok bytes) = (bytes.items ≡ known) × (nat_lt 4194304 (length known) ≡ false)
+GivesBytes known (Err cause) = (cause ≡ NoMemory) ⊎ (cause ≡ ReadFailed)
+    ⊎ ((cause ≡ TooLong) × (nat_lt 4194304 (length known) ≡ true))
+
+-- the same, with the file's name in a fault
+abbrev pub GivesFile : ImportFile → List ℕ → Result (Vec ℕ Global) Fault → Type 0
+GivesFile file known (Ok bytes) =
+    (bytes.items ≡ known) × (nat_lt 4194304 (length known) ≡ false)
+GivesFile file known (Err fault) = IsUnread file fault
+    ⊎ ((fault ≡ File file TooLong) × (nat_lt 4194304 (length known) ≡ true))
 
 -- a file is reported as unread only where its count of failures rose in the call
 abbrev pub HasCause : {T : Type 0} → ImportFile → Result T Fault → ℕ → ℕ → Type 0

@@ -4,7 +4,7 @@ use Rattle.std.specs.Prelude.{◌≡◌, ◌⊎◌, ℕ, false, IfErr, IsErrAnd,
 use Rattle.std.specs.Borrow.{Bor}
 use Rattle.sqlite.specs.Files.{over_files}
 use Rattle.sqlite.specs.Held.{Held, state}
-use Rattle.sqlite.specs.State.{HasCleanDisk, Survives}
+use Rattle.sqlite.specs.State.{HasCleanDisk, State, Survives}
 use Rattle.sqlite_disk.specs.declared.Disk as disk
 use Rattle.sqlite_store.specs.declared.store.FileStore.{FileStore}
 use Rattle.sqlite_trees.specs.declared.store.Store.{Ghosts}
@@ -12,15 +12,22 @@ use Rattle.clr_rules.specs.Fit.{IsFit}
 use Rattle.clr_rules.specs.Good.{IsGood}
 use Rattle.clr_rules.specs.Register.{Register}
 use Rattle.clr_desk.specs.Faults.{FailsAsStore}
+use Rattle.clr_desk.specs.Placing.{Placing}
 use Rattle.clr_desk.specs.Taking.{HearsNothing, PassesOver}
 use Rattle.clr_desk.specs.declared.commit.Commit as commit
 use Rattle.clr_desk.specs.declared.desk.Desk.{Desk}
-use Rattle.clr_journaled.specs.Journaling.{FailsToo, HearsLogin, IsDurable, Journals, is_doubtful}
-use Rattle.clr_journaled.specs.declared.journaled.Journaled.{Journaled}
+use Rattle.clr_place.specs.declared.place.Place.{Place}
+use Rattle.clr_append.specs.declared.journal.Journal as append
+use Rattle.clr_level.specs.Journaling.{FailsToo, HearsLogin, IsSound, Journals, is_doubtful}
+use Rattle.clr_level.specs.Levelling.{IsKeptLevel}
+use Rattle.clr_level.specs.declared.keeper.Keeper.{Keeper}
 use Rattle.clr_edge.specs.Database.{HasRegister, IsOfLine, IsOnlyRead, IsRefused, ReadsAs}
-use Rattle.clr_edge.specs.TakenUp.{IsNotTakenUp, IsTakenUp, Logs}
+use Rattle.clr_edge.specs.TakenUp.{HasPlace, IsNotTakenUp, IsTakenUp, IsUnplaced, IsUnsuited, Logs}
+use Rattle.clr_edge.specs.TakenUp.{store_place}
 use Rattle.clr_edge.specs.Visit.{Done, Ending, Ends, Opening, Over, Shutting, Visits}
 use Rattle.clr_edge.specs.declared.fault.Fault.{Fault}
+use Rattle.clr_edge.specs.declared.fault.Fault.TheVariants.{Journal}
+use Rattle.clr_edge.specs.declared.fault.JournalFault.TheVariants.{Missing}
 use Rattle.clr_edge.specs.declared.journals.Journals as journals
 use Rattle.clr_edge.specs.declared.taking_up.Opened.{Opened}
 use Rattle.clr_edge.specs.declared.taking_up.Opened.TheVariants.{Logged, Plain}
@@ -44,6 +51,23 @@ pub record IsNotRead {T : Type 0} (g : Ghosts T) (before : Held T) (fault : Faul
   pub known : (R : Register) → HasRegister g R before → HasCleanDisk (state g after)
       → IsOfLine fault
 
+-- IT HAS A JOURNAL, and none was named: its database was only read
+pub record MissesJournal {T : Type 0} (g : Ghosts T) (before : Held T) (fault : Fault)
+    (after : Held T) : Type 0 where
+  pub place : Place
+  pub unsuited : IsUnsuited g before (Some place) after
+  pub fault_is : fault ≡ Journal Missing
+
+-- A REGISTER THAT HAS NO JOURNAL was read, so that it may be changed without one
+abbrev pub IsReadAlone : {T : Type 0} → Ghosts T → Held T → Held T → Register → Type 0
+IsReadAlone g before after S = IsReadFrom g before after S × HasPlace g before after None
+
+-- it was not: its tables or its place were refused, or it has a journal
+abbrev pub IsNotReadAlone : {T : Type 0} → Ghosts T → Held T → Fault → Held T → Type 0
+IsNotReadAlone g before fault after = IsNotRead g before fault after
+    ⊎ IsUnplaced g before fault after
+    ⊎ MissesJournal g before fault after
+
 -- its database is given back as it is
 abbrev pub GoesPlain : {M T : Type 0} → M → M → Held T → Held T → Type 0
 GoesPlain old new it after = (new ≡ old) × (after ≡ it)
@@ -51,19 +75,21 @@ GoesPlain old new it after = (new ≡ old) × (after ≡ it)
 -- ---- with one
 
 -- the journal is let go as it is then, and the database given back
-abbrev pub GoesLogged : {M J C T : Type 0} → journals.Ghosts M J C → M → M → Journaled (Held T) J C
+abbrev pub GoesLogged : {M J C T : Type 0} → journals.Ghosts M J C → M → M → Keeper (Held T) J C
     → Held T → Type 0
 GoesLogged at old new it after = at.lets_journal_go old it.journal new × (after ≡ it.keeper)
 
 -- ---- either
 
 -- HOW A REGISTER IS KEPT while its database is open: by a keeper of its changes, with the steps of a
--- machine that take it up, that do not, and that let it go
+-- machine that take it up, that do not, and that let it go; and what stays so from the one to the
+-- other
 pub record Keeping (M T K : Type 0) : Type 1 where
   pub keeper : commit.Ghosts K
   pub takes_up : M → M → Held T → Desk K → Type 0
   pub refuses : M → M → Held T → Fault → Held T → Type 0
   pub lets_go : M → M → K → Held T → Type 0
+  pub stays : Desk K → Desk K → Type 0
 
 -- in the database alone
 abbrev pub plain_keeper : {T : Type 0} → Ghosts T → commit.Ghosts (Held T)
@@ -83,29 +109,58 @@ plain g = record {
       (new ≡ old) × IsReadFrom g before desk.store desk.book.register;
   refuses = λ old new before fault after. (new ≡ old) × IsNotRead g before fault after;
   lets_go = GoesPlain;
+  stays = λ taken left. Unit {0};
+}
+
+-- the same of a register that is to be changed: it has no journal
+abbrev pub unlogged : {M T : Type 0} → Ghosts T → Keeping M T (Held T)
+unlogged g = record {
+  keeper = plain_keeper g;
+  takes_up = λ old new before desk.
+      (new ≡ old) × IsReadAlone g before desk.store desk.book.register;
+  refuses = λ old new before fault after. (new ≡ old) × IsNotReadAlone g before fault after;
+  lets_go = GoesPlain;
+  stays = λ taken left. Unit {0};
 }
 
 -- with a journal: a command that is carried out has its line there, and one that is accepted has it
--- durably before its change is kept
+-- durably before its change is kept, with the place at that line
 abbrev pub logged_keeper : {M J C T : Type 0} → Ghosts T → Logs M J C
-    → commit.Ghosts (Journaled (Held T) J C)
+    → commit.Ghosts (Keeper (Held T) J C)
 logged_keeper {M} {J} {C} {T} g logs = record {
-  kept = λ (it : Journaled (Held T) J C). state g it.keeper;
+  kept = λ (it : Keeper (Held T) J C). state g it.keeper;
   fails = FailsToo FailsAsStore;
-  takes = Journals PassesOver logs.shows logs.log.text (IsDurable logs.log.text logs.log.may_leave);
+  takes = Journals PassesOver (state g) store_place logs.shows logs.log.text logs.log.found
+      logs.log.may_leave;
   hears = HearsLogin;
-  doubts = λ (it : Journaled (Held T) J C). is_doubtful it.last;
+  doubts = λ (it : Keeper (Held T) J C). is_doubtful it.last;
 }
 
--- the one at a path, whose last line is redone
+-- A REGISTER AND ITS JOURNAL STAY LEVEL: where they were level, over whatever register and first
+-- line the journal began with, they are
+abbrev pub StaysLevel : {K J C : Type 0} → (K → State) → Placing → (J → List ℕ)
+    → Desk (Keeper K J C) → Desk (Keeper K J C) → Type 0
+StaysLevel kept has_place text taken left = (first : Register) (start : Place) → IsGood first
+    → IsKeptLevel kept has_place text first start taken.book.register taken.store
+    → IsKeptLevel kept has_place text first start left.book.register left.store
+
+-- AND WHAT THE KEEPER HOLDS OF ITS JOURNAL STAYS TRUE
+abbrev pub StaysSound : {K J C : Type 0} → (J → List ℕ) → (J → List ℕ) → (J → List ℕ → Type 0)
+    → Desk (Keeper K J C) → Desk (Keeper K J C) → Type 0
+StaysSound text found may_leave taken left = IsSound text found may_leave taken.store
+    → IsSound text found may_leave left.store
+
+-- the one at a path, in which what was accepted after the register's place is carried out
 abbrev pub logged : {M J C T : Type 0} → Ghosts T → Logs M J C → List ℕ
-    → Keeping M T (Journaled (Held T) J C)
+    → Keeping M T (Keeper (Held T) J C)
 logged g logs path = record {
   keeper = logged_keeper g logs;
   takes_up = λ old new before desk.
-      IsTakenUp g logs.steps path old new before desk.store desk.book.register;
-  refuses = λ old new before fault after. IsNotTakenUp g logs.steps path before fault after old new;
+      IsTakenUp g logs path old new before desk.store desk.book.register;
+  refuses = λ old new before fault after. IsNotTakenUp g logs path before fault after old new;
   lets_go = GoesLogged logs.steps;
+  stays = λ taken left. StaysLevel (state g) store_place logs.log.text taken left
+      × StaysSound logs.log.text logs.log.found logs.log.may_leave taken left;
 }
 
 -- ---- what is done over it
@@ -122,6 +177,7 @@ pub record Works {M T K : Type 0} (by : Keeping M T K) (Did : M → M → Desk K
   pub left : Desk K
   pub later : M
   pub did : Did between later taken left
+  pub stays : by.stays taken left
   pub gone : by.lets_go later new left.store after
 
 -- the same, unless it was not taken up, and then nothing more was done. The database is closed after
@@ -141,10 +197,11 @@ abbrev pub WorksWith : {M J C T R : Type 0} → Logs M J C → Ghosts T → Opti
     → ((K : Type 0) → commit.Ghosts K → Result R Fault → M → M → Desk K → Desk K → Type 0)
     → (Result R Fault → Done → Result R Fault) → Result R Fault → M → Held T → Held T → Done → M
     → Type 0
-WorksWith {T = T} logs g None Idle Did = WorksIn (plain g) Idle (Did (Held T) (plain_keeper g))
+WorksWith {T = T} logs g None Idle Did =
+    WorksIn (unlogged g) Idle (Did (Held T) (plain_keeper g))
 WorksWith {J = J} {C = C} {T = T} logs g (Some journal) Idle Did =
     WorksIn (logged g logs journal.now) Idle
-    (Did (Journaled (Held T) J C) (logged_keeper g logs))
+    (Did (Keeper (Held T) J C) (logged_keeper g logs))
 
 -- ---- how it is opened and closed
 
@@ -179,7 +236,7 @@ IsGone {M} {D} {K} {g} lets_go ends it closed old new = (after : Over g) × (mid
 abbrev pub IsUpWith : {M D J C : Type 0} → (g : disk.Ghosts D) → Opening M D → List ℕ → Logs M J C
     → Option (Bor (List ℕ)) → M → M → Opened (Over g) J C → Type 0
 IsUpWith g opens path logs None old new (Plain desk) =
-    IsUp g opens path (plain over_files) old new desk
+    IsUp g opens path (unlogged over_files) old new desk
 IsUpWith g opens path logs (Some journal) old new (Logged desk) =
     IsUp g opens path (logged over_files logs journal.now) old new desk
 IsUpWith g opens path logs None old new (Logged desk) = ⊥
@@ -187,7 +244,8 @@ IsUpWith g opens path logs (Some journal) old new (Plain desk) = ⊥
 
 abbrev pub IsNotUpWith : {M D J C : Type 0} → (g : disk.Ghosts D) → Opening M D → Shutting M
     → Ending M D → List ℕ → Logs M J C → Option (Bor (List ℕ)) → M → M → Fault → Type 0
-IsNotUpWith g opens shuts ends path logs None = IsNotUp g opens shuts ends path (plain over_files)
+IsNotUpWith g opens shuts ends path logs None =
+    IsNotUp g opens shuts ends path (unlogged over_files)
 IsNotUpWith g opens shuts ends path logs (Some journal) =
     IsNotUp g opens shuts ends path (logged over_files logs journal.now)
 
@@ -199,9 +257,19 @@ IsLetGo {g = g} ends logs (Logged desk) = IsGone {g = g} (GoesLogged logs.steps)
 
 -- what is done over its desk, whichever that is
 abbrev pub IsDoneOver : {K J C : Type 0} → (Desk K → Desk K → Type 0)
-    → (Desk (Journaled K J C) → Desk (Journaled K J C) → Type 0) → Opened K J C → Opened K J C
+    → (Desk (Keeper K J C) → Desk (Keeper K J C) → Type 0) → Opened K J C → Opened K J C
     → Type 0
 IsDoneOver Plainly Loggedly (Plain old) (Plain new) = Plainly old new
 IsDoneOver Plainly Loggedly (Logged old) (Logged new) = Loggedly old new
 IsDoneOver Plainly Loggedly (Plain old) (Logged new) = ⊥
 IsDoneOver Plainly Loggedly (Logged old) (Plain new) = ⊥
+
+-- where it has a journal, it stays level with it
+abbrev pub StaysLevelOver : {K J C : Type 0} → (K → State) → Placing → append.Ghosts J
+    → Opened K J C → Opened K J C → Type 0
+StaysLevelOver kept has_place log (Plain old) (Plain new) = Unit {0}
+StaysLevelOver kept has_place log (Logged old) (Logged new) =
+    StaysLevel kept has_place log.text old new
+    × StaysSound log.text log.found log.may_leave old new
+StaysLevelOver kept has_place log (Plain old) (Logged new) = ⊥
+StaysLevelOver kept has_place log (Logged old) (Plain new) = ⊥

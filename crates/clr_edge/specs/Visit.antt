@@ -86,7 +86,13 @@ abbrev pub Alone : {M T H : Type 0} → (Result T Fault → H → H → Done →
 Alone Does result middle before after closed later =
     (later ≡ middle) × Does result before after closed
 
--- the first of two faults
+-- what was told, or the first of two faults
+abbrev pub first_fault : {T : Type 0} → Result T Fault → Done → Result T Fault
+first_fault (Ok value) (Ok done) = Ok value
+first_fault (Ok value) (Err fault) = Err fault
+first_fault (Err fault) closed = Err fault
+
+-- the same, where nothing else was told
 abbrev pub both : Done → Done → Done
 both (Ok value) closed = closed
 both (Err fault) closed = Err fault

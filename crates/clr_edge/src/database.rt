@@ -16,7 +16,7 @@ ghost use Rattle.clr_edge.specs.Database.{IsOfStore, IsOfUnfit, IsOnlyRead, IsRe
 ghost use Rattle.clr_edge.specs.Database.{IsUnmade, IsUnmoved, ReadsAs, size_fault};
 ghost use Rattle.clr_edge.specs.Fault.{of_store};
 ghost use Rattle.clr_edge.specs.Visit.{Alone, Comes, Ends, IsLeft};
-ghost use Rattle.clr_edge.specs.Visit.{MakesRegister, MovesRegister, Over, both};
+ghost use Rattle.clr_edge.specs.Visit.{MakesRegister, MovesRegister, Over, first_fault};
 ghost use Rattle.clr_edge.specs.declared.fault.Fault.{Fault as AnyFault};
 
 use crate::fault::Fault;
@@ -220,12 +220,15 @@ fn close_over<D: Disk + Drop>(connection: Connection<FileStore<D>>) -> (Result<(
     }
 }
 
-/// The first of two faults.
-fn both(told: Result<(), Fault>, closed: Result<(), Fault>) -> Result<(), Fault>
-    ensures { result ≡ both told closed }
+/// What was told, or the first of two faults.
+pub fn first_fault<T: Drop>(told: Result<T, Fault>, closed: Result<(), Fault>) -> Result<T, Fault>
+    ensures { result ≡ first_fault told closed }
 {
     match told {
-        Ok(()) => closed,
+        Ok(value) => match closed {
+            Ok(()) => Ok(value),
+            Err(fault) => Err(fault),
+        },
         Err(fault) => Err(fault),
     }
 }
@@ -246,7 +249,7 @@ pub fn store_register<R: Makes>(
     let connection = rt.database(path)?;
     let (made, connection) = register_made(alloc, connection, network, staff);
     let closed = close(rt, connection);
-    both(made, closed)
+    first_fault(made, closed)
 }
 
 /// Makes the tables of an opening register in a database, which has to be empty.
@@ -272,7 +275,7 @@ fn register_made<S: Alter + Drop>(
 }
 
 /// Outside a transaction a connection shows what is committed: a law, with nothing to do.
-fn settled<S: Alter>(connection: &Connection<S>)
+pub(crate) fn settled<S: Alter>(connection: &Connection<S>)
     ensures { connection.now.in_transaction ≡ false → IsTrue (state S.Store connection.now).is_open
         → (state S.Store connection.now).now ≡ (state S.Store connection.now).committed }
 {
@@ -292,7 +295,7 @@ pub fn move_register<R: Databases>(rt: &mut R, path: &str) -> Result<(), Fault>
     let connection = rt.stored(path)?;
     let (moved, connection) = register_moved(connection);
     let closed = close(rt, connection);
-    both(moved, closed)
+    first_fault(moved, closed)
 }
 
 /// Brings the tables of a register to the version that is read.

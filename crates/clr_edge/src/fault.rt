@@ -66,10 +66,23 @@ pub enum JournalFault {
     ReadFailed,
     /// There are more than 1,073,741,824 bytes.
     TooLong,
-    /// The line at this place, counted from 1, does not read, or is not the next.
+    /// The line of this number does not hold its sum; 0: there is no first line.
     BadLine(u64),
     /// A line was not written, or not synced.
     WriteFailed,
+    /// It is another register's: it has another id, or the register has no journal.
+    OtherRegister,
+    /// It ends before the register's number.
+    TooShort,
+    /// At this number it has another sum than the register, withdraws the register's command, or
+    /// has another reply than the register gives.
+    Differs(u64),
+    /// The register has a journal, and none is named.
+    Missing,
+    /// A journal was to be begun where there are bytes already.
+    HasBytes,
+    /// It was begun, and the register did not get its place in it: it is to be removed.
+    Begun,
     /// Its path leads to a file of the database.
     SameFile,
     /// It is not known if the last change was kept. Opening the register again decides that.
@@ -79,6 +92,8 @@ pub enum JournalFault {
 /// Why a database is not what the run of a journal leaves.
 #[derive(Clone, Copy, Debug, PartialEq, Eq)]
 pub enum VerifyFault {
+    /// The first line of the journal is not of these files.
+    Files,
     /// The command of this number has another reply in the run than in its line.
     Reply(u64),
     /// The tables differ, first in this row.
@@ -258,7 +273,7 @@ pub enum Detail {
     Version(i64),
     /// The table with a row that does not read.
     Table(TableName),
-    /// The place of a line of a journal, or the number of its command, each counted from 1.
+    /// The number of a line of a journal, or of its command, each counted from 1.
     Number(u64),
     /// The table and the key of the first row that differs.
     Differs(Difference),
@@ -365,6 +380,12 @@ fn journal_fault_name(fault: JournalFault) -> &'static str
         JournalFault::WriteFailed => "WriteFailed",
         JournalFault::SameFile => "SameFile",
         JournalFault::InDoubt => "InDoubt",
+        JournalFault::OtherRegister => "OtherRegister",
+        JournalFault::TooShort => "TooShort",
+        JournalFault::Differs(_) => "Differs",
+        JournalFault::Missing => "Missing",
+        JournalFault::HasBytes => "HasBytes",
+        JournalFault::Begun => "Begun",
     }
 }
 
@@ -372,13 +393,18 @@ fn journal_fault_detail(fault: JournalFault) -> Detail
     ensures { result ≡ journal_fault_detail fault }
 {
     match fault {
-        JournalFault::BadLine(place) => Detail::Number(place),
+        JournalFault::BadLine(number) | JournalFault::Differs(number) => Detail::Number(number),
         JournalFault::OpenFailed
         | JournalFault::ReadFailed
         | JournalFault::TooLong
         | JournalFault::WriteFailed
         | JournalFault::SameFile
-        | JournalFault::InDoubt => Detail::Nothing,
+        | JournalFault::InDoubt
+        | JournalFault::OtherRegister
+        | JournalFault::TooShort
+        | JournalFault::Missing
+        | JournalFault::HasBytes
+        | JournalFault::Begun => Detail::Nothing,
     }
 }
 
@@ -387,6 +413,7 @@ fn verify_fault_name(fault: VerifyFault) -> &'static str
     ensures short { length result.now ≤ 17 }
 {
     match fault {
+        VerifyFault::Files => "Files",
         VerifyFault::Reply(_) => "Reply",
         VerifyFault::Differs(_) => "Differs",
     }
@@ -396,6 +423,7 @@ fn verify_fault_detail(fault: VerifyFault) -> Detail
     ensures { result ≡ verify_fault_detail fault }
 {
     match fault {
+        VerifyFault::Files => Detail::Nothing,
         VerifyFault::Reply(number) => Detail::Number(number),
         VerifyFault::Differs(found) => Detail::Differs(found),
     }

@@ -7,14 +7,14 @@ ghost use Rattle.clr_csv.specs.Points.{points_of};
 ghost use Rattle.clr_csv.specs.Sections.{sections_of};
 ghost use Rattle.clr_csv.specs.StaffRows.{staff_of};
 ghost use Rattle.clr_edge.specs.Fault.{IsOfFile};
-ghost use Rattle.clr_edge.specs.Files.{GivesRows, told_of};
+ghost use Rattle.clr_edge.specs.Files.{GivesBytes, GivesFile, GivesRows, told_of};
 
 use crate::fault::{Fault, ImportFile};
 use clr_csv::{CsvFault, read_logins, read_points, read_sections, read_staff};
 use clr_logins::LoginRow;
 use clr_net::{PointRow, SectionRow};
 use clr_staff::StaffRow;
-use clr_stream::{Counted, CountedRead};
+use clr_stream::{Counted, CountedRead, ReadFault, read_whole};
 use std::alloc::Global;
 use std::io::Read;
 
@@ -125,6 +125,37 @@ fn logins_in<S: Source>(alloc: Global, source: &mut S) -> Result<Vec<LoginRow>, 
     source.open()?;
     let rows = read_logins(alloc, source)?;
     Ok(rows)
+}
+
+/// The most bytes of a file of rows.
+const MAX_FILE_BYTES: usize = 4_194_304;
+
+/// The bytes of a file of rows, so that their sum can be made beside the rows.
+pub fn bytes_from<S: Source>(
+    alloc: Global,
+    source: &mut S,
+    file: ImportFile,
+) -> Result<Vec<u8>, Fault>
+    ensures bytes { IfSome (S.remaining source.old) (λ known. GivesFile file known result) }
+    ensures fault { IfErr result (IsOfFile file) }
+    ensures cause { IsErrOf result (Fault.File file CsvFault.ReadFailed)
+        → Rose (S.failure_count source.old) (S.failure_count source.new) }
+{
+    told_of(file, bytes_in(alloc, source))
+}
+
+fn bytes_in<S: Source>(alloc: Global, source: &mut S) -> Result<Vec<u8>, CsvFault>
+    ensures bytes { IfSome (S.remaining source.old) (λ known. GivesBytes known result) }
+    ensures cause { IsErrOf result CsvFault.ReadFailed
+        → Rose (S.failure_count source.old) (S.failure_count source.new) }
+{
+    source.open()?;
+    match read_whole(alloc, source, MAX_FILE_BYTES) {
+        Ok(bytes) => Ok(bytes),
+        Err(ReadFault::ReadFailed) => Err(CsvFault::ReadFailed),
+        Err(ReadFault::TooLong) => Err(CsvFault::TooLong),
+        Err(ReadFault::NoMemory) => Err(CsvFault::NoMemory),
+    }
 }
 
 /// The rows of a file; a fault names the file that has it.

@@ -1,11 +1,13 @@
 //! The files at the paths that a command line names, and what ends a command before its answer.
 #![tactic(auto)]
 
+pub mod beginning;
 pub mod database;
 pub mod fault;
 pub mod files;
 pub mod journals;
 pub mod line;
+pub mod lines;
 pub mod logins;
 pub mod loopback;
 pub mod machine;

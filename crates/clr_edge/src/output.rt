@@ -8,6 +8,10 @@ use clr_stream::{CountedFlush, write_whole};
 /// Writes a text whole, and flushes it.
 pub fn write_out<W: CountedFlush>(text: &str, writer: &mut W) -> Result<(), Fault>
     ensures whole { OnOk result (WentOut (W.stream writer.old) (W.stream writer.new) text.now) }
+    ensures unfailed { OnOk result
+        ((W.stream writer.new).failures ≡ (W.stream writer.old).failures) }
+    ensures unstalled { OnOk result
+        ((W.stream writer.new).stalls ≡ (W.stream writer.old).stalls) }
     ensures cut { OnErr result (IsCut (W.stream writer.old) (W.stream writer.new) text.now) }
     ensures fault { IfErr result (λ fault. fault ≡ Fault.Output) }
 {

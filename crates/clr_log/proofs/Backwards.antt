@@ -13,10 +13,6 @@ pub newest_first : {X Y : Type 0} (f : X → Y) (xs rest : List X) (x : X) → x
 newest_first f xs rest x is =
     ap (λ ys. reverse (map f ys)) is ∙ ap reverse (map-append f rest (x ∷ [])) ∙ reverse-append (map f rest) (f x ∷ [])
 
--- a line more
-pub one_more : {X Y : Type 0} (f : X → Y) (xs : List X) (i : ℕ) (d : X) → i < length xs → reverse (map f (take (i + 1) xs)) ≡ f (get_or xs i d) ∷ reverse (map f (take i xs))
-one_more f xs i d within = newest_first f (take (i + 1) xs) (take i xs) (get_or xs i d) (take_more xs i d within)
-
 -- ---- looking for a step
 
 begins : (c : Id) (k : ℕ) (withdraws amended : Bool) (rest older : List Line) (line : Line) (whole : Option Task) → rest ≡ older ++ line ∷ []

@@ -4,13 +4,11 @@
 mod about;
 mod commands;
 mod line;
-mod log;
 mod moments;
 mod steps;
 mod texts;
 mod walked;
 mod words;
 
-pub use commands::print_commands;
-pub use log::print_log;
+pub use commands::commands_read_back;
 pub use walked::{WalkedCommands, WalkedLog};

@@ -27,7 +27,7 @@ use clr_edge::journals::{Journals, Seconds};
 use clr_edge::loopback::Loopback;
 use clr_edge::machine::{DatabaseStart, JournalStart, Machine};
 use clr_edge::paths::{AtPath, Paths};
-use clr_journaled::Clock as JournalClock;
+use clr_level::Clock as JournalClock;
 use clr_stream::{Counted, CountedFlush, CountedRead, CountedWrite};
 use sqlite_disk::{Disk, Start};
 use std::convert::AsStr;
@@ -61,6 +61,23 @@ impl Start for CopyStart {
     }
 }
 
+/// The same of the file of the next part of its journal, of which nothing is supposed together with
+/// the part that ends.
+#[derive(Drop)]
+pub struct NextStart;
+
+impl Start for NextStart {
+    ghost log = { [] };
+
+    ghost db = { [] };
+
+    ghost is_mixing = { true };
+
+    fn mixes() -> bool {
+        true
+    }
+}
+
 fn main(rt: HostRuntime) -> ExitCode {
     program(&rt)
 }
@@ -79,7 +96,7 @@ fn program(rt: &HostRuntime) -> ExitCode
         Ok(words) => words.collect(rt.alloc()).map_err(io::Error::from),
         Err(fault) => Err(fault),
     };
-    let files: WithCopy<DatabaseStart, CopyStart, JournalStart> = WithCopy::of_files(rt);
+    let files: WithCopy<DatabaseStart, CopyStart, JournalStart, NextStart> = WithCopy::of_files(rt);
     let mut line = CommandLine {
         words: &words,
         paths: Paths::new(&files),
@@ -87,7 +104,7 @@ fn program(rt: &HostRuntime) -> ExitCode
         output: Behind::new(Counted::new(rt.stdout()), &watch),
         errors: Behind::new(Counted::new(rt.stderr()), &watch),
     };
-    let system = WithCopy::new(rt, DatabaseStart, CopyStart, JournalStart);
+    let system = WithCopy::new(rt, DatabaseStart, CopyStart, JournalStart, NextStart);
     let mut machine = Machine::watched(rt.alloc(), system, &watch);
     let status = answer_line(&mut machine, &mut line);
     exit_code(status)

@@ -106,3 +106,16 @@ pub fn moment_before<'a>(alloc: Global) -> Arg<'a>
     .required(true)
     .value_parser(ValueParser::unsigned(0, 4_102_444_799))
 }
+
+/// `--part FILE`, which may be given any number of times.
+pub fn part<'a>(alloc: Global) -> Arg<'a>
+    ensures rule { rule_of result ≡ repeated_option_rule (codes "part") }
+    ensures local { result.global ≡ false }
+{
+    repeated_option(
+        alloc,
+        "part",
+        "FILE",
+        "A further part of the journal, in order; may be given again",
+    )
+}

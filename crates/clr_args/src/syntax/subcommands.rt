@@ -2,12 +2,12 @@
 ghost use Rattle.std.specs.Prelude.{◌≡◌, IfOk};
 ghost use Rattle.clap.specs.Words.{app_of};
 ghost use Rattle.clr_args.specs.Syntax.{archive, board, check, fence, init, journal, migrate};
-ghost use Rattle.clr_args.specs.Syntax.{order, plain_serve, plain_update, run, serve, update};
-ghost use Rattle.clr_args.specs.Syntax.{verify, wayback};
+ghost use Rattle.clr_args.specs.Syntax.{order, plain_journal, plain_serve, plain_update, run};
+ghost use Rattle.clr_args.specs.Syntax.{serve, update, verify, wayback};
 
 use super::arguments::{
-    at_most, flag, moment_before, number, offset, option, optional, repeated, repeated_option,
-    required,
+    at_most, flag, moment_before, number, offset, option, optional, part, repeated,
+    repeated_option, required,
 };
 use clap::Command;
 use std::alloc::{AllocError, Global};
@@ -37,7 +37,7 @@ pub fn check<'a>(alloc: Global) -> Result<Command<'a>, AllocError>
     Ok(command)
 }
 
-/// `init SECTIONS POINTS STAFF [--db FILE]`
+/// `init SECTIONS POINTS STAFF [--db FILE [--journal FILE]]`
 pub fn init<'a>(alloc: Global) -> Result<Command<'a>, AllocError>
     ensures { IfOk result (λ c. app_of c ≡ init) }
 {
@@ -46,7 +46,13 @@ pub fn init<'a>(alloc: Global) -> Result<Command<'a>, AllocError>
         .arg(required(alloc, "SECTIONS", "The file of sections"))?
         .arg(required(alloc, "POINTS", "The file of switching points"))?
         .arg(required(alloc, "STAFF", "The file of the staff"))?
-        .arg(option(alloc, "db", "FILE", "The database to make the register in"))?;
+        .arg(option(alloc, "db", "FILE", "The database to make the register in"))?
+        .arg(option(
+            alloc,
+            "journal",
+            "FILE",
+            "The journal to begin for it, with --db",
+        ))?;
     Ok(command)
 }
 
@@ -61,7 +67,7 @@ pub fn run<'a>(alloc: Global) -> Result<Command<'a>, AllocError>
             alloc,
             "journal",
             "FILE",
-            "The journal of the commands that are accepted, with --db",
+            "The journal of the register, with --db",
         ))?
         .arg(repeated(
             alloc,
@@ -147,18 +153,13 @@ pub fn serve<'a>(alloc: Global) -> Result<Command<'a>, AllocError>
             "FILE",
             "Who may speak for whom, with --desk: CSV with the header login,employee",
         ))?
-        .arg(option(
-            alloc,
-            "journal",
-            "FILE",
-            "The journal of the commands that are accepted",
-        ))?;
+        .arg(option(alloc, "journal", "FILE", "The journal of the register"))?;
     Ok(command)
 }
 
 /// `journal FILE [CLEARANCE] [--offset MINUTES] [--commands]`
-pub fn journal<'a>(alloc: Global) -> Result<Command<'a>, AllocError>
-    ensures { IfOk result (λ c. app_of c ≡ journal) }
+fn plain_journal<'a>(alloc: Global) -> Result<Command<'a>, AllocError>
+    ensures { IfOk result (λ c. app_of c ≡ plain_journal) }
 {
     let command = Command::new(alloc, "journal")
         .about("Prints the commands that a journal keeps, and their replies")
@@ -177,7 +178,30 @@ pub fn journal<'a>(alloc: Global) -> Result<Command<'a>, AllocError>
     Ok(command)
 }
 
-/// `verify DB JOURNAL [--from COPY] [FILES]...`
+/// `journal FILE [CLEARANCE] [--part FILE]... [--offset MINUTES] [--commands]`, or
+/// `journal FILE --db DB --next NEW`
+pub fn journal<'a>(alloc: Global) -> Result<Command<'a>, AllocError>
+    ensures { IfOk result (λ c. app_of c ≡ journal) }
+{
+    let plain = plain_journal(alloc)?;
+    let command = plain
+        .arg(part(alloc))?
+        .arg(option(
+            alloc,
+            "db",
+            "DB",
+            "The database of the register whose journal it is, with --next",
+        ))?
+        .arg(option(
+            alloc,
+            "next",
+            "NEW",
+            "Ends this part of the journal, and begins the next one in this file",
+        ))?;
+    Ok(command)
+}
+
+/// `verify DB JOURNAL [--part FILE]... [--from COPY] [FILES]...`
 pub fn verify<'a>(alloc: Global) -> Result<Command<'a>, AllocError>
     ensures { IfOk result (λ c. app_of c ≡ verify) }
 {
@@ -185,11 +209,12 @@ pub fn verify<'a>(alloc: Global) -> Result<Command<'a>, AllocError>
         .about("Compares a register with a run of its journal over what it began with")
         .arg(required(alloc, "DB", "The database of the register"))?
         .arg(required(alloc, "JOURNAL", "The journal of the register"))?
+        .arg(part(alloc))?
         .arg(option(
             alloc,
             "from",
             "COPY",
-            "A copy of the database from when the journal began, in place of FILES",
+            "A copy of the database that was verified, in place of FILES",
         ))?
         .arg(repeated(
             alloc,
@@ -245,12 +270,18 @@ pub fn archive<'a>(alloc: Global) -> Result<Command<'a>, AllocError>
     Ok(command)
 }
 
-/// `migrate DB`
+/// `migrate DB [--journal FILE]`
 pub fn migrate<'a>(alloc: Global) -> Result<Command<'a>, AllocError>
     ensures { IfOk result (λ c. app_of c ≡ migrate) }
 {
     let command = Command::new(alloc, "migrate")
         .about("Brings the tables of a register to the version that this program reads")
-        .arg(required(alloc, "DB", "The database of the register"))?;
+        .arg(required(alloc, "DB", "The database of the register"))?
+        .arg(option(
+            alloc,
+            "journal",
+            "FILE",
+            "Begins a journal for a register that has none, and moves no tables",
+        ))?;
     Ok(command)
 }

@@ -1,5 +1,4 @@
 use Rattle.std.proofs.Common.{refl}
-use Rattle.clr_command_line.proofs.Journals.{journal_plain}
 use Rattle.clr_command_line.proofs.command_line.carry_out.Goals as goal
 
 pub returns-in-Fence : goal.returns-in-Fence
@@ -44,10 +43,7 @@ pub returns-in-Archive : goal.returns-in-Archive
 returns-in-Archive g c = rw c.in-Archive.is (c.archive.result, refl, c.archive.ensures.visit, c.report_served-in-Archive.ensures)
 
 pub returns-in-Journal : goal.returns-in-Journal
-returns-in-Journal g c = rw c.in-Journal.is (
-  c.journal.result,
-  (record { text = c.journal.ensures.answer; unopened = c.journal.ensures.unopened; unread = c.journal.ensures.unread }, refl),
-  journal_plain c.journal.result c.journal.ensures.fault,
-  refl,
-  c.report-in-Journal.ensures,
-)
+returns-in-Journal g c = rw c.in-Journal.is (c.journal.result, (refl, refl), c.journal.ensures.printed, c.report_served-in-Journal.ensures)
+
+pub returns-in-NextPart : goal.returns-in-NextPart
+returns-in-NextPart g c = rw c.in-NextPart.is (c.next_part.result, c.next_part.ensures.visit, c.next_part.ensures.faults, refl, c.report-in-NextPart.ensures)

@@ -1,18 +1,37 @@
 use Rattle.std.proofs.Common.{refl}
+use Rattle.sqlite.specs.Files.{over_files}
+use Rattle.clr_edge.specs.Beginning.{MakesRegisterAt}
+use Rattle.clr_edge.specs.TakenUp.{logs}
+use Rattle.clr_edge.specs.Visit.{Alone, Comes, MakesRegister}
+use Rattle.clr_commands.specs.Init.{InitsWith}
 use Rattle.clr_commands.proofs.Faults.{any_file_plain, passed}
-use Rattle.clr_commands.proofs.MadeRegisters.{AnswersFiles-fault, InitsAt-counted, InitsAt-stored}
+use Rattle.clr_commands.proofs.MadeRegisters.{AnswersFiles-fault, AnswersFiles-rows, InitsAt-counted, InitsAt-stored}
 use Rattle.clr_commands.proofs.init.init.Goals as goal
 
-pub returns-in_err-rows-clause-visit : goal.returns-in_err-rows-clause-visit
-returns-in_err-rows-clause-visit g c = AnswersFiles-fault _ _ _ _ _ _ c.in_err-rows.ensures.rows c.from_residual.ensures.1 refl
+-- no register is to be made
+pub returns-in_ok-rows-in-None-clause-visit : goal.returns-in_ok-rows-in-None-clause-visit
+returns-in_ok-rows-in-None-clause-visit g c =
+    InitsAt-counted _ (λ path register. Comes g.R.Medium.Disk g.R.Makes.makes g.R.Databases.shuts g.R.Databases.ends path (Alone (MakesRegister over_files register)))
+    (InitsWith (logs g.R.Journals g.R.Log.Journal g.R.Time.Clock.shows)
+    (λ path register first. Comes g.R.Medium.Disk g.R.Makes.makes g.R.Databases.shuts g.R.Databases.ends path (Alone (MakesRegisterAt over_files register first))))
+    c.args.args.now c.counts_of_rows.result c.args.rt.now c.args.rt.now c.in-None.is
+    (AnswersFiles-rows _ _ _ _ _ c.in_ok-rows-in-None.rows c.in_ok-rows-in-None.ensures.rows (c.counts_of_rows.ensures.answer, refl))
 
-pub returns-in_err-rows-clause-faults : goal.returns-in_err-rows-clause-faults
-returns-in_err-rows-clause-faults g c = passed _ _ c.from_residual.ensures.1 (any_file_plain _ c.in_err-rows.ensures.fault)
+pub returns-in_err-rows-in-None-clause-visit : goal.returns-in_err-rows-in-None-clause-visit
+returns-in_err-rows-in-None-clause-visit g c =
+    InitsAt-counted _ (λ path register. Comes g.R.Medium.Disk g.R.Makes.makes g.R.Databases.shuts g.R.Databases.ends path (Alone (MakesRegister over_files register)))
+    (InitsWith (logs g.R.Journals g.R.Log.Journal g.R.Time.Clock.shows)
+    (λ path register first. Comes g.R.Medium.Disk g.R.Makes.makes g.R.Databases.shuts g.R.Databases.ends path (Alone (MakesRegisterAt over_files register first))))
+    c.args.args.now c.from_residual.result c.args.rt.now c.args.rt.now c.in-None.is
+    (AnswersFiles-fault _ _ _ _ _ _ c.in_err-rows-in-None.ensures.rows c.from_residual.ensures.1 refl)
 
+pub returns-in_err-rows-in-None-clause-faults : goal.returns-in_err-rows-in-None-clause-faults
+returns-in_err-rows-in-None-clause-faults g c = passed _ _ c.from_residual.ensures.1 (any_file_plain _ c.in_err-rows-in-None.ensures.fault)
+
+-- or one is
 pub returns-in-Some-clause-visit : goal.returns-in-Some-clause-visit
 returns-in-Some-clause-visit g c =
-    InitsAt-stored _ _ c.args.args.now _ _ _ c.in_ok-rows.rows c.in-Some.path c.in-Some.is c.in_ok-rows.ensures.rows c.register_of_rows.ensures.visit
-
-pub returns-in-None-clause-visit : goal.returns-in-None-clause-visit
-returns-in-None-clause-visit g c =
-    InitsAt-counted _ _ c.args.args.now _ _ c.in_ok-rows.rows c.in-None.is c.in_ok-rows.ensures.rows c.counts_of_rows.ensures.answer
+    InitsAt-stored _ (λ path register. Comes g.R.Medium.Disk g.R.Makes.makes g.R.Databases.shuts g.R.Databases.ends path (Alone (MakesRegister over_files register)))
+    (InitsWith (logs g.R.Journals g.R.Log.Journal g.R.Time.Clock.shows)
+    (λ path register first. Comes g.R.Medium.Disk g.R.Makes.makes g.R.Databases.shuts g.R.Databases.ends path (Alone (MakesRegisterAt over_files register first))))
+    c.args.args.now c.init_stored.result c.args.rt.now c.init_stored.new.rt c.in-Some.stored c.in-Some.is c.init_stored.ensures.visit

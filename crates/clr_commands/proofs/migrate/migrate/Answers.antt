@@ -1,22 +1,15 @@
-use Rattle.std.proofs.Common.{inl, inr, refl}
-use Rattle.clr_commands.proofs.Databases.{is_err}
-use Rattle.clr_commands.proofs.Faults.{passed, store_plain}
-use Rattle.clr_commands.proofs.Migrates.{PrintsMoved-fault}
+use Rattle.clr_edge.specs.TakenUp.{logs}
+use Rattle.clr_commands.proofs.Migrates.{MigratesAt-begun, MigratesAt-moved}
 use Rattle.clr_commands.proofs.migrate.migrate.Goals as goal
 
--- memory ran out
-pub returns-in_err-line-clause-visit : goal.returns-in_err-line-clause-visit
-returns-in_err-line-clause-visit g c = inl (is_err _ _ c.from_residual.ensures.1, refl)
+-- the tables are moved
+pub returns-in-None-clause-visit : goal.returns-in-None-clause-visit
+returns-in-None-clause-visit g c =
+    MigratesAt-moved (logs g.R.Journals g.R.Log.Journal g.R.Time.Clock.shows) g.R.Medium.Disk g.R.Databases.opens g.R.Databases.shuts g.R.Databases.ends c.args.args.now
+    c.move_tables.result c.args.rt.now c.move_tables.new.rt c.in-None.is c.move_tables.ensures.visit
 
--- the tables were not moved
-pub returns-in_err-move_register-clause-visit : goal.returns-in_err-move_register-clause-visit
-returns-in_err-move_register-clause-visit g c =
-    inr (_, PrintsMoved-fault _ _ c.from_residual-in_err-move_register.ensures.1, c.in_err-move_register.ensures.visit)
-
-pub returns-in_err-move_register-clause-faults : goal.returns-in_err-move_register-clause-faults
-returns-in_err-move_register-clause-faults g c =
-    passed _ _ c.from_residual-in_err-move_register.ensures.1 (store_plain _ c.in_err-move_register.ensures.fault)
-
--- they were
-pub returns-clause-visit : goal.returns-clause-visit
-returns-clause-visit g c = inr (_, (refl, c.in_ok-line.ensures.ok), c.in_ok-move_register.ensures.visit)
+-- or a journal is begun
+pub returns-in-Some-clause-visit : goal.returns-in-Some-clause-visit
+returns-in-Some-clause-visit g c =
+    MigratesAt-begun (logs g.R.Journals g.R.Log.Journal g.R.Time.Clock.shows) g.R.Medium.Disk g.R.Databases.opens g.R.Databases.shuts g.R.Databases.ends c.args.args.now
+    c.begin_for.result c.args.rt.now c.begin_for.new.rt c.in-Some.journal c.in-Some.is c.begin_for.ensures.visit

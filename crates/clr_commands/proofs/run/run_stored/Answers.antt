@@ -18,7 +18,8 @@ returns-clause-visit g c =
     by (RunsAlone input) c.args.args.now.journal printed _
     c.args.rt.now c.take_up.new.rt c.take_up.new.rt c.let_go-closed.new.rt c.in_ok-opened.opened c.run_opened-printed.new.opened c.let_go-closed.result
     c.in_ok-opened.ensures.up (done_alone c.take_up.new.rt (RunsDesk (plain_keeper over_files) input printed)
-    (RunsDesk (logged_keeper over_files by) input printed) c.in_ok-opened.opened c.run_opened-printed.new.opened c.run_opened-printed.ensures.ran) c.let_go-closed.ensures.gone
+    (RunsDesk (logged_keeper over_files by) input printed) c.in_ok-opened.opened c.run_opened-printed.new.opened c.run_opened-printed.ensures.ran)
+    c.run_opened-printed.ensures.level c.let_go-closed.ensures.gone
     c.let_go-closed.ensures.fault c.printed_after.ensures
 
 pub returns-clause-input : goal.returns-clause-input

@@ -21,8 +21,8 @@ returns g c =
           (λ K keeper. ServesDesk g.R.Loopback (seen g.R.Reader.Read.remaining g.R.Reader.CountedRead.failure_count g.R.Writer.CountedWrite.stream)
           c.args.args.now c.args.logins output output' errors errors' keeper)
           c.args.args.now.journal c.serve_opened-served.result _ c.args.rt.now c.take_up.new.rt c.serve_opened-served.new.net c.let_go-closed.new.rt
-          c.in_ok-opened.opened c.serve_opened-served.new.opened c.let_go-closed.result c.in_ok-opened.ensures.up c.serve_opened-served.ensures
-          c.let_go-closed.ensures.gone c.let_go-closed.ensures.fault c.both.ensures;
+          c.in_ok-opened.opened c.serve_opened-served.new.opened c.let_go-closed.result c.in_ok-opened.ensures.up c.serve_opened-served.ensures.served
+          c.serve_opened-served.ensures.level c.let_go-closed.ensures.gone c.let_go-closed.ensures.fault c.both.ensures;
     }
 
 -- the register was not taken up

@@ -5,13 +5,13 @@ use Rattle.clr_commands.proofs.Updating.{answer_plain, not_updated_at, updated_a
 use Rattle.clr_commands.proofs.update.update_register.Goals as goal
 
 pub update_desk-report-requires : goal.update_desk-report-requires
-update_desk-report-requires g c = c.in_ok-desk.ensures.up.taken_up.1.fit
+update_desk-report-requires g c = c.in_ok-desk.ensures.up.taken_up.1.0.fit
 
 pub returns-clause-visit : goal.returns-clause-visit
 returns-clause-visit g c =
     let same : c.end.result ≡ c.update_desk-report.result.1 = cc in
     updated_at g.R.Medium.Disk g.R.Databases.opens g.R.Databases.shuts g.R.Databases.ends c.args.path.now c.args.dry_run (as_update c.args.update)
-    c.update_desk-report.result.0 c.text_or.result c.close-closed.result c.args.rt.now c.open_desk.new.rt c.close-closed.new.rt c.in_ok-desk.desk c.update_desk-report.result.1 c.end.result
+    c.update_desk-report.result.0 c.text_or.result c.close-closed.result c.args.rt.now c.unlogged_desk.new.rt c.close-closed.new.rt c.in_ok-desk.desk c.update_desk-report.result.1 c.end.result
     c.in_ok-desk.ensures.up c.update_desk-report.ensures.reports c.update_desk-report.ensures.done same c.close-closed.ensures.ends c.close-closed.ensures.fault c.text_or.ensures
 
 pub returns-clause-faults : goal.returns-clause-faults
@@ -22,7 +22,7 @@ returns-clause-faults g c =
 pub returns-in_err-desk-clause-visit : goal.returns-in_err-desk-clause-visit
 returns-in_err-desk-clause-visit g c =
     not_updated_at g.R.Medium.Disk g.R.Databases.opens g.R.Databases.shuts g.R.Databases.ends c.args.path.now c.args.dry_run (as_update c.args.update)
-    _ c.args.rt.now c.open_desk.new.rt _ c.from_residual.ensures.1 c.in_err-desk.ensures.none
+    _ c.args.rt.now c.unlogged_desk.new.rt _ c.from_residual.ensures.1 c.in_err-desk.ensures.none
 
 pub returns-in_err-desk-clause-faults : goal.returns-in_err-desk-clause-faults
 returns-in_err-desk-clause-faults g c = passed _ _ c.from_residual.ensures.1 (taking_up_plain _ c.in_err-desk.ensures.fault)

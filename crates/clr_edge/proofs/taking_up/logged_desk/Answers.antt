@@ -1,78 +1,51 @@
-use Rattle.std.proofs.Common.{◌≡◌, ◌∙◌, inl, inr, subst, sym}
+use Rattle.std.proofs.Common.{◌≡◌, ◌∙◌, inr, subst, sym}
 use Rattle.sqlite.specs.Files.{over_files}
-use Rattle.clr_edge.specs.Journals.{IsOfTakingUp}
 use Rattle.clr_edge.specs.Keeping.{IsNotUp, logged}
-use Rattle.clr_edge.specs.TakenUp.{logs}
+use Rattle.clr_edge.specs.TakenUp.{IsOfTakingUp, logs}
 use Rattle.clr_edge.proofs.Databases.{IfErr-passed}
-use Rattle.clr_edge.proofs.Keeping.{of_redo, refused_too}
-use Rattle.clr_edge.proofs.TakenUp.{not_opened, not_up, takes_up}
+use Rattle.clr_edge.proofs.Keeping.{refused_too}
+use Rattle.clr_edge.proofs.TakenUp.{not_up, takes_up}
 use Rattle.clr_edge.proofs.taking_up.logged_desk.Goals as goal
 
--- its last line was redone
-pub returns-in-Ok-taken_up-clause-up : goal.returns-in-Ok-taken_up-clause-up
-returns-in-Ok-taken_up-clause-up g c =
+-- it was given its journal
+pub returns-in-Ok-clause-up : goal.returns-in-Ok-clause-up
+returns-in-Ok-clause-up g c =
     let up = c.in_ok-desk.ensures.up in
-    let redone = c.in-Ok-taken_up.ensures.redone in
+    let was = c.in_ok-desk.desk in
+    let now = c.in-Ok.desk in
+    let given = c.in-Ok.ensures.taken in
     record {
       before = up.before;
       middle = c.open_desk.new.rt;
       opened = subst (λ (m : _). g.R.Databases.opens c.args.rt.now c.args.path.now g.R.Medium.Disk up.before m) (sym up.taken_up.0) up.opened;
       mode = up.mode;
-      good = redone.keeps.good up.good;
-      uncounted = c.in-Ok-taken_up.ensures.faults ∙ up.uncounted;
-      taken_up = takes_up over_files g.R.Journals c.args.journal.now c.open_desk.new.rt c.journal.new.self up.before c.in_ok-desk.desk.store c.in_ok-desk.desk.book.register
-          up.taken_up.1 c.in-Ok.opened.journal _ c.time.result c.in-Ok-taken_up.desk.store c.in-Ok-taken_up.desk.book.register
-          c.in-Ok.ensures.opens_journal c.time.ensures redone;
+      good = given.kept.good up.good;
+      uncounted = c.in-Ok.ensures.faults;
+      taken_up = takes_up over_files up.before was.store was.book.register up.taken_up.1
+          (logs g.R.Journals g.R.Log.Journal g.R.Time.Clock.shows) c.args.journal.now c.open_desk.new.rt c.logged.new.rt now.store now.book.register given;
     }
 
--- it was not, and the journal was let go, and the database closed
-pub returns-in-Err-taken_up-clause-none : goal.returns-in-Err-taken_up-clause-none
-returns-in-Err-taken_up-clause-none g c =
-    let up = c.in_ok-desk.ensures.up in
-    inr (record {
-      before = up.before;
-      after = c.in-Err-taken_up.connection;
-      closed = c.close-closed-in-Err-taken_up.result;
-      middle = c.open_desk.new.rt;
-      later = c.let_journal_go.new.self;
-      opened = subst (λ (m : _). g.R.Databases.opens c.args.rt.now c.args.path.now g.R.Medium.Disk up.before m) (sym up.taken_up.0) up.opened;
-      mode = up.mode;
-      does = (
-        not_up over_files g.R.Journals c.args.journal.now c.open_desk.new.rt c.let_journal_go.new.self up.before c.in_ok-desk.desk.store c.in_ok-desk.desk.book.register
-            up.taken_up.1 c.journal.new.self c.in-Ok.opened.journal c.in-Err-taken_up.journal _ c.in-Err-taken_up.fault c.in-Err-taken_up.connection
-            c.in-Ok.ensures.opens_journal c.in-Err-taken_up.ensures.unwritten c.let_journal_go.ensures
-            c.in-Err-taken_up.ensures.fault c.in-Err-taken_up.ensures.bad c.in-Err-taken_up.ensures.kept,
-        c.close-closed-in-Err-taken_up.ensures.fault,
-      );
-      ended = c.close-closed-in-Err-taken_up.ensures.ends;
-    })
-
-pub returns-in-Err-taken_up-clause-fault : goal.returns-in-Err-taken_up-clause-fault
-returns-in-Err-taken_up-clause-fault g c = of_redo c.in-Err-taken_up.fault c.in-Err-taken_up.ensures.fault
-
--- the journal was not opened, and the database closed
+-- it was not, and the database was closed
 pub returns-in-Err-clause-none : goal.returns-in-Err-clause-none
 returns-in-Err-clause-none g c =
     let up = c.in_ok-desk.ensures.up in
-    let same : c.end-in-Err.result ≡ c.in_ok-desk.desk.store = cc in
+    let was = c.in_ok-desk.desk in
     inr (record {
       before = up.before;
-      after = c.end-in-Err.result;
+      after = c.in-Err.connection;
       closed = c.close-closed.result;
       middle = c.open_desk.new.rt;
-      later = c.journal.new.self;
+      later = c.logged.new.rt;
       opened = subst (λ (m : _). g.R.Databases.opens c.args.rt.now c.args.path.now g.R.Medium.Disk up.before m) (sym up.taken_up.0) up.opened;
       mode = up.mode;
       does = (
-        not_opened over_files g.R.Journals c.args.journal.now c.open_desk.new.rt c.journal.new.self up.before c.in_ok-desk.desk.store c.in_ok-desk.desk.book.register
-            up.taken_up.1 c.end-in-Err.result c.in-Err.fault same c.in-Err.ensures.fault c.in-Err.ensures.shuts_journal,
+        not_up over_files up.before was.store was.book.register up.taken_up.1
+            (logs g.R.Journals g.R.Log.Journal g.R.Time.Clock.shows) c.args.journal.now c.open_desk.new.rt c.logged.new.rt c.in-Err.fault c.in-Err.connection
+            c.in-Err.ensures.refused,
         c.close-closed.ensures.fault,
       );
       ended = c.close-closed.ensures.ends;
     })
-
-pub returns-in-Err-clause-fault : goal.returns-in-Err-clause-fault
-returns-in-Err-clause-fault g c = inl c.in-Err.ensures.fault
 
 -- the register was refused
 pub returns-in_err-desk-clause-none : goal.returns-in_err-desk-clause-none

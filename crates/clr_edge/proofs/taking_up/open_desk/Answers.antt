@@ -1,7 +1,7 @@
 use Rattle.std.proofs.Common.{inl, inr, refl}
 use Rattle.sqlite.specs.Files.{over_files}
-use Rattle.clr_edge.specs.Journals.{IsOfTakingUp}
 use Rattle.clr_edge.specs.Keeping.{IsNotUp, plain}
+use Rattle.clr_edge.specs.TakenUp.{IsOfTakingUp}
 use Rattle.clr_edge.proofs.Databases.{IfErr-passed}
 use Rattle.clr_edge.proofs.Keeping.{of_line, of_tables}
 use Rattle.clr_edge.proofs.taking_up.open_desk.Goals as goal

@@ -9,4 +9,5 @@ returns c =
     let first = c.in_ok-arg.ensures.shape c.required.ensures.local ∙ ap₂ with_rule begun c.required.ensures.rule in
     let second = c.in_ok-arg-2.ensures.shape c.required-2.ensures.local ∙ ap₂ with_rule first c.required-2.ensures.rule in
     let third = c.in_ok-arg-3.ensures.shape c.required-3.ensures.local ∙ ap₂ with_rule second c.required-3.ensures.rule in
-    c.in_ok-command.ensures.shape c.option.ensures.local ∙ ap₂ with_rule third c.option.ensures.rule
+    let fourth = c.in_ok-arg-4.ensures.shape c.option.ensures.local ∙ ap₂ with_rule third c.option.ensures.rule in
+    c.in_ok-command.ensures.shape c.option-2.ensures.local ∙ ap₂ with_rule fourth c.option-2.ensures.rule

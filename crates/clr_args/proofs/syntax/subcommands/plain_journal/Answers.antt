@@ -1,0 +1,12 @@
+use Rattle.std.proofs.Common.{rules, ◌≡◌, ◌∙◌, ap₂, codes}
+use Rattle.clap.specs.Words.{app_of, new_app, with_rule}
+use Rattle.clr_args.proofs.syntax.subcommands.plain_journal.Goals as goal
+
+-- the command with each argument added in turn
+pub returns : goal.returns
+returns c =
+    let begun : app_of c.about.result ≡ new_app (codes "journal") = search rules in
+    let first = c.in_ok-arg.ensures.shape c.required.ensures.local ∙ ap₂ with_rule begun c.required.ensures.rule in
+    let second = c.in_ok-arg-2.ensures.shape c.optional.ensures.local ∙ ap₂ with_rule first c.optional.ensures.rule in
+    let third = c.in_ok-arg-3.ensures.shape c.offset.ensures.local ∙ ap₂ with_rule second c.offset.ensures.rule in
+    c.in_ok-command.ensures.shape c.flag.ensures.local ∙ ap₂ with_rule third c.flag.ensures.rule

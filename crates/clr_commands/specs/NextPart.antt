@@ -1,0 +1,28 @@
+-- WHAT `journal --next` DOES: the part of a journal ends, and the next one is begun where it ends.
+use Rattle.std.specs.Prelude.{◌≡◌, ◌⊎◌, ◌++◌, ℕ, List, Result, Ok, Err, String, codes, decimal}
+use Rattle.std.specs.Prelude.{string_bytes}
+use Rattle.std.specs.declared.alloc.Global.{Global}
+use Rattle.sqlite_disk.specs.declared.Disk as disk
+use Rattle.clr_args.specs.declared.asked.NextPartArgs.{NextPartArgs}
+use Rattle.clr_edge.specs.Beginning.{BeginsNextAt}
+use Rattle.clr_edge.specs.TakenUp.{Logs}
+use Rattle.clr_edge.specs.Visit.{Ending, Opening, Shutting}
+use Rattle.clr_edge.specs.declared.fault.Fault.{Fault}
+use Rattle.clr_edge.specs.declared.fault.Fault.TheVariants.{Memory}
+
+abbrev pub next_line : ℕ → List ℕ
+next_line number = codes "next part after " ++ (decimal number ++ codes "\n")
+
+-- what is printed once the next part is begun, or why it is not; memory may also run out after it
+abbrev pub PrintsNext : Result ℕ Fault → Result (String Global) Fault → Type 0
+PrintsNext (Ok number) (Ok text) = string_bytes text ≡ next_line number
+PrintsNext (Ok number) (Err fault) = fault ≡ Memory
+PrintsNext (Err fault) (Ok text) = ⊥
+PrintsNext (Err fault) (Err told) = told ≡ fault
+
+abbrev pub BeginsNext : {M D J C : Type 0} → Logs M J C → (g : disk.Ghosts D) → Opening M D
+    → Shutting M → Ending M D → NextPartArgs → Result (String Global) Fault → M → M → Type 0
+BeginsNext logs g opens shuts ends args result old new = (told : Result ℕ Fault)
+    × PrintsNext told result
+    × BeginsNextAt logs g opens shuts ends args.database.now args.path.now args.next.now told
+    old new

@@ -1,4 +1,0 @@
-pub mod Accepting
-pub mod Following
-pub mod Redoing
-pub mod Restarting
