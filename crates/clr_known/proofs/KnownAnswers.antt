@@ -27,18 +27,12 @@ use Rattle.clr_edge.specs.Files.{told_of}
 use Rattle.clr_edge.specs.declared.fault.ImportFile.TheVariants.{Points, Sections, Staff}
 use Rattle.clr_edge.specs.Database.{HasRegister, IsMade, IsOfLine, IsOfStore}
 use Rattle.clr_edge.specs.Fault.{of_store}
-use Rattle.clr_edge.specs.Journals.{IsOfRedo}
-use Rattle.clr_edge.specs.Keeping.{IsNotRead, Works, logged, logged_keeper, plain, plain_keeper}
-use Rattle.clr_edge.specs.TakenUp.{IsNotTakenUp, Logs}
-use Rattle.clr_journal.specs.Line.{Entry}
-use Rattle.clr_journaled.specs.Journaling.{FailsToo}
-use Rattle.clr_journaled.specs.Redo.{IsRead, redone_by}
-use Rattle.clr_journaled.specs.declared.journaled.Journaled.{Journaled}
+use Rattle.clr_edge.specs.Keeping.{IsNotReadAlone, Works, plain_keeper, unlogged}
+use Rattle.clr_edge.specs.TakenUp.{Logs}
 use Rattle.clr_edge.specs.Visit.{Alone, Comes, Done, Ending, IsLeft, MakesRegister, MovesRegister, Opening, Over, Shutting, Visits, both}
 use Rattle.clr_edge.specs.declared.fault.Fault.{Fault}
 use Rattle.clr_edge.specs.declared.fault.Fault.TheVariants.{Journal, Memory}
-use Rattle.clr_edge.specs.declared.fault.JournalFault.TheVariants.{OpenFailed}
-use Rattle.clr_edge.specs.declared.journals.Journals as journals
+use Rattle.clr_edge.specs.declared.fault.JournalFault.TheVariants.{Missing}
 use Rattle.clr_commands.specs.Answers.{Gives}
 use Rattle.clr_commands.specs.Import.{AreRead, Contents, FileRows, IsUnreadFile, rows_of}
 use Rattle.clr_commands.specs.Init.{Stores, counts_of}
@@ -46,7 +40,7 @@ use Rattle.clr_commands.specs.Migrate.{Migrates, PrintsMoved}
 use Rattle.clr_commands.specs.Replies.{AnswersInput}
 use Rattle.clr_commands.specs.Run.{IsOfInput, IsOpeningOf, RunsAlone, RunsOver, printed_after}
 use Rattle.clr_commands.specs.declared.replies.Printed.{Printed}
-use Rattle.clr_known.specs.Known.{IsAlwaysClean, IsLoggedRunOfJones, IsRunOfJones, IsVersionTwo, KnowsJones, StoresWorked}
+use Rattle.clr_known.specs.Known.{IsAlwaysClean, IsRunOfJones, IsVersionTwo, KnowsJones, StoresWorked}
 use Rattle.clr_known.specs.Known.{jones_register, point_file, section_file, staff_file, worked_counts}
 use Rattle.clr_known.proofs.WorkedRows.{file_sections, file_staff, is_worked_net, is_worked_staff, points_read, sections_read, staff_read}
 
@@ -104,12 +98,7 @@ still_given : (input : List ℕ) (printed : Result Printed Fault) (closed : Done
 still_given input (Ok printed) closed runs = runs
 still_given input (Err fault) closed runs = runs
 
-still_logged : (input : List ℕ) (printed : Result Printed Fault) (closed : Done) → IsLoggedRunOfJones input printed
-    → IsLoggedRunOfJones input (printed_after printed closed)
-still_logged input (Ok printed) closed runs = runs
-still_logged input (Err fault) closed runs = runs
-
--- ---- why a register is not taken up with its journal
+-- ---- why a register is not taken up
 store_told : (cause : StoreFault) → IsOfStore (of_store cause)
 store_told store.Sql = inr (store.Sql, refl)
 store_told (store.WrongVersion n) = inr (store.WrongVersion n, refl)
@@ -120,18 +109,6 @@ store_told store.NoMemory = inl refl
 line_of_store : (fault : Fault) → IsOfLine fault → IsOfStore fault
 line_of_store fault (inl memory) = inl memory
 line_of_store fault (inr refused) = inr (store.Sql, refused)
-
-redo_refused : (input : List ℕ) (fault : Fault) → IsOfRedo fault → IsOfStore fault ⊎ (fault ≡ Journal OpenFailed) ⊎ IsOfInput (Some input) fault
-redo_refused input fault (inl line) = inl (line_of_store fault line)
-redo_refused input fault (inr shut) = inr (inl shut)
-
-not_taken_up : {M J C D : Type 0} {g : disk.Ghosts D} (at : journals.Ghosts M J C) (path input : List ℕ) (old new : M) (before after : Over g) (fault : Fault)
-    → IsNotTakenUp over_files at path before fault after old new → IsOfStore fault ⊎ (fault ≡ Journal OpenFailed) ⊎ IsOfInput (Some input) fault
-not_taken_up at path input old new before after fault (inl (refused, survives, same)) =
-    inl (subst (λ (f : Fault). IsOfStore f) (sym refused.told_is) (store_told refused.fault))
-not_taken_up at path input old new before after fault (inr (inl (inl memory, read, shut))) = inl (inl memory)
-not_taken_up at path input old new before after fault (inr (inl (inr failed, read, shut))) = inr (inl failed)
-not_taken_up at path input old new before after fault (inr (inr it)) = redo_refused input fault it.of
 
 -- what is read of files that are the worked ones
 pub known_read : (s p e : Option (List ℕ)) → s ≡ Some section_file → p ≡ Some point_file → e ≡ Some staff_file
@@ -173,18 +150,25 @@ module _ {D : Type 0} (g : disk.Ghosts D) (clean : IsAlwaysClean g) where
         (moved_line moves.told visit.closed (moves.known jones_register (knows _ _ _ _ visit.opened) (clean visit.after))
         (closing_line visit.after files visit.closed left))) prints
 
+    not_taken_up : (input : List ℕ) (before after : Over g) (fault : Fault) → HasRegister over_files jones_register before
+        → IsNotReadAlone over_files before fault after → IsOfStore fault ⊎ (fault ≡ Journal Missing) ⊎ IsOfInput (Some input) fault
+    not_taken_up input before after fault has (inl refused) = inl (line_of_store fault (refused.known _ has (clean after)))
+    not_taken_up input before after fault has (inr (inl unplaced)) =
+        inl (subst (λ (f : Fault). IsOfStore f) (sym unplaced.lacks.fault_is) (store_told unplaced.lacks.cause))
+    not_taken_up input before after fault has (inr (inr misses)) = inr (inl misses.fault_is)
+
     ran_given : (input : List ℕ) (printed : Result Printed Fault) (old new : M) (before after : Over g) → HasRegister over_files jones_register before
-        → (IsErrAnd printed (λ fault. (new ≡ old) × IsNotRead over_files before fault after) × Unit {0})
-        ⊎ Works (plain over_files) (RunsAlone (Some input) (Over g) (plain_keeper over_files) printed) old new before after → IsRunOfJones input printed
+        → (IsErrAnd printed (λ fault. (new ≡ old) × IsNotReadAlone over_files before fault after) × Unit {0})
+        ⊎ Works (unlogged over_files) (RunsAlone (Some input) (Over g) (plain_keeper over_files) printed) old new before after → IsRunOfJones input printed
     ran_given input (Ok printed) old new before after has (inl refused) = absurd refused.0
-    ran_given input (Err fault) old new before after has (inl refused) = inl (refused.0.1.known _ has (clean after))
-    ran_given input (Err fault) old new before after has (inr it) = inr it.did.1.answer
+    ran_given input (Err fault) old new before after has (inl refused) = not_taken_up input before after fault has refused.0.1
+    ran_given input (Err fault) old new before after has (inr it) = inr (inr it.did.1.answer)
     ran_given input (Ok printed) old new before after has (inr it) =
         let (bytes, is_input, answers, put) = it.did.1.answer in (
           it.left.book.register,
           answers.told,
           printed,
-          subst (λ (S : Register). AnswersInput FailsAsStore S it.left.book.register input answers.told printed) (it.taken_up.1.is_register _ has (clean it.taken.store))
+          subst (λ (S : Register). AnswersInput FailsAsStore S it.left.book.register input answers.told printed) (it.taken_up.1.0.is_register _ has (clean it.taken.store))
               (subst (λ (b : List ℕ). AnswersInput FailsAsStore it.taken.book.register it.left.book.register b answers.told printed) is_input.0 answers.run),
           refl,
         )
@@ -195,51 +179,12 @@ module _ {D : Type 0} (g : disk.Ghosts D) (clean : IsAlwaysClean g) where
         → IfSome input (λ bytes. IsRunOfJones bytes result)
     run_given logs knows path None result old new comes = tt
     run_given logs knows path (Some bytes) result old new (inl (fault, is, of_line, shut)) =
-        subst (λ (r : Result Printed Fault). IsRunOfJones bytes r) (sym is) (inl of_line)
+        subst (λ (r : Result Printed Fault). IsRunOfJones bytes r) (sym is) (inl (line_of_store fault of_line))
     run_given logs knows path (Some bytes) result old new (inr visit) =
         let runs = visit.does in
         subst (λ (r : Result Printed Fault). IsRunOfJones bytes r) (sym runs.result_is)
         (still_given bytes runs.told visit.closed
         (ran_given bytes runs.told visit.middle visit.later visit.before visit.after (knows _ _ _ _ visit.opened) runs.works))
-
-    -- the same with a journal, which is new: no line of it is redone
-    module _ {J C : Type 0} (logs : Logs M J C)
-        (is_new : (old new : M) (path : List ℕ) (journal : J) (last : Option (List ℕ)) → logs.steps.opens_journal old path journal last new
-        → last ≡ None) where
-      logged_ran : (journal input : List ℕ) (printed : Result Printed Fault) (old new : M) (before after : Over g) → HasRegister over_files jones_register before
-          → (IsErrAnd printed (λ fault. IsNotTakenUp over_files logs.steps journal before fault after old new) × Unit {0})
-          ⊎ Works (logged over_files logs journal) (RunsAlone (Some input) (Journaled (Over g) J C) (logged_keeper over_files logs) printed) old new before after
-          → IsLoggedRunOfJones input printed
-      logged_ran journal input (Err fault) old new before after has (inl refused) =
-          not_taken_up logs.steps journal input old new before after fault refused.0
-      logged_ran journal input (Err fault) old new before after has (inr it) = inr (inr it.did.1.answer)
-      logged_ran journal input (Ok printed) old new before after has (inl refused) = absurd refused.0
-      logged_ran journal input (Ok printed) old new before after has (inr it) =
-          let (bytes, is_input, answers, put) = it.did.1.answer in
-          let up = it.taken_up in
-          let unread : up.entry ≡ None =
-          subst (λ (last : Option (List ℕ)). IsRead last up.entry) (is_new _ _ _ _ _ up.journal.opened) up.journal.goes_on.read in
-          let register : it.taken.book.register ≡ jones_register =
-          up.register ∙ ap (λ (entry : Option Entry). redone_by entry up.kept.first) unread ∙ up.kept.is_register _ has (clean up.kept.opened) in (
-            it.left.book.register,
-            answers.told,
-            printed,
-            subst (λ (S : Register). AnswersInput (FailsToo FailsAsStore) S it.left.book.register input answers.told printed) register
-                (subst (λ (b : List ℕ). AnswersInput (FailsToo FailsAsStore) it.taken.book.register it.left.book.register b answers.told printed) is_input.0 answers.run),
-            refl,
-          )
-
-      pub logged_given : KnowsJones g opens → (path : List ℕ) (journal : Bor (List ℕ)) (input : Option (List ℕ)) (result : Result Printed Fault) (old new : M)
-          → Comes g opens shuts ends path (RunsOver logs over_files (Some journal) input) result old new
-          → IfSome input (λ bytes. IsLoggedRunOfJones bytes result)
-      logged_given knows path journal None result old new comes = tt
-      logged_given knows path journal (Some bytes) result old new (inl (fault, is, of_line, shut)) =
-          subst (λ (r : Result Printed Fault). IsLoggedRunOfJones bytes r) (sym is) (inl (line_of_store fault of_line))
-      logged_given knows path journal (Some bytes) result old new (inr visit) =
-          let runs = visit.does in
-          subst (λ (r : Result Printed Fault). IsLoggedRunOfJones bytes r) (sym runs.result_is)
-          (still_logged bytes runs.told visit.closed
-          (logged_ran journal.now bytes runs.told visit.middle visit.later visit.before visit.after (knows _ _ _ _ visit.opened) runs.works))
 
     stored_given : (path : List ℕ) (R : Register) (stored : Done) (old new : M) → R ≡ worked_opening → stored ≡ Ok tt
         → Comes g opens shuts ends path (Alone (MakesRegister over_files R)) stored old new

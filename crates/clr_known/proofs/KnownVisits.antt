@@ -17,11 +17,9 @@ use Rattle.clr_commands.specs.declared.serve.Terms.{Terms}
 use Rattle.clr_edge.specs.Database.{HasRegister, IsOfLine}
 use Rattle.clr_edge.specs.Visit.{Comes, Done, Ending, Opening, Over, Shutting, both}
 use Rattle.clr_edge.specs.declared.fault.Fault.{Fault}
-use Rattle.clr_edge.specs.Keeping.{IsNotRead, Works, logged, logged_keeper, plain, plain_keeper}
-use Rattle.clr_edge.specs.TakenUp.{IsNotTakenUp, Logs}
+use Rattle.clr_edge.specs.Keeping.{IsNotReadAlone, Works, plain_keeper, unlogged}
+use Rattle.clr_edge.specs.TakenUp.{Logs}
 use Rattle.clr_edge.specs.declared.loopback.Loopback as loopback
-use Rattle.clr_journal.specs.Line.{Entry}
-use Rattle.clr_journaled.specs.Redo.{IsRead, redone_by}
 use Rattle.clr_commands.specs.Answers.{GivesText, Prints}
 use Rattle.clr_commands.specs.Connections.{ReportsConnection, Seen, TakesFirst, TakesNext}
 use Rattle.clr_commands.specs.Desks.{desk_keeps}
@@ -72,7 +70,7 @@ module _ {M D : Type 0} (g : disk.Ghosts D) (clean : IsAlwaysClean g)
       told (Err fault) prints = λ other. (prints other).0
 
   module _ {L R W J C : Type 0} (logs : Logs M J C) (net : loopback.Ghosts M L R W) (seen : Seen R W) (response : M → List ℕ)
-      (asked : IsAskedForBoard ends logs.steps net seen response) where
+      (asked : IsAskedForBoard ends net seen response) where
     module _ {X : Type 0} (by : registrar.Ghosts X) where
       -- of a connection that was answered the response is kept
       answered : (port : ℕ) (k k' : X) (l : L) (reported : Stream) (old new : M) → (by.keeper k).register ≡ jones_register
@@ -105,31 +103,15 @@ module _ {M D : Type 0} (g : disk.Ghosts D) (clean : IsAlwaysClean g)
           (subst (λ (t : Terms). TakesFirst by net seen t listener t.count first last errors errors' middle new) once.terms takes)))
 
       served_so : (served : Done) (old new : M) (before after : Over g) → HasRegister over_files jones_register before
-          → (IsErrAnd served (λ fault. (new ≡ old) × IsNotRead over_files before fault after) × ((output' ≡ output) × (errors' ≡ errors)))
-          ⊎ Works (plain over_files) (ServesDesk net seen args None output output' errors errors' (plain_keeper over_files) served) old new before after
+          → (IsErrAnd served (λ fault. (new ≡ old) × IsNotReadAlone over_files before fault after) × ((output' ≡ output) × (errors' ≡ errors)))
+          ⊎ Works (unlogged over_files) (ServesDesk net seen args None output output' errors errors' (plain_keeper over_files) served) old new before after
           → OnOk served (IsBoardResponse (response new))
       served_so (Err fault) old new before after has over = tt
       served_so (Ok value) old new before after has (inl refused) = absurd refused.0
       served_so (Ok value) old new before after has (inr it) =
           subst (λ (m : M). IsBoardResponse (response m)) (sym it.gone.0)
-          (kept_so (desk_keeps (plain_keeper over_files)) it.taken it.left value it.between it.later (it.taken_up.1.is_register _ has (clean it.taken.store)) it.good
+          (kept_so (desk_keeps (plain_keeper over_files)) it.taken it.left value it.between it.later (it.taken_up.1.0.is_register _ has (clean it.taken.store)) it.good
           it.did.serves)
-
-      -- the same with a journal, which is new: no line of it is redone
-      logged_so : (journal : List ℕ) (served : Done) (old new : M) (before after : Over g) → HasRegister over_files jones_register before
-          → (IsErrAnd served (λ fault. IsNotTakenUp over_files logs.steps journal before fault after old new) × ((output' ≡ output) × (errors' ≡ errors)))
-          ⊎ Works (logged over_files logs journal) (ServesDesk net seen args None output output' errors errors' (logged_keeper over_files logs) served) old new before after
-          → OnOk served (IsBoardResponse (response new))
-      logged_so journal (Err fault) old new before after has over = tt
-      logged_so journal (Ok value) old new before after has (inl refused) = absurd refused.0
-      logged_so journal (Ok value) old new before after has (inr it) =
-          let up = it.taken_up in
-          let unread : up.entry ≡ None =
-          subst (λ (last : Option (List ℕ)). IsRead last up.entry) (asked.logged _ _ _ _ _ up.journal.opened) up.journal.goes_on.read in
-          let register : it.taken.book.register ≡ jones_register =
-          up.register ∙ ap (λ (entry : Option Entry). redone_by entry up.kept.first) unread ∙ up.kept.is_register _ has (clean up.kept.opened) in
-          subst (λ (bytes : List ℕ). IsBoardResponse bytes) (sym (asked.gone _ _ _ it.gone.0))
-          (kept_so (desk_keeps (logged_keeper over_files logs)) it.taken it.left value it.between it.later register it.good it.did.serves)
 
       -- the database is closed after it, which sends nothing
       closed_so : (result served closed : Done) (files : Files D) (later new : M) → result ≡ both served closed → ends later files new
@@ -141,19 +123,14 @@ module _ {M D : Type 0} (g : disk.Ghosts D) (clean : IsAlwaysClean g)
       no_visit : (result : Done) (fault : Fault) (P : Type 0) → result ≡ Err fault → OnOk result P
       no_visit result fault P is = subst (λ (r : Done). OnOk r P) (sym is) tt
 
-      kept : (journal : Option (Bor (List ℕ))) (path : List ℕ) (result : Done) (old new : M)
-          → ServesKept net seen args None output output' errors errors' logs g opens shuts ends journal path result old new
+      kept : (path : List ℕ) (result : Done) (old new : M)
+          → ServesKept net seen args None output output' errors errors' logs g opens shuts ends None path result old new
           → OnOk result (IsBoardResponse (response new))
-      kept None path result old new (inl (fault, is, of_line, shut)) = no_visit result fault _ is
-      kept None path result old new (inr visit) =
+      kept path result old new (inl (fault, is, of_line, shut)) = no_visit result fault _ is
+      kept path result old new (inr visit) =
           let stored = visit.does in
           closed_so result stored.told visit.closed visit.ended.0 visit.later new stored.result_is visit.ended.2
           (served_so stored.told visit.middle visit.later visit.before visit.after (knows _ _ _ _ visit.opened) stored.works)
-      kept (Some journal) path result old new (inl (fault, is, of_line, shut)) = no_visit result fault _ is
-      kept (Some journal) path result old new (inr visit) =
-          let stored = visit.does in
-          closed_so result stored.told visit.closed visit.ended.0 visit.later new stored.result_is visit.ended.2
-          (logged_so journal.now stored.told visit.middle visit.later visit.before visit.after (knows _ _ _ _ visit.opened) stored.works)
 
       -- what goes out is the response to the request for the board
       pub service_given : (result : Done) (old new : M)
@@ -161,6 +138,9 @@ module _ {M D : Type 0} (g : disk.Ghosts D) (clean : IsAlwaysClean g)
           → OnOk result (IsBoardResponse (response new))
       service_given result old new (read, names, serves) =
           let none : read ≡ Ok None = subst (λ (path : Option (Bor (List ℕ))). NamesLogins at path read) once.no_logins names in
-          kept args.journal args.database.now result old new
-          (subst (λ (r : Result (Option (List LoginRow)) Fault).
-          ServesRead logs net seen at args output output' errors errors' g opens shuts ends r result old new) none serves)
+          let kept_by : ServesKept net seen args None output output' errors errors' logs g opens shuts ends args.journal args.database.now result old new =
+          subst (λ (r : Result (Option (List LoginRow)) Fault).
+          ServesRead logs net seen at args output output' errors errors' g opens shuts ends r result old new) none serves in
+          kept args.database.now result old new
+          (subst (λ (journal : Option (Bor (List ℕ))).
+          ServesKept net seen args None output output' errors errors' logs g opens shuts ends journal args.database.now result old new) once.no_journal kept_by)

@@ -5,7 +5,5 @@ pub mod BoardServed
 pub mod KnownVisits
 pub mod KnownAnswers
 pub mod FilesAlone
-pub mod JonesJournal
-pub mod Verified
 pub mod OldTables
 pub mod OldMoved

@@ -25,10 +25,9 @@ use Rattle.clr_edge.specs.Fault.{of_store}
 use Rattle.clr_edge.specs.Visit.{Alone, Comes, Done, Ending, MovesRegister, Opening, Over, Shutting, Visits, both}
 use Rattle.clr_edge.specs.declared.fault.Fault.{Fault}
 use Rattle.clr_commands.specs.Migrate.{Migrates, PrintsMoved}
-use Rattle.clr_known.specs.JonesJournal.{jones_commands}
 use Rattle.clr_known.specs.Known.{IsAlwaysClean, IsVersionTwo, jones_register}
 use Rattle.clr_known.specs.OldTables.{HasOldJones, KnowsOldJones, MovesJones, first_step_tables}
-use Rattle.clr_known.proofs.JonesJournal.{lines_ask}
+use Rattle.clr_known.proofs.JonesRegister.{jones_commands, lines_ask}
 use Rattle.clr_known.proofs.KnownAnswers.{closing_line, moved_line}
 use Rattle.clr_known.proofs.OldTables.{tables_are}
 

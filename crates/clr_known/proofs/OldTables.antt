@@ -39,10 +39,9 @@ use Rattle.clr_store.proofs.Creating.{empty_rows}
 use Rattle.clr_store.proofs.Effects.{Wrote, inserts, next_row}
 use Rattle.clr_store.proofs.Inside.{in_any_order, put_in}
 use Rattle.clr_store.proofs.Layouts.{all_at, apart, named_at}
-use Rattle.clr_known.specs.JonesJournal.{jones_commands}
 use Rattle.clr_known.specs.Known.{jones_register}
 use Rattle.clr_known.specs.OldTables.{Fills, FillsBy, HasOldJones, first_step_tables, with_one, with_tables}
-use Rattle.clr_known.proofs.JonesJournal.{lines_ask}
+use Rattle.clr_known.proofs.JonesRegister.{jones_commands, lines_ask}
 
 -- ---- one row
 has_all : (name : TableName) → has_table AsMovedLogged name ≡ true

@@ -1,6 +1,5 @@
--- A disk in memory returns what was written to it, so each connection over such disks is clean, and
--- so is the disk of a journal.
-use Rattle.std.specs.Prelude.{IsTrue, refl}
+-- A disk in memory returns what was written to it, so each connection over such disks is clean.
+use Rattle.std.specs.Prelude.{refl}
 use Rattle.sqlite.specs.Files.{over_files}
 use Rattle.sqlite.specs.Held.{Held, state}
 use Rattle.sqlite.specs.State.{HasCleanDisk}
@@ -13,6 +12,3 @@ use Rattle.sqlite_trees.specs.View.{doubt}
 pub always_clean : (after : Held (FileStore Memory memory.ghosts)) → HasCleanDisk (state over_files after)
 unfolding pool.state doubt
 always_clean after = refl
-
-pub always_clean_disk : (it : Memory) → IsTrue (memory.ghosts.is_clean it)
-always_clean_disk it = refl

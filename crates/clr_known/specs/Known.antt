@@ -23,7 +23,6 @@ use Rattle.clr_text.specs.Lines.{commands_in}
 use Rattle.clr_tables.specs.Tables.{tables_of}
 use Rattle.clr_load.specs.Stored.{HasTables}
 use Rattle.clr_desk.specs.Faults.{FailsAsStore}
-use Rattle.clr_journaled.specs.Journaling.{FailsToo}
 use Rattle.clr_http.specs.Answered.{Source}
 use Rattle.clr_http.specs.Options.{plain}
 use Rattle.clr_http.specs.Response.{json, printed, response_bytes}
@@ -32,14 +31,11 @@ use Rattle.clr_edge.specs.Database.{HasRegister, IsOfLine, IsOfStore}
 use Rattle.clr_edge.specs.Visit.{Done, Ending, Opening, Over, Visits}
 use Rattle.clr_edge.specs.declared.fault.Fault.{Fault}
 use Rattle.clr_edge.specs.declared.fault.Fault.TheVariants.{Journal}
-use Rattle.clr_edge.specs.declared.fault.JournalFault.TheVariants.{OpenFailed}
-use Rattle.clr_edge.specs.declared.journals.Journals as journals
+use Rattle.clr_edge.specs.declared.fault.JournalFault.TheVariants.{Missing}
 use Rattle.clr_edge.specs.declared.loopback.Connection.{Connection}
 use Rattle.clr_edge.specs.declared.loopback.Loopback as loopback
 use Rattle.clr_commands.specs.Answers.{GivesText}
 use Rattle.clr_commands.specs.Connections.{Seen}
-use Rattle.clr_commands.specs.Files.{IsUnread}
-use Rattle.clr_commands.specs.Import.{IsUnreadFile}
 use Rattle.clr_commands.specs.Logins.{terms_with}
 use Rattle.clr_commands.specs.Migrate.{version_line}
 use Rattle.clr_commands.specs.Order.{order_told}
@@ -48,7 +44,6 @@ use Rattle.clr_commands.specs.Run.{IsOfInput}
 use Rattle.clr_commands.specs.WayBack.{way_back_to}
 use Rattle.clr_commands.specs.declared.replies.Printed.{Printed}
 use Rattle.clr_commands.specs.declared.serve.Terms.{Terms}
-use Rattle.clr_known.specs.JonesJournal.{jones_journal, jones_log, jones_run, jones_verified}
 
 -- ---- the register
 
@@ -81,14 +76,9 @@ IsAlwaysClean g = (c : Over g) → HasCleanDisk (state over_files c)
 abbrev pub board_request : List ℕ
 board_request = codes "GET /board HTTP/1.1\r\n\r\n"
 
--- IT IS ASKED FOR THE BOARD over each connection, and keeps what went out over the last one. Each
--- journal that it opens is new
-pub record IsAskedForBoard {M D L R W J C : Type 0} (ends : Ending M D) (at : journals.Ghosts M J C)
-    (net : loopback.Ghosts M L R W) (seen : Seen R W) (response : M → List ℕ) : Type 0 where
-  pub logged : (old new : M) (path : List ℕ) (journal : J) (last : Option (List ℕ))
-      → at.opens_journal old path journal last new → last ≡ None
-  pub gone : (old new : M) (journal : J) → at.lets_journal_go old journal new
-      → response new ≡ response old
+-- IT IS ASKED FOR THE BOARD over each connection, and keeps what went out over the last one
+pub record IsAskedForBoard {M D L R W : Type 0} (ends : Ending M D) (net : loopback.Ghosts M L R W)
+    (seen : Seen R W) (response : M → List ℕ) : Type 0 where
   pub comes : (old new : M) (l : L) (deadline : Option ℕ) (c : Connection R W)
       → net.comes old l deadline c new
       → (Source.remaining (seen.source c.reader) ≡ Some board_request)
@@ -119,16 +109,11 @@ abbrev pub staff_file : List ℕ
 staff_file =
     codes "employee,role,supervisor\nOPS,operator,\nREED,field,\nDALE,field,\nJONES,charge,BOSS\nKIM,charge,\nBOSS,charge,\n"
 
--- they are at these paths, and so is the journal of JONES/1
+-- they are at these paths
 pub record HasWorkedFiles (bytes_at : List ℕ → Option (List ℕ)) : Type 0 where
   pub sections : bytes_at (codes "sections.csv") ≡ Some section_file
   pub points : bytes_at (codes "points.csv") ≡ Some point_file
   pub staff : bytes_at (codes "staff.csv") ≡ Some staff_file
-  pub journal : bytes_at (codes "jones.journal") ≡ Some jones_journal
-
--- a file or the database could not be had, or memory ran out
-abbrev pub IsNotHad : Fault → Type 0
-IsNotHad fault = IsUnreadFile fault ⊎ IsUnread fault ⊎ IsOfLine fault
 
 -- ---- what goes out of a server
 
@@ -136,8 +121,9 @@ IsNotHad fault = IsUnreadFile fault ⊎ IsUnread fault ⊎ IsOfLine fault
 abbrev pub once_at : ℕ → Terms
 once_at port = record { port = port; count = 1; deadline = None; service = plain }
 
--- such a server is asked for, with a journal or without one
+-- such a server is asked for, without a journal
 pub record ServesOnce (args : ServeArgs) : Type 0 where
+  pub no_journal : args.journal ≡ None
   pub no_logins : args.logins ≡ None
   pub terms : terms_with args None ≡ once_at args.port
 
@@ -157,20 +143,15 @@ abbrev pub IsVersionTwo : Result (String Global) Fault → Type 0
 IsVersionTwo (Ok text) = string_bytes text ≡ version_line
 IsVersionTwo (Err fault) = IsOfLine fault
 
--- WHAT A RUN PRINTS FOR AN INPUT over the register, also where its database was not closed
+-- WHAT A RUN PRINTS FOR AN INPUT over the register, also where its database was not closed; or why
+-- nothing: the database is at fault, or has the place of a journal, none of which was named; the
+-- input is at fault; or memory ran out
 abbrev pub IsRunOfJones : List ℕ → Result Printed Fault → Type 0
 IsRunOfJones input (Ok given) = (left : Register) × (told : List Reply) × (whole : Printed)
     × AnswersInput FailsAsStore jones_register left input told whole
     × (given.text ≡ whole.text)
-IsRunOfJones input (Err fault) = IsOfLine fault ⊎ IsOfInput (Some input) fault
-
--- the same of a run with a journal that is new, which may not open
-abbrev pub IsLoggedRunOfJones : List ℕ → Result Printed Fault → Type 0
-IsLoggedRunOfJones input (Ok given) = (left : Register) × (told : List Reply) × (whole : Printed)
-    × AnswersInput (FailsToo FailsAsStore) jones_register left input told whole
-    × (given.text ≡ whole.text)
-IsLoggedRunOfJones input (Err fault) =
-    IsOfStore fault ⊎ (fault ≡ Journal OpenFailed) ⊎ IsOfInput (Some input) fault
+IsRunOfJones input (Err fault) =
+    IsOfStore fault ⊎ (fault ≡ Journal Missing) ⊎ IsOfInput (Some input) fault
 
 -- the line of counts of the worked files
 abbrev pub worked_counts : List ℕ
@@ -185,9 +166,9 @@ StoresWorked {M} g makes ends path result old new = IfOk result (λ text.
     × Visits g makes ends path (λ (middle : M) before after (closed : Done) (later : M).
     HasTables (state over_files after).now (tables_of worked_opening)) old new)
 
--- WHAT THEY ANSWER of that register and its journal, and of an input whose bytes may be known
+-- WHAT THEY ANSWER of that register, and of an input whose bytes may be known
 pub record AreAnswers (input : Option (List ℕ))
-    (board order way_back moved made verified logged commands : Result (String Global) Fault)
+    (board order way_back moved made : Result (String Global) Fault)
     (ran : Result Printed Fault) : Type 0 where
   pub board_is : GivesText IsOfLine (Ok (board_text jones_register (pos 0))) board
   pub order_is : GivesText IsOfLine
@@ -196,7 +177,4 @@ pub record AreAnswers (input : Option (List ℕ))
       (way_back_to jones_register (read_id (codes "JONES/1"))) way_back
   pub moved_is : IsVersionTwo moved
   pub made_is : IfOk made (λ text. string_bytes text ≡ worked_counts)
-  pub verified_is : GivesText IsNotHad (Ok jones_verified) verified
-  pub logged_is : GivesText IsUnread (Ok jones_log) logged
-  pub commands_are : GivesText IsUnread (Ok jones_run) commands
   pub ran_is : IfSome input (λ bytes. IsRunOfJones bytes ran)

@@ -1,5 +1,4 @@
 pub mod Clean
 pub mod FilesAlone
-pub mod JonesJournal
 pub mod Known
 pub mod OldTables

@@ -6,36 +6,31 @@ ghost use Rattle.clr_edge.specs.Database.{IsOfLine};
 ghost use Rattle.clr_print.specs.Printed.{board_text};
 ghost use Rattle.clr_rules.specs.IdText.{read_id};
 ghost use Rattle.clr_commands.specs.Answers.{GivesText};
-ghost use Rattle.clr_commands.specs.Files.{IsUnread};
 ghost use Rattle.clr_commands.specs.Order.{order_told};
 ghost use Rattle.clr_commands.specs.WayBack.{way_back_to};
-ghost use Rattle.clr_known.specs.JonesJournal.{jones_log, jones_run, jones_verified};
-ghost use Rattle.clr_known.specs.Known.{AreAnswers, HasWorkedFiles, IsLoggedRunOfJones, IsNotHad};
-ghost use Rattle.clr_known.specs.Known.{IsRunOfJones, IsVersionTwo, StoresWorked, jones_register};
+ghost use Rattle.clr_known.specs.Known.{AreAnswers, HasWorkedFiles, IsRunOfJones, IsVersionTwo};
+ghost use Rattle.clr_known.specs.Known.{StoresWorked, jones_register};
 
 use crate::databases::{POINTS, SECTIONS, STAFF};
-use crate::files::{JOURNAL, KnownFiles};
+use crate::files::KnownFiles;
 use crate::machine::Known;
 use crate::visits::JonesMachine;
 use clr_args::asked::{
-    BoardArgs, Files, InitArgs, JournalArgs, Offset, OrderArgs, StoredArgs, VerifyArgs, WayBackArgs,
+    BoardArgs, Files, InitArgs, MigrateArgs, Offset, OrderArgs, StoredArgs, WayBackArgs,
 };
 use clr_commands::board::board;
 use clr_commands::init::init;
-use clr_commands::journal::journal;
 use clr_commands::migrate::migrate;
 use clr_commands::order::order;
 use clr_commands::replies::Printed;
 use clr_commands::run::run_stored;
-use clr_commands::verify::verify;
 use clr_commands::wayback::wayback;
 use clr_edge::fault::Fault;
 use clr_edge::paths::Opens;
 use clr_stream::{Counted, CountedRead};
 use std::alloc::Global;
 
-/// What the subcommands answer of the register at `jones.db` and of its journal, and `init` of the
-/// worked files.
+/// What the subcommands answer of the register at `jones.db`, and `init` of the worked files.
 #[derive(Drop)]
 pub struct Answers {
     pub board: Result<String, Fault>,
@@ -44,9 +39,6 @@ pub struct Answers {
     pub moved: Result<String, Fault>,
     pub ran: Result<Printed, Fault>,
     pub made: Result<String, Fault>,
-    pub verified: Result<String, Fault>,
-    pub logged: Result<String, Fault>,
-    pub commands: Result<String, Fault>,
 }
 
 /// The board.
@@ -90,7 +82,11 @@ fn way_back_of_jones<R: JonesMachine>(alloc: Global, machine: &mut R) -> Result<
 fn move_of_jones<R: JonesMachine>(alloc: Global, machine: &mut R) -> Result<String, Fault>
     ensures { IsVersionTwo result }
 {
-    migrate(alloc, machine, "jones.db")
+    let args = MigrateArgs {
+        database: "jones.db",
+        journal: None,
+    };
+    migrate(alloc, machine, &args)
 }
 
 /// The replies to an input.
@@ -108,28 +104,6 @@ fn run_of_jones<R: JonesMachine, I: CountedRead>(
     run_stored(alloc, machine, &args, input)
 }
 
-/// The replies to an input, of which each command has its line in a journal first.
-fn logged_run_of_jones<R: JonesMachine, I: CountedRead>(
-    alloc: Global,
-    machine: &mut R,
-    input: &mut I,
-) -> Result<Printed, Fault>
-    ensures { IfSome (I.remaining input.old) (λ bytes. IsLoggedRunOfJones bytes result) }
-{
-    let args = StoredArgs {
-        database: "jones.db",
-        journal: Some("journal"),
-    };
-    run_stored(alloc, machine, &args, input)
-}
-
-/// The same of the machine in memory.
-pub fn known_logged_run(machine: &mut Known, input: &mut Counted<&[u8]>) -> Result<Printed, Fault>
-    ensures { IsLoggedRunOfJones (counted_inner input.old).now result }
-{
-    logged_run_of_jones(machine.alloc, machine, input)
-}
-
 /// The register of the worked files, made in a database of its own.
 fn made_of_files<'a, R: JonesMachine, O: Opens<'a>>(
     alloc: Global,
@@ -145,61 +119,15 @@ fn made_of_files<'a, R: JonesMachine, O: Opens<'a>>(
         points: "points.csv",
         staff: "staff.csv",
     };
+    let stored = StoredArgs {
+        database: "new.db",
+        journal: None,
+    };
     let args = InitArgs {
         files,
-        database: Some("new.db"),
+        stored: Some(stored),
     };
     init(alloc, machine, paths, &args)
-}
-
-/// The register beside what its journal leaves of the worked files.
-fn verify_of_jones<'a, R: JonesMachine, O: Opens<'a>>(
-    alloc: Global,
-    machine: &mut R,
-    paths: &O,
-) -> Result<String, Fault>
-    requires { HasWorkedFiles (O.bytes_at paths.now) }
-    ensures { GivesText IsNotHad (Ok jones_verified) result }
-{
-    let files = Files {
-        sections: "sections.csv",
-        points: "points.csv",
-        staff: "staff.csv",
-    };
-    let args = VerifyArgs {
-        database: "jones.db",
-        journal: "jones.journal",
-        files,
-    };
-    verify(alloc, machine, paths, &args)
-}
-
-/// The switching log of its journal.
-fn log_of_jones<'a, O: Opens<'a>>(alloc: Global, paths: &O) -> Result<String, Fault>
-    requires { HasWorkedFiles (O.bytes_at paths.now) }
-    ensures { GivesText IsUnread (Ok jones_log) result }
-{
-    let args = JournalArgs {
-        path: "jones.journal",
-        clearance: None,
-        offset: Offset { minutes: 0 },
-        commands: false,
-    };
-    journal(alloc, paths, &args)
-}
-
-/// The commands of its journal that were carried out.
-fn commands_of_jones<'a, O: Opens<'a>>(alloc: Global, paths: &O) -> Result<String, Fault>
-    requires { HasWorkedFiles (O.bytes_at paths.now) }
-    ensures { GivesText IsUnread (Ok jones_run) result }
-{
-    let args = JournalArgs {
-        path: "jones.journal",
-        clearance: None,
-        offset: Offset { minutes: 0 },
-        commands: true,
-    };
-    journal(alloc, paths, &args)
 }
 
 /// All of them, one after the other.
@@ -211,8 +139,7 @@ fn answers_of<'a, R: JonesMachine, O: Opens<'a>, I: CountedRead>(
 ) -> Answers
     requires { HasWorkedFiles (O.bytes_at paths.now) }
     ensures { AreAnswers (I.remaining input.old)
-        result.board result.order result.way_back result.moved result.made result.verified
-        result.logged result.commands result.ran }
+        result.board result.order result.way_back result.moved result.made result.ran }
 {
     let made = made_of_files(alloc, machine, paths);
     let board = board_of_jones(alloc, machine);
@@ -220,9 +147,6 @@ fn answers_of<'a, R: JonesMachine, O: Opens<'a>, I: CountedRead>(
     let way_back = way_back_of_jones(alloc, machine);
     let moved = move_of_jones(alloc, machine);
     let ran = run_of_jones(alloc, machine, input);
-    let verified = verify_of_jones(alloc, machine, paths);
-    let logged = log_of_jones(alloc, paths);
-    let commands = commands_of_jones(alloc, paths);
     Answers {
         board,
         order,
@@ -230,23 +154,18 @@ fn answers_of<'a, R: JonesMachine, O: Opens<'a>, I: CountedRead>(
         moved,
         ran,
         made,
-        verified,
-        logged,
-        commands,
     }
 }
 
 /// The same of the machine in memory, over the worked files.
 pub fn known_answers(machine: &mut Known, input: &mut Counted<&[u8]>) -> Answers
     ensures { AreAnswers (Some (counted_inner input.old).now)
-        result.board result.order result.way_back result.moved result.made result.verified
-        result.logged result.commands result.ran }
+        result.board result.order result.way_back result.moved result.made result.ran }
 {
     let files = [
         ("sections.csv", SECTIONS),
         ("points.csv", POINTS),
         ("staff.csv", STAFF),
-        ("jones.journal", JOURNAL),
     ];
     let paths = KnownFiles { all: &files };
     answers_of(machine.alloc, machine, &paths, input)

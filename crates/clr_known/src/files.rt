@@ -8,17 +8,6 @@ use std::alloc::{AllocError, Global};
 use std::io;
 use std::io::Read;
 
-/// The journal of JONES/1: its five commands, then a request of KIM that was withdrawn.
-pub const JOURNAL: &[u8] =
-    br#"{"command":{"at":100,"by":"JONES","do":"request","section":"L2"},"login":null,"number":1,"received":201,"reply":{"card":{"clearance":"JONES/1","done":0,"holder":"JONES","phase":"Requested","round":0,"steps":0},"reply":"accepted"}}
-{"command":{"at":101,"by":"OPS","clearance":"JONES/1","do":"order","points":["S2","S3"],"steps":["OPEN S2","OPEN S3","BLOCK S2","BLOCK S3","TAG S2","TAG S3"]},"login":null,"number":2,"received":202,"reply":{"card":{"clearance":"JONES/1","done":0,"holder":"JONES","phase":"Ordered","round":1,"steps":6},"reply":"accepted"}}
-{"command":{"at":102,"by":"OPS","clearance":"JONES/1","do":"instruct","step":1},"login":null,"number":3,"received":203,"reply":{"card":{"clearance":"JONES/1","done":0,"holder":"JONES","phase":"Ordered","round":1,"steps":6},"reply":"accepted"}}
-{"command":{"at":103,"by":"REED","clearance":"JONES/1","do":"repeat","step":1,"text":"OPEN S2"},"login":null,"number":4,"received":204,"reply":{"card":{"clearance":"JONES/1","done":0,"holder":"JONES","phase":"Ordered","round":1,"steps":6},"reply":"accepted"}}
-{"command":{"at":104,"by":"REED","clearance":"JONES/1","do":"report","done":true,"step":1},"login":null,"number":5,"received":205,"reply":{"card":{"clearance":"JONES/1","done":1,"holder":"JONES","phase":"Ordered","round":1,"steps":6},"reply":"accepted"}}
-{"command":{"at":105,"by":"KIM","do":"request","section":"L3"},"login":null,"number":6,"received":206,"reply":{"card":{"clearance":"KIM/1","done":0,"holder":"KIM","phase":"Requested","round":0,"steps":0},"reply":"accepted"}}
-{"number":6,"withdrawn":true}
-"#;
-
 /// A path, and what the file there has.
 pub type File<'f> = (&'f str, &'f [u8]);
 

@@ -9,7 +9,7 @@ ghost use Rattle.clr_known.specs.FilesAlone.{l2_fence, request_input, worked_reg
 ghost use Rattle.clr_known.specs.Known.{HasWorkedFiles, worked_counts};
 
 use crate::databases::{POINTS, SECTIONS, STAFF};
-use crate::files::{JOURNAL, KnownFiles};
+use crate::files::KnownFiles;
 use crate::machine::Known;
 use clr_args::asked::{FenceArgs, Files, InitArgs, RunArgs};
 use clr_commands::check::check;
@@ -80,7 +80,7 @@ fn regrets_of_files<'a, O: Opens<'a>>(alloc: Global, paths: &O) -> Result<String
 }
 
 /// How many rows they have, where no database is asked for.
-fn counts_of_files<'a, R: Makes, O: Opens<'a>>(
+fn counts_of_files<'a, R: Makes + Journals, O: Opens<'a>>(
     alloc: Global,
     machine: &mut R,
     paths: &O,
@@ -96,7 +96,7 @@ fn counts_of_files<'a, R: Makes, O: Opens<'a>>(
     };
     let args = InitArgs {
         files,
-        database: None,
+        stored: None,
     };
     init(alloc, machine, paths, &args)
 }
@@ -153,7 +153,6 @@ pub fn known_of_files(machine: &mut Known) -> OfFiles
         ("sections.csv", SECTIONS),
         ("points.csv", POINTS),
         ("staff.csv", STAFF),
-        ("jones.journal", JOURNAL),
     ];
     let paths = KnownFiles { all: &files };
     let mut input = Counted::new(REQUEST);

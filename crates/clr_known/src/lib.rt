@@ -15,7 +15,7 @@ mod old_tables;
 mod version_one;
 mod visits;
 
-pub use answers::{Answers, known_answers, known_logged_run};
+pub use answers::{Answers, known_answers};
 pub use files_alone::{OfFiles, known_of_files};
 pub use machine::Known;
 pub use version_one::{OldKnown, known_move};

@@ -9,9 +9,11 @@ ghost use Rattle.clr_known.specs.OldTables.{HasOldJones, KnowsOldJones, MovesJon
 
 use crate::databases::{empty_database, of_line};
 use crate::old_tables::make_old;
+use clr_args::asked::MigrateArgs;
 use clr_commands::migrate::migrate;
 use clr_edge::database::Databases;
 use clr_edge::fault::Fault;
+use clr_edge::journals::Journals;
 use clr_load::StoreFault;
 use sqlite::{Alter, Connection, FileStore};
 use sqlite_disk::{Files, Memory};
@@ -62,7 +64,7 @@ impl Databases for OldKnown {
 
 /// A machine whose databases have the register of JONES/1 in tables of version 1, and whose disks are
 /// clean.
-pub trait OldMachine: Databases {
+pub trait OldMachine: Databases + Journals {
     ghost knows: { KnowsOldJones Self.Medium.Disk Self.opens };
 
     ghost clean: { IsAlwaysClean Self.Medium.Disk };
@@ -82,7 +84,11 @@ fn move_of_old<R: OldMachine>(alloc: Global, machine: &mut R) -> Result<String, 
         machine.new }
     ensures printed { IsVersionTwo result }
 {
-    migrate(alloc, machine, "old.db")
+    let args = MigrateArgs {
+        database: "old.db",
+        journal: None,
+    };
+    migrate(alloc, machine, &args)
 }
 
 /// The same of the machine in memory.

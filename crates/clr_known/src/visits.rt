@@ -26,7 +26,7 @@ pub trait JonesMachine: Makes + Journals + Loopback {
 
     ghost clean: { IsAlwaysClean Self.Medium.Disk };
 
-    ghost asked: { IsAskedForBoard Self.ends Self.Journals Self.Loopback
+    ghost asked: { IsAskedForBoard Self.ends Self.Loopback
         (seen Self.Reader.remaining Self.Reader.failure_count Self.Writer.stream) response };
 }
 
@@ -42,17 +42,15 @@ impl JonesMachine for Known {
     ghost clean = { λ connection. always_clean connection };
 
     ghost asked = { record {
-      logged = λ old new path journal last begun. begun.1;
       comes = λ old new listener deadline connection came.
           (ap (λ (bytes : List ℕ). Some bytes) came.1, ap (λ (bytes : List ℕ). Some bytes) came.2);
       misses = λ old new listener tries kind missed. missed;
       keeps = λ old new connection is_expected left. ap (λ (m : AnyKnown). Some m.response.items) (sym left);
-      gone = λ old new journal let_go. ap (λ (m : AnyKnown). m.response.items) let_go;
       ended = λ old new files back. ap (λ (m : AnyKnown). m.response.items) back;
     } };
 }
 
-/// Answers one connection from the register at `jones.db`, with a journal or without one.
+/// Answers one connection from the register at `jones.db`, without a journal.
 fn service_of_jones<'a, R: JonesMachine, O: Opens<'a>, W: CountedFlush, E: CountedFlush>(
     alloc: Global,
     machine: &mut R,
@@ -72,7 +70,6 @@ fn service_of_jones<'a, R: JonesMachine, O: Opens<'a>, W: CountedFlush, E: Count
 /// for the board, unless a failure was reported.
 pub fn known_service<W: CountedFlush, E: CountedFlush>(
     machine: &mut Known,
-    journal: Option<&str>,
     output: &mut W,
     errors: &mut E,
 ) -> Result<(), Fault>
@@ -86,7 +83,7 @@ pub fn known_service<W: CountedFlush, E: CountedFlush>(
         deadline: None,
         desk: false,
         logins: None,
-        journal,
+        journal: None,
     };
     let paths = KnownFiles { all: &[] };
     service_of_jones(machine.alloc, machine, &paths, &args, output, errors)

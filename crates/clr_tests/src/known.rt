@@ -2,8 +2,7 @@
 use clr_commands::replies::Printed;
 use clr_edge::fault::Fault;
 use clr_known::{
-    Answers, Known, OldKnown, known_answers, known_logged_run, known_move, known_of_files,
-    known_service,
+    Answers, Known, OldKnown, known_answers, known_move, known_of_files, known_service,
 };
 use clr_stream::Counted;
 use std::alloc::Global;
@@ -51,24 +50,6 @@ const WAY_BACK: &str = r#"{"at":104,"by":"JONES","clearance":"JONES/1","do":"can
 {"at":104,"by":"DALE","clearance":"JONES/1","do":"report","done":true,"step":1}
 "#;
 
-/// The switching log of its journal.
-const LOG: &str = "1  1970-01-01 00:01:40 +00:00  JONES/1  JONES  request L2  accepted
-2  1970-01-01 00:01:41 +00:00  JONES/1  OPS  order S2 S3, OPEN S2, OPEN S3, BLOCK S2, BLOCK S3, TAG S2, TAG S3  accepted
-3  1970-01-01 00:01:42 +00:00  JONES/1  OPS  instruct 1 OPEN S2  accepted
-4  1970-01-01 00:01:43 +00:00  JONES/1  REED  repeat 1 OPEN S2 \"OPEN S2\"  accepted
-5  1970-01-01 00:01:44 +00:00  JONES/1  REED  report 1 OPEN S2 done  accepted
-6  1970-01-01 00:01:45 +00:00  KIM/1  KIM  request L3  accepted
-6  -  KIM/1  -  -  withdrawn
-";
-
-/// Its commands that were carried out.
-const COMMANDS: &str = r#"{"at":100,"by":"JONES","do":"request","section":"L2"}
-{"at":101,"by":"OPS","clearance":"JONES/1","do":"order","points":["S2","S3"],"steps":["OPEN S2","OPEN S3","BLOCK S2","BLOCK S3","TAG S2","TAG S3"]}
-{"at":102,"by":"OPS","clearance":"JONES/1","do":"instruct","step":1}
-{"at":103,"by":"REED","clearance":"JONES/1","do":"repeat","step":1,"text":"OPEN S2"}
-{"at":104,"by":"REED","clearance":"JONES/1","do":"report","done":true,"step":1}
-"#;
-
 /// What a control room would regret of the worked files.
 const REGRETS: &str = "employee BOSS may hold a clearance and has no supervisor
 employee KIM may hold a clearance and has no supervisor
@@ -105,17 +86,14 @@ fn expect_answers<R: Abort>(rt: &R, answers: &Answers) {
     assert_eq!(rt; text(&answers.way_back), WAY_BACK);
     assert_eq!(rt; text(&answers.moved), "version 2\n");
     assert_eq!(rt; replies(&answers.ran), SHOWN);
-    assert_eq!(rt; text(&answers.verified), "verified 5 commands\n");
-    assert_eq!(rt; text(&answers.logged), LOG);
-    assert_eq!(rt; text(&answers.commands), COMMANDS);
 }
 
-/// What goes out to a request for the board, with a journal or without one.
-fn board_sent(alloc: Global, journal: Option<&str>) -> Result<Vec<u8>, Fault> {
+/// What goes out to a request for the board.
+fn board_sent(alloc: Global) -> Result<Vec<u8>, Fault> {
     let mut machine = Known::new(alloc);
     let mut output = Counted::new(Vec::new(alloc));
     let mut errors = Counted::new(Vec::new(alloc));
-    known_service(&mut machine, journal, &mut output, &mut errors)?;
+    known_service(&mut machine, &mut output, &mut errors)?;
     Ok(machine.response)
 }
 
@@ -139,14 +117,6 @@ fn the_subcommands_of_files_alone_answer(rt: HostRuntime) -> Result<(), Fail> {
 }
 
 #[test]
-fn a_run_with_a_journal_answers(rt: HostRuntime) -> Result<(), Fail> {
-    let mut machine = Known::new(rt.alloc());
-    let mut input = Counted::new(SHOW);
-    assert_eq!(rt; replies(&known_logged_run(&mut machine, &mut input)), SHOWN);
-    Ok(())
-}
-
-#[test]
 fn tables_of_version_one_are_moved(rt: HostRuntime) -> Result<(), Fail> {
     let mut machine = OldKnown { alloc: rt.alloc() };
     assert_eq!(rt; text(&known_move(&mut machine)), "version 2\n");
@@ -155,9 +125,7 @@ fn tables_of_version_one_are_moved(rt: HostRuntime) -> Result<(), Fail> {
 
 #[test]
 fn the_board_goes_out_over_a_connection(rt: HostRuntime) -> Result<(), Fail> {
-    for journal in [None, Some("journal")] {
-        let sent = board_sent(rt.alloc(), journal)?;
-        assert_eq!(rt; sent.as_slice(), BOARD_RESPONSE);
-    }
+    let sent = board_sent(rt.alloc())?;
+    assert_eq!(rt; sent.as_slice(), BOARD_RESPONSE);
     Ok(())
 }

@@ -1,8 +1,10 @@
-//! A journal is written, its disk crashes, and it is opened again.
-use clr_journal::{
-    Journal, OpenFault, Opened, Receipt, carried_out, open_journal, print_carried, print_withdrawn,
-    read_journal,
+//! A journal is begun and written, its disk crashes, and it is opened again. The sums are reckoned
+//! outside, by the rules of clr_chain.
+use clr_chain::{
+    ChainFault, Link, NewFault, OpenedChain, Place, first_sum, new_chain, open_chain,
+    print_carried, print_withdrawn,
 };
+use clr_journal::{Journal, OnDisk, Receipt};
 use clr_net::Name;
 use clr_rules::{Card, ClearanceId, Phase, Reply, Text};
 use clr_text::{command_of, command_text};
@@ -10,19 +12,60 @@ use sqlite_disk::{Crash, Disk, Memory};
 use std::alloc::Global;
 use std::test::Fail;
 
+const ID: &str = "room";
+
+/// The files that the register is made of.
+const SECTIONS: &[u8] = b"section,source\nG,yes\nL1,no\n";
+
+const POINTS: &[u8] = b"point,from,to,lockable,remote,position\nS1,G,L1,yes,no,closed\n";
+
+const STAFF: &[u8] = b"employee,role,supervisor\nJONES,charge,\n";
+
+/// The sums at the first line, at JONES's, at KIM's and at the withdrawal.
+const FIRST_SUM: &str = "28474b298dd765d10e6f33d4fe675bd5d94edfa45a239abeee031f22dabeadb8";
+
+const JONES_SUM: &str = "ceb991cb18ea80eea8d444fa9ee4f575a05fb5b27c84d18a9d6872778fb134ac";
+
+const KIM_SUM: &str = "1edb0d3236f515b036111747d02e8f3c526dd9dea76c26cc38817ba2a631b86c";
+
+const LAST_SUM: &str = "29799b8949e292f725f292d35df6a9dd336b7c64aaa8aa77713bb8a147ef62b4";
+
 /// JONES asks for L2, which is carried out; KIM asks for L3, and that is withdrawn.
-const JONES: &str = r#"{"at":100,"by":"JONES","do":"request","section":"L2"}"#;
+const JONES_ASKS: &str = r#"{"at":100,"by":"JONES","do":"request","section":"L2"}"#;
 
-const KIM: &str = r#"{"at":105,"by":"KIM","do":"request","section":"L3"}"#;
+const KIM_ASKS: &str = r#"{"at":105,"by":"KIM","do":"request","section":"L3"}"#;
 
-/// The lines of these commands, and of the withdrawal.
+/// The lines.
 const FIRST: &str =
-    r#"{"command":{"at":100,"by":"JONES","do":"request","section":"L2"},"login":null,"number":1,"received":1795503841,"reply":{"card":{"clearance":"JONES/1","done":0,"holder":"JONES","phase":"Requested","round":0,"steps":0},"reply":"accepted"}}"#;
+    r#"{"journal":"room","number":0,"rules":1,"sum":"28474b298dd765d10e6f33d4fe675bd5d94edfa45a239abeee031f22dabeadb8"}"#;
 
-const SECOND: &str =
-    r#"{"command":{"at":105,"by":"KIM","do":"request","section":"L3"},"login":"OPS","number":2,"received":1795503842,"reply":{"card":{"clearance":"KIM/1","done":0,"holder":"KIM","phase":"Requested","round":0,"steps":0},"reply":"accepted"}}"#;
+const JONES: &str =
+    r#"{"command":{"at":100,"by":"JONES","do":"request","section":"L2"},"login":null,"number":1,"received":1795503841,"reply":{"card":{"clearance":"JONES/1","done":0,"holder":"JONES","phase":"Requested","round":0,"steps":0},"reply":"accepted"},"sum":"ceb991cb18ea80eea8d444fa9ee4f575a05fb5b27c84d18a9d6872778fb134ac"}"#;
 
-const WITHDRAWN: &str = r#"{"number":2,"withdrawn":true}"#;
+const KIM: &str =
+    r#"{"command":{"at":105,"by":"KIM","do":"request","section":"L3"},"login":"OPS","number":2,"received":1795503842,"reply":{"card":{"clearance":"KIM/1","done":0,"holder":"KIM","phase":"Requested","round":0,"steps":0},"reply":"accepted"},"sum":"1edb0d3236f515b036111747d02e8f3c526dd9dea76c26cc38817ba2a631b86c"}"#;
+
+const WITHDRAWN: &str =
+    r#"{"number":2,"sum":"29799b8949e292f725f292d35df6a9dd336b7c64aaa8aa77713bb8a147ef62b4","withdrawn":true}"#;
+
+/// First lines of another journal, and of another number of the rules.
+const OTHER: &str =
+    r#"{"journal":"yard","number":0,"rules":1,"sum":"28474b298dd765d10e6f33d4fe675bd5d94edfa45a239abeee031f22dabeadb8"}"#;
+
+const NEXT_RULES: &str =
+    r#"{"journal":"room","number":0,"rules":2,"sum":"28474b298dd765d10e6f33d4fe675bd5d94edfa45a239abeee031f22dabeadb8"}"#;
+
+fn text(alloc: Global, text: &str) -> Result<Text, Fail> {
+    let text = String::from_str(alloc, text)?;
+    Ok(Text::new(text))
+}
+
+/// A place of this number and this sum in the journal.
+fn place(alloc: Global, number: u64, sum: &str) -> Result<Place, Fail> {
+    let id = text(alloc, ID)?;
+    let sum = text(alloc, sum)?;
+    Ok(Place { id, number, sum })
+}
 
 /// The reply to a request that was accepted.
 fn accepted(clearance: &str, holder: &str) -> Result<Reply, Fail> {
@@ -37,91 +80,101 @@ fn accepted(clearance: &str, holder: &str) -> Result<Reply, Fail> {
 }
 
 /// The line of JONES's request.
-fn first_line(alloc: Global) -> Result<String, Fail> {
+fn jones_line(alloc: Global, before: &Text) -> Result<Link, Fail> {
+    let reply = accepted("JONES/1", "JONES")?;
     let receipt = Receipt {
         number: 1,
         received: 1_795_503_841,
         login: None,
     };
-    let command = command_of(alloc, JONES.as_bytes())?;
-    let reply = accepted("JONES/1", "JONES")?;
-    Ok(print_carried(alloc, &receipt, &command, &reply)?)
+    let command = command_of(alloc, JONES_ASKS.as_bytes())?;
+    Ok(print_carried(alloc, before, &receipt, &command, &reply)?)
 }
 
 /// The line of KIM's request.
-fn second_line(alloc: Global) -> Result<String, Fail> {
+fn kim_line(alloc: Global, before: &Text) -> Result<Link, Fail> {
+    let reply = accepted("KIM/1", "KIM")?;
+    let login = text(alloc, "OPS")?;
     let receipt = Receipt {
         number: 2,
         received: 1_795_503_842,
-        login: Some(Text::new(String::from_str(alloc, "OPS")?)),
+        login: Some(login),
     };
-    let command = command_of(alloc, KIM.as_bytes())?;
-    let reply = accepted("KIM/1", "KIM")?;
-    Ok(print_carried(alloc, &receipt, &command, &reply)?)
+    let command = command_of(alloc, KIM_ASKS.as_bytes())?;
+    Ok(print_carried(alloc, before, &receipt, &command, &reply)?)
 }
 
-/// Opens the journal on a disk.
-fn opened(alloc: Global, disk: Memory) -> Result<Opened<Memory>, Fail> {
+/// Appends a line to a journal, and syncs it.
+fn append<J: Journal>(journal: &mut J, line: String) -> Result<(), Fail> {
+    if !journal.may_be_used() {
+        return Err(Fail::new("a sync failed"));
+    }
+    journal.append(line)?;
+    journal.sync()?;
+    Ok(())
+}
+
+/// Appends the three lines, each with the sum at it, and syncs each.
+fn write_lines<J: Journal>(alloc: Global, journal: &mut J) -> Result<(), Fail> {
+    let first = first_sum(alloc, SECTIONS, POINTS, STAFF, ID)?;
+    let Link { text, sum } = jones_line(alloc, &first)?;
+    append(journal, text)?;
+    let Link { text, sum } = kim_line(alloc, &sum)?;
+    append(journal, text)?;
+    let Link { text, sum: _ } = print_withdrawn(alloc, &sum, 2)?;
+    append(journal, text)
+}
+
+/// Begins the journal on a disk.
+fn begun<D: Disk + Drop>(alloc: Global, disk: D) -> Result<Result<OnDisk<D>, (NewFault, D)>, Fail> {
+    let sum = first_sum(alloc, SECTIONS, POINTS, STAFF, ID)?;
+    let first = place(alloc, 0, sum.as_str())?;
     if !disk.may_be_used() {
         return Err(Fail::new("a sync failed"));
     }
-    match open_journal(alloc, disk) {
-        Ok(opened) => Ok(opened),
-        Err((fault, _)) => Err(fault.into()),
-    }
+    Ok(new_chain(alloc, &first, disk))
 }
 
-/// A disk after the three lines were appended, each was synced, and the disk crashed.
-fn written(alloc: Global) -> Result<Memory, Fail> {
-    let Opened { journal, last: _ } = opened(alloc, Memory::new(alloc))?;
-    let mut journal = journal;
-    for line in [
-        first_line(alloc)?,
-        second_line(alloc)?,
-        print_withdrawn(alloc, 2)?,
-    ] {
-        if !journal.may_be_used() {
-            return Err(Fail::new("a sync failed"));
-        }
-        journal.append(line)?;
-        journal.sync()?;
+/// Opens the journal on a disk at a place of this number and this sum.
+fn opened<D: Disk + Drop>(
+    alloc: Global,
+    disk: D,
+    number: u64,
+    sum: &str,
+) -> Result<Result<OpenedChain<D>, (ChainFault, D)>, Fail> {
+    let place = place(alloc, number, sum)?;
+    if !disk.may_be_used() {
+        return Err(Fail::new("a sync failed"));
     }
+    Ok(open_chain(alloc, &place, disk))
+}
+
+/// A disk after the journal was begun there, the three lines were written, one more was appended and
+/// not synced, and the disk crashed.
+fn written(alloc: Global) -> Result<Memory, Fail> {
+    let mut journal = match begun(alloc, Memory::new(alloc))? {
+        Ok(journal) => journal,
+        Err((fault, _)) => return Err(fault.into()),
+    };
+    write_lines(alloc, &mut journal)?;
+    if !journal.may_be_used() {
+        return Err(Fail::new("a sync failed"));
+    }
+    let line = String::from_str(alloc, "a line that is not synced")?;
+    journal.append(line)?;
     let mut disk = journal.into_disk();
     disk.crash();
     Ok(disk)
 }
 
-#[test]
-fn lines_are_read_after_a_crash(rt: HostRuntime) -> Result<(), Fail> {
-    let alloc = rt.alloc();
-    let disk = written(alloc)?;
-    let text = format!(in alloc; "{FIRST}\n{SECOND}\n{WITHDRAWN}\n")?;
-    assert_eq!(rt; disk.bytes(), text.as_bytes());
-    let lines = read_journal(alloc, disk.bytes())?;
-    assert_eq!(rt; lines.len(), 3);
-    let commands = carried_out(alloc, &lines)?;
-    assert_eq!(rt; commands.len(), 1);
-    for carried in &commands {
-        let command = command_text(alloc, &carried.command)?;
-        assert_eq!(rt; command.as_str(), JONES);
+/// Lines with a line feed after each.
+fn ended(alloc: Global, lines: &[&str]) -> Result<String, Fail> {
+    let mut text = String::new(alloc);
+    for line in lines {
+        text.push_str(line)?;
+        text.push_str("\n")?;
     }
-    let Opened { journal, last } = opened(alloc, disk)?;
-    assert_eq!(rt; last.as_deref(), Some(WITHDRAWN.as_bytes()));
-    assert_eq!(rt; journal.into_disk().bytes(), text.as_bytes());
-    Ok(())
-}
-
-#[test]
-fn unfinished_line_is_cut_off(rt: HostRuntime) -> Result<(), Fail> {
-    let alloc = rt.alloc();
-    let mut disk = Memory::new(alloc);
-    let text = format!(in alloc; "{FIRST}\n{SECOND}")?;
-    disk.write_at(0, text.as_bytes())?;
-    let Opened { journal, last } = opened(alloc, disk)?;
-    assert_eq!(rt; last.as_deref(), Some(FIRST.as_bytes()));
-    let kept = format!(in alloc; "{FIRST}\n")?;
-    assert_eq!(rt; journal.into_disk().bytes(), kept.as_bytes());
-    Ok(())
+    Ok(text)
 }
 
 /// A disk that holds this text.
@@ -132,39 +185,137 @@ fn holding(alloc: Global, text: &str) -> Result<Memory, Fail> {
 }
 
 #[test]
-fn what_is_no_journal_is_refused(rt: HostRuntime) -> Result<(), Fail> {
+fn lines_are_read_after_a_crash(rt: HostRuntime) -> Result<(), Fail> {
     let alloc = rt.alloc();
-    let torn = format!(in alloc; "{FIRST}\nno line\n{SECOND}")?;
-    for text in [
-        "a text of one line",
-        "two lines\nno feed",
-        "\n",
-        "{\"command\";",
-        torn.as_str(),
+    let disk = written(alloc)?;
+    let text = ended(alloc, &[FIRST, JONES, KIM, WITHDRAWN])?;
+    assert_eq!(rt; disk.bytes(), text.as_bytes());
+    let OpenedChain { journal, ahead } = match opened(alloc, disk, 0, FIRST_SUM)? {
+        Ok(opened) => opened,
+        Err((fault, _)) => return Err(fault.into()),
+    };
+    assert_eq!(rt; ahead.lines.len(), 3);
+    assert_eq!(rt; ahead.end.sum.as_str(), LAST_SUM);
+    assert_eq!(rt; ahead.rest, 0);
+    let commands = ahead.commands(alloc)?;
+    assert_eq!(rt; commands.len(), 1);
+    for carried in &commands {
+        let command = command_text(alloc, &carried.command)?;
+        assert_eq!(rt; command.as_str(), JONES_ASKS);
+    }
+    assert_eq!(rt; journal.into_disk().bytes(), text.as_bytes());
+    Ok(())
+}
+
+/// What a journal that holds this text has once it is opened at the place of JONES's line, and how
+/// many lines come after that.
+fn left_at_jones(alloc: Global, text: &str) -> Result<(Memory, usize), Fail> {
+    let disk = holding(alloc, text)?;
+    match opened(alloc, disk, 1, JONES_SUM)? {
+        Ok(opened) => Ok((opened.journal.into_disk(), opened.ahead.lines.len())),
+        Err((fault, _)) => Err(fault.into()),
+    }
+}
+
+/// So is what does not hold its sum, where nothing after it was accepted.
+#[test]
+fn unfinished_line_is_cut_off(rt: HostRuntime) -> Result<(), Fail> {
+    let alloc = rt.alloc();
+    let kept = ended(alloc, &[FIRST, JONES])?;
+    for rest in [
+        "",
+        "{",
+        "{\"command\":",
+        KIM,
+        "no line\n",
+        "\0\0\0\0\n\n",
+        "{\"number\":2,\"withdrawn\":true}\n{\"number\":2,\"withdrawn\":true}\n{",
     ] {
-        let disk = holding(alloc, text)?;
-        if !disk.may_be_used() {
-            return Err(Fail::new("a sync failed"));
-        }
-        match open_journal(alloc, disk) {
-            Ok(_) => return Err(Fail::new("what is no journal was opened")),
-            Err((fault, disk)) => {
-                assert_eq!(rt; fault, OpenFault::OpenFailed);
-                assert_eq!(rt; disk.bytes(), text.as_bytes());
-            }
-        }
+        let text = format!(in alloc; "{kept}{rest}")?;
+        let (disk, count) = left_at_jones(alloc, &text)?;
+        assert_eq!(rt; count, 0);
+        assert_eq!(rt; disk.bytes(), kept.as_bytes());
     }
     Ok(())
 }
 
+/// Why a journal that holds this text is not opened at a place. It stays as it is.
+fn refusal(alloc: Global, text: &str, number: u64, sum: &str) -> Result<ChainFault, Fail> {
+    let disk = holding(alloc, text)?;
+    match opened(alloc, disk, number, sum)? {
+        Ok(_) => Err(Fail::new("what is to be refused was opened")),
+        Err((fault, disk)) => {
+            if disk.bytes() == text.as_bytes() {
+                Ok(fault)
+            } else {
+                Err(Fail::new("what was refused was changed"))
+            }
+        }
+    }
+}
+
+/// The same of lines, each with a line feed after it.
+fn refusal_of(alloc: Global, lines: &[&str], number: u64, sum: &str) -> Result<ChainFault, Fail> {
+    let text = ended(alloc, lines)?;
+    refusal(alloc, &text, number, sum)
+}
+
 #[test]
-fn front_of_a_first_line_is_cut_off(rt: HostRuntime) -> Result<(), Fail> {
+fn what_is_no_journal_is_refused(rt: HostRuntime) -> Result<(), Fail> {
     let alloc = rt.alloc();
-    for text in ["", "{", "{\"command\":", FIRST] {
+    for text in [
+        "a text of one line",
+        "two lines\nno feed",
+        "\n",
+        "{\"journal\";\n",
+    ] {
+        let fault = refusal(alloc, text, 0, FIRST_SUM)?;
+        assert_eq!(rt; fault, ChainFault::BadLine(0));
+    }
+    for lines in [[JONES, KIM], [NEXT_RULES, JONES]] {
+        let fault = refusal_of(alloc, &lines, 0, FIRST_SUM)?;
+        assert_eq!(rt; fault, ChainFault::BadLine(0));
+    }
+    Ok(())
+}
+
+/// The journal of another register, one that is too short, one that differs from the register, and
+/// one with a bad line before an accepted one.
+#[test]
+fn another_journal_is_refused(rt: HostRuntime) -> Result<(), Fail> {
+    let alloc = rt.alloc();
+    let other = refusal_of(alloc, &[OTHER], 0, FIRST_SUM)?;
+    assert_eq!(rt; other, ChainFault::OtherRegister);
+    let short = refusal_of(alloc, &[FIRST], 1, JONES_SUM)?;
+    assert_eq!(rt; short, ChainFault::TooShort);
+    let short = refusal_of(alloc, &[FIRST, JONES, KIM, WITHDRAWN], 3, LAST_SUM)?;
+    assert_eq!(rt; short, ChainFault::TooShort);
+    let differs = refusal_of(alloc, &[FIRST, JONES], 1, KIM_SUM)?;
+    assert_eq!(rt; differs, ChainFault::Differs(1));
+    let differs = refusal_of(alloc, &[FIRST, JONES, KIM, WITHDRAWN], 2, KIM_SUM)?;
+    assert_eq!(rt; differs, ChainFault::Differs(2));
+    let bad = refusal_of(alloc, &[FIRST, "no line", JONES], 0, FIRST_SUM)?;
+    assert_eq!(rt; bad, ChainFault::BadLine(1));
+    Ok(())
+}
+
+/// A journal is there once its first line is whole; and none is begun over what is there.
+#[test]
+fn front_of_a_first_line_is_refused(rt: HostRuntime) -> Result<(), Fail> {
+    let alloc = rt.alloc();
+    for text in ["", "{", "{\"journal\":", FIRST] {
+        let fault = refusal(alloc, text, 0, FIRST_SUM)?;
+        assert_eq!(rt; fault, ChainFault::BadLine(0));
+    }
+    for text in ["{", FIRST] {
         let disk = holding(alloc, text)?;
-        let Opened { journal, last } = opened(alloc, disk)?;
-        assert_eq!(rt; last.as_deref(), None);
-        assert_eq!(rt; journal.into_disk().bytes(), b"".as_slice());
+        match begun(alloc, disk)? {
+            Ok(_) => return Err(Fail::new("a journal was begun over bytes")),
+            Err((fault, disk)) => {
+                assert_eq!(rt; fault, NewFault::HasBytes);
+                assert_eq!(rt; disk.bytes(), text.as_bytes());
+            }
+        }
     }
     Ok(())
 }

@@ -10,8 +10,5 @@ returns g c = record {
   moved_is = c.move_of_jones-moved.ensures;
   made_is = counted g.R.Medium.Disk g.R.Makes.makes g.R.Databases.ends (codes "new.db") c.made_of_files-made.result c.args.machine.now
       c.made_of_files-made.new.machine c.made_of_files-made.ensures;
-  verified_is = c.verify_of_jones-verified.ensures;
-  logged_is = c.log_of_jones-logged.ensures;
-  commands_are = c.commands_of_jones-commands.ensures;
   ran_is = c.run_of_jones-ran.ensures;
 }

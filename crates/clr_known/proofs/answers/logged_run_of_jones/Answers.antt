@@ -1,9 +1,0 @@
-use Rattle.std.specs.Prelude.{codes}
-use Rattle.clr_edge.specs.TakenUp.{logs}
-use Rattle.clr_known.proofs.KnownAnswers.{logged_given}
-use Rattle.clr_known.proofs.answers.logged_run_of_jones.Goals as goal
-
-pub returns : goal.returns
-returns g c = logged_given g.R.Medium.Disk g.met.R.JonesMachine.clean g.R.Databases.opens g.R.Databases.shuts g.R.Databases.ends
-    (logs g.R.Journals g.R.Log.Journal g.R.Time.Clock.shows) g.met.R.JonesMachine.asked.logged g.met.R.JonesMachine.knows (codes "jones.db")
-    (record { ref_ptr = (0, 0); now = codes "journal" }) (g.I.Read.remaining c.args.input.now) c.run_stored.result c.args.machine.now c.run_stored.new.rt c.run_stored.ensures.visit
