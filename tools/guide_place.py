@@ -24,7 +24,7 @@ STANDINS = {
                  'echo "$1" > ask.new; mv ask.new ask; for _ in $(seq 600); do [ -e ask ] || exit 0; sleep 0.05; done; exit 1',
 }
 # The package's programs, which run here as the caller, over the folder in which the lines run.
-PROGRAMS = ("gridclear-setup", "serve", "verify", "whole", "follow")
+PROGRAMS = ("gridclear-setup", "serve", "finish", "verify", "forward", "log", "follow")
 USERS = f"printf '{LOGIN[0]}:%s\\n' \"$(openssl passwd -6)\" > /etc/gridclear/users\n"
 
 
@@ -51,6 +51,11 @@ def block(*marks, without=()):
     if len(found) != 1:
         raise Stuck(f"docs/OPERATING.md has {len(found)} blocks with {marks}")
     return found[0]
+
+
+def served_again(lines):
+    """Lines that stop and start the register themselves where systemd runs."""
+    return f"systemctl stop gridclear\n{lines}systemctl start gridclear\n"
 
 
 def free_ports(count):
@@ -93,7 +98,7 @@ class Place:
         for name, text in STANDINS.items():
             self.program(self.bin / name, f"#!/bin/sh\n{text}\n")
         for name in PROGRAMS:
-            text = re.sub(r" -o (gridclear|root) -g (\"\$group\"|[a-z-]+)|chown \"root.*", "", (TOP / "package" / name).read_text(encoding="utf-8"))
+            text = re.sub(r" -o (gridclear|root) -g (\"\$group\"|[a-z-]+)|chown (\"root|gridclear:).*", "", (TOP / "package" / name).read_text(encoding="utf-8"))
             text = text.replace("data=/var/lib/gridclear", "data=$PWD").replace("$(id -u)", "0")
             self.program((self.bin if name == "gridclear-setup" else self.lib) / name, self.here(text, ""))
         config = self.srv / "desk" / "nginx.conf"

@@ -1,10 +1,11 @@
 """What tools/stops and tools/no-memory share: the built program run from outside under a small library that is loaded
-before the C library, folders for its files, the tables and the journal that it leaves, and a shift with its replies. It
-needs gcc and sqlite3 (Debian's packages of these names). GRIDCLEAR names another program than tools/gridclear."""
+before the C library, folders for its files, the tables and the journal that it leaves, and a shift with its replies over
+registers with a journal and without one. It needs gcc and sqlite3 (Debian's packages of these names). GRIDCLEAR names another program than tools/gridclear."""
 import collections
 import json
 import lzma
 import os
+import re
 import shutil
 import socket
 import subprocess
@@ -20,11 +21,16 @@ IMPORTED = "sections 5 points 5 staff 6\n"
 NO_REGISTER = "fault: store Sql\n"
 NO_OUTPUT = "fault: output WriteFailed\n"
 MOVED = "version 2\n"
-# the words of `run` and `serve` that have a journal
+# the words of `init`, `migrate`, `run` and `serve` that have a journal
 WITH_JOURNAL = ["--journal", "journal"]
 NO_JOURNAL = ("fault: journal OpenFailed\n", "fault: journal WriteFailed\n")
+MISSING = "fault: journal Missing\n"  # the register has a journal, and none is named
+BEGUN = "fault: journal Begun\n"  # a journal was begun, and the register has no place in it
+OPENED = ["run", "--db", "room.db"]  # and no command
 OLD = os.path.join(TOP, "tools", "try", "version-1.db.xz")  # a register of version 1
 ALLOWED = 60  # seconds for one run of a program
+
+PLACE = re.compile(r'(?:CREATE TABLE|INSERT INTO) "?journal"?[ (]')  # the rows of a dump that are no table of the register
 
 Ended = collections.namedtuple("Ended", "status, output, errors")
 
@@ -101,7 +107,8 @@ class Bench:
         return Ended(done.returncode, done.stdout, done.stderr)
 
     def tables(self, held, may_be_none=False):
-        """The tables as the distribution's sqlite3 reads a copy of the files. A file that is no database yet has none."""
+        """The tables as the distribution's sqlite3 reads a copy of the files, but for the place in a journal. A file that is
+        no database yet has none."""
         folder = self.new(held)
         words = ["sqlite3", "-batch", "room.db", "PRAGMA integrity_check", ".dump"]
         done = subprocess.run(words, cwd=folder, capture_output=True, text=True, timeout=ALLOWED, check=False)
@@ -110,17 +117,18 @@ class Bench:
         if may_be_none and "file is not a database" in done.stderr:
             return ()
         expect(done.returncode == 0 and lines[:1] == ["ok"], f"sqlite3: {done.stdout[:200]}{done.stderr[:200]}")
-        return tuple(sorted(line for line in lines[1:] if line.startswith(("CREATE", "INSERT"))))
+        return tuple(sorted(line for line in lines[1:] if line.startswith(("CREATE", "INSERT")) and not PLACE.match(line)))
 
-    def verify(self, held, left_out=0):
-        """What `verify` ends with over a copy of the files, where the journal's last lines are left out."""
+    def verify(self, held, *words):
+        """What `verify` ends with over a copy of the files; with these words in place of the three files."""
         folder = self.new(held)
-        with open(os.path.join(folder, "journal"), "w", encoding="ascii") as file:
-            lines = whole_lines(held)
-            file.writelines(lines[: len(lines) - left_out])
-        done = self.run(folder, ["verify", "room.db", "journal", *FILES])
+        done = self.run(folder, ["verify", "room.db", "journal", *(words or FILES)])
         shutil.rmtree(folder)
         return done
+
+    def opens(self, folder, journal="journal"):
+        """Opens a register with its journal: whether that is done."""
+        return self.run(folder, [*OPENED, "--journal", journal]) == Ended(0, "", "")
 
 
 def to_archive(bench, shift):
@@ -141,24 +149,34 @@ def to_update(bench, shift):
     return ["update", "room.db", *files], folder
 
 
-def whole_lines(folder):
-    """The lines of the journal in a folder that a line feed ends; none where there is no journal."""
-    path = os.path.join(folder, "journal")
+def whole_lines(folder, name="journal"):
+    """The lines of a journal in a folder that a line feed ends; none where there is no journal."""
+    path = os.path.join(folder, name)
     if not os.path.exists(path):
         return []
     with open(path, encoding="ascii", errors="replace") as file:
         return [line for line in file.read().splitlines(keepends=True) if line.endswith("\n")]
 
 
+def removed(folder, name):
+    """The same folder without a file."""
+    path = os.path.join(folder, name)
+    if os.path.exists(path):
+        os.remove(path)
+    return folder
+
+
 JUMPER = '{"by":"OPS","do":"jumper","from":"L3","lockable":true,"point":"J9","remote":false,"to":"X9"}\n'
 
 
 class Shift:
-    """Commands over an opening register: their replies, and the tables after each number of them."""
+    """Commands over an opening register, or over one with a journal: their replies, and the tables after each number of
+    them."""
 
-    def __init__(self, bench, opening):
+    def __init__(self, bench, opening, logged):
         self.bench = bench
         self.opening = opening
+        self.logged = logged
         with open(os.path.join(EXAMPLES, "shift.jsonl"), encoding="ascii") as file:
             self.lines = file.readlines()
         # and a jumper to a new section, laid while JONES/1 is Ordered
@@ -172,20 +190,40 @@ class Shift:
             bench.run(folder, ["run", "--db", "room.db"], [line])
             self.tables.append(bench.tables(folder))
 
+    def begun(self, journal):
+        """The files that a shift begins with, with a journal or without one."""
+        return self.logged if journal else self.opening
+
+    def after(self, count, journal=()):
+        """A folder with the register after this number of commands."""
+        folder = self.bench.new(self.begun(journal))
+        done = self.bench.run(folder, [*OPENED, *journal], self.lines[:count])
+        expect(done == Ended(0, "".join(self.replies[:count]), ""), f"the first {count}: {done}")
+        return folder
+
+    def rolled_back(self, count, last):
+        """A folder with the register after a number of commands, and its journal after more of them."""
+        folder = self.after(count, WITH_JOURNAL)
+        later = self.bench.new(folder)
+        done = self.bench.run(later, [*OPENED, *WITH_JOURNAL], self.lines[count:last])
+        expect(done.status == 0, f"from {count} to {last}: {done}")
+        shutil.copy(os.path.join(later, "journal"), folder)
+        return folder
+
     def look_at_journal(self, folder, answered):
-        """Each command that was answered has a line. The tables are those of the journal, or of all of it but its last line."""
+        """Each command that was answered has a line, and the register is level with its journal before it is opened again."""
         wanted = [line for line, reply in zip(self.lines, self.replies[:answered]) if '"reply":"shown"' not in reply]
-        found = [json.loads(line) for line in whole_lines(folder)]
+        found = [json.loads(line) for line in whole_lines(folder)[1:]]
         given = [line["command"] for line in found if "command" in line]
         # a command that was answered 503 has a line too, and may be said again
         once = [command for place, command in enumerate(given) if command not in given[:place]]
         expect(once[: len(wanted)] == [json.loads(line) for line in wanted], f"{answered} answered, and the journal has {once[-2:]}")
         done = self.bench.verify(folder)
-        expect(done.status == 0 or (found and self.bench.verify(folder, 1).status == 0), f"verify: {done}")
+        expect(done.status == 0, f"verify: {done}")
 
     def open_again(self, folder):
         """Opens register and journal: from then on the tables are those of the journal."""
-        done = self.bench.run(folder, ["run", "--db", "room.db", *WITH_JOURNAL])
+        done = self.bench.run(folder, [*OPENED, *WITH_JOURNAL])
         expect(done == Ended(0, "", ""), f"opened with its journal: {done}")
         done = self.bench.verify(folder)
         expect(done.status == 0, f"verify, opened again: {done}")
@@ -203,7 +241,7 @@ class Shift:
         expect(board.status == 0 and board.errors == "", f"board: {board}")
         expect(self.bench.tables(folder) == tables, "board changes the tables")
         place = places[0]
-        rest = self.bench.run(folder, ["run", "--db", "room.db", *journal], self.lines[place:last])
+        rest = self.bench.run(folder, [*OPENED, *journal], self.lines[place:last])
         expect(rest == Ended(0, "".join(self.replies[place:last]), ""), f"from {place}: {rest}")
         expect(self.bench.tables(folder) == self.tables[last], "the tables at the end")
         if journal:

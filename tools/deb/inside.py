@@ -191,21 +191,25 @@ def backup(root, tally):
     status, out = root.run("systemctl start gridclear-backup; s=$?; rm go; cat /run/gridclear-backup.out; exit $s")
     first = list(root.path(BACKUPS).iterdir())
     tally.check("a backup while commands come", status == 0 and len(first) == 1 and ": verified " in out, out)
-    held = {"room.db", "journal", "sections.csv", "points.csv", "staff.csv", "verified"}
+    held = {"room.db", "journal", "began.db", "sections.csv", "points.csv", "staff.csv", "verified"}
     tally.check("it has the register, the journal and the files", held <= {one.name for one in first[0].iterdir()}, list(first[0].iterdir()))
     root.run(f"touch -d '40 days ago' /{BACKUPS}/{first[0].name}; systemctl stop gridclear; cp -p /{BACKUPS}/{first[0].name}/room.db /srv/older.db")
     root.run(f"systemctl start gridclear; curl -s -d '{COMMAND}' http://127.0.0.1:8080/command; systemctl start gridclear-backup")
     names = [one.name for one in root.path(BACKUPS).iterdir()]
     tally.check("it is kept for 30 days", len(names) == 1 and names[0] != first[0].name, names)
-    lines = "; ".join(guide("tail -n 1 journal > next"))
-    status, out = root.run(f"rm -f /run/gridclear-backup.out; cd /{DATA} && {lines}; curl -s -d '{COMMAND}' http://127.0.0.1:8080/command; "
+    status, out = root.run(f"{guide('--rotate')[0]}; cat /{DATA}/journal")
+    tally.check("the journal is rotated, and the register served again", status == 0 and "the part before is" in out and out.count('"journal":"') == 1 and root.curl("/board", port=8080)[0] == "200", out)
+    status, out = root.run(f"rm -f /run/gridclear-backup.out; curl -s -d '{COMMAND}' http://127.0.0.1:8080/command; "
                            "sleep 1; systemctl start gridclear-backup; s=$?; cat /run/gridclear-backup.out; exit $s")
     tally.check("a backup of a rotated journal", status == 0 and ": verified " in out and "made from the journal" not in out, out)
-    parts = [one.read_bytes() for one in [*sorted(root.path(DATA).glob("journal-2*")), root.path(f"{DATA}/journal")]]
+    parts = {one.name: one.read_bytes() for one in [*root.path(DATA).glob("journal-2*Z"), root.path(f"{DATA}/journal")]}
     newest = max(root.path(BACKUPS).iterdir(), key=lambda one: one.name)
-    tally.check("it has all parts as one", len(parts) == 2 and (newest / "journal").read_bytes() == b"".join(parts), [len(part) for part in parts])
+    tally.check("it has all parts", len(parts) == 2 and {one.name: one.read_bytes() for one in newest.glob("journal*")} == parts, parts.keys())
     tally.check("the new part is the page's to read", root.owner(f"{DATA}/journal") == "640 gridclear:www-data", root.owner(f"{DATA}/journal"))
     root.run(f"systemctl stop gridclear; cp -p /{DATA}/room.db /srv/newer.db; rm /{DATA}/room.db*; cp -p /srv/older.db /{DATA}/room.db; rm -f /run/gridclear-backup.out")
+    status, out = root.run("sleep 1; systemctl start gridclear-backup; s=$?; cat /run/gridclear-backup.out; exit $s")
+    tally.check("an older register beside its journal is a backup too", status == 0 and "made from the journal" not in out and ": verified " in out, out)
+    root.run(f"cd /{DATA}; rm -f room.db*; cp -p /srv/newer.db room.db; sqlite3 room.db 'UPDATE clearance SET last_at = last_at - 1'; rm -f /run/gridclear-backup.out")
     status, out = root.run("sleep 1; systemctl start gridclear-backup; s=$?; cat /run/gridclear-backup.out; exit $s")
     tally.check("a register that verify finds is made again from the journal", status == 0 and "was made from the journal" in out and ": verified " in out, out)
     root.run(f"rm /{DATA}/room.db*; cp -p /srv/newer.db /{DATA}/room.db; mv /{DATA}/journal /srv; rm -f /run/gridclear-backup.out")
@@ -215,7 +219,7 @@ def backup(root, tally):
     status, out = root.curl("/journals/")
     names = [one["name"] for one in json.loads(out) if one["name"].startswith("journal-2")] if status == "200" else [status]
     found = [root.curl(f"/journals/{name}") for name in names]
-    tally.check("the page gets the part too", len(names) == 1 and found[0][0] == "200" and found[0][1].encode() == parts[0], names)
+    tally.check("the page gets the part too", len(names) == 1 and found[0][0] == "200" and found[0][1].encode() == parts.get(names[0]), names)
     tally.check("and nothing besides of that folder", {root.curl(f"/journals/{name}")[0] for name in ("room.db", "staff.csv", "journal-2/../room.db")} <= {"404", "403"})
 
 
@@ -251,8 +255,19 @@ def restore(root, tally):
 
 
 def update(root, tally):
-    """Network and staff change while a crew is at work."""
+    """A register with a journal takes no update; one without takes it."""
     print("updates", flush=True)
+    before = root.curl("/board", port=8080)
+    status, out = root.run("gridclear-setup --update")
+    tally.check("with a journal it is refused, and says why", status == 1 and "no line for an update" in out and root.curl("/board", port=8080) == before, out)
+    status, out = root.run(f"systemctl stop gridclear; mkdir aside; mv /{DATA}/* aside; cp -p aside/*.csv /{DATA}; cd /{DATA} && runuser -u gridclear -- gridclear init sections.csv points.csv staff.csv --db room.db")
+    tally.check("a register without a journal", status == 0, out)
+    updated(root, tally)
+    root.run(f"systemctl stop gridclear; rm -rf /{DATA}/* /etc/gridclear/users /etc/gridclear/logins.csv; mv aside/* /{DATA}; rmdir aside; systemctl restart gridclear gridclear-desk")
+
+
+def updated(root, tally):
+    """Network and staff of a register without a journal change while a crew is at work."""
     network = root.path(f"{ETC}/network")
     was = {name: (network / f"{name}.csv").read_text() for name in ("sections", "points", "staff")}
     shift = (TOP / "examples" / "held.jsonl").read_text().splitlines()
@@ -278,18 +293,9 @@ def update(root, tally):
     tally.check("nobody speaks as who is gone", root.run("gridclear-setup --logins")[1] == "DAY: KIM\n", root.run("gridclear-setup --logins"))
     normal = root.path(f"{DATA}/normal.csv").read_text()
     tally.check("normal positions stay, and the new point has its own", "S1,G,L1,yes,no,closed\n" in normal and "S5,L1,L4,yes,no,open\n" in normal, normal)
-    status, out = root.run(f"systemctl stop gridclear; cd /{DATA} && runuser -u gridclear -- /usr/lib/gridclear/verify; s=$?; systemctl start gridclear; exit $s")
-    tally.check("verify goes from the copy", status == 0 and "verified " in out, out)
-    status, out = root.run("rm -f /run/gridclear-backup.out; sleep 1; systemctl start gridclear-backup; s=$?; cat /run/gridclear-backup.out; exit $s")
-    tally.check("so does a backup", status == 0 and ": verified " in out and "made from the journal" not in out, out)
-    aside = list(root.path(DATA).glob("before-*"))
-    status, out = root.run(f"cd /{DATA}/{aside[0].name if aside else '.'} && runuser -u gridclear -- /usr/lib/gridclear/verify")
-    tally.check("the register from before is whole, with its journal", len(aside) == 1 and status == 0 and "verified " in out, out)
+    tally.check("the register from before is kept", len(list(root.path(DATA).glob("before-*/room.db"))) == 1)
     for name, text in was.items():
         (network / f"{name}.csv").write_text(text)
-    status, out = root.run("gridclear-setup --update")
-    tally.check("and back", status == 1 or "employee DALE comes" in out, out)
-    root.run("rm -f /etc/gridclear/users /etc/gridclear/logins.csv; systemctl restart gridclear gridclear-desk")
 
 
 def port_443(root, tally):
@@ -369,13 +375,42 @@ def migrate(root, tally):
     tally.check("again it moves nothing; and the register answers", status == 0 and "nothing to move" in out and out.endswith(board), out)
 
 
+OLD_LINE = '{"command":{"by":"JONES"},"login":null,"number":1,"received":1,"reply":{}}'
+
+
+def old_journal(root, tally):
+    """A register with a journal of an earlier form, which stand-ins for the program that wrote it verify, or do not."""
+    print("a journal of an earlier form", flush=True)
+    root.run(f"systemctl stop gridclear; rm -rf /{DATA}/*; cp sections.csv points.csv staff.csv /{DATA}; cd /{DATA}; chown gridclear: *; runuser -u gridclear -- gridclear init sections.csv points.csv staff.csv --db room.db")
+    root.path(f"{DATA}/journal").write_text(OLD_LINE + "\n")
+    before = root.register()
+    for name, status in (("older", 0), ("liar", 1)):
+        root.run(f"printf '#!/bin/sh\\ncase $1 in\\n  verify) exit {status} ;;\\n  journal) echo the log ;;\\nesac\\n' > {name}; chmod 755 {name}; chown gridclear: /{DATA}/journal")
+    status, out = root.run("gridclear-setup --migrate /srv/liar")
+    tally.check("one that its old program does not verify is left", status == 1 and "no old program found" in out and root.register()["room.db"] == before["room.db"]
+                and root.path(f"{DATA}/journal").read_text() == OLD_LINE + "\n", out)
+    root.run(f"cd /{DATA} && runuser -u gridclear -- gridclear migrate room.db --journal journal-begun")  # cut off there
+    status, out = root.run("gridclear-setup --migrate /srv/liar")
+    tally.check("one that was cut off goes on", status == 0 and "a new journal begins" in out, out)
+    root.run(f"cd /{DATA}; rm -rf room.db* began.db journal* before-*; runuser -u gridclear -- gridclear init sections.csv points.csv staff.csv --db room.db")
+    root.path(f"{DATA}/journal").write_text(OLD_LINE + "\n")
+    root.run(f"chown gridclear: /{DATA}/journal")
+    status, out = root.run("gridclear-setup --migrate /srv/older")
+    aside = next(iter(root.path(DATA).glob("before-*")), root.path(DATA))
+    kept = [(aside / name).read_text() if (aside / name).is_file() else "" for name in ("journal", "log")]
+    tally.check("a new journal begins, and the old one is kept with its log", status == 0 and kept == [OLD_LINE + "\n", "the log\n"], f"{out} {kept}")
+    tally.check("the page reads it", root.owner(f"{DATA}/journal") == "640 gridclear:www-data" and root.path(f"{DATA}/journal").read_text().startswith('{"journal":"'), root.owner(f"{DATA}/journal"))
+    status, out = root.run(f"cd /{DATA} && runuser -u gridclear -- /usr/lib/gridclear/verify && systemctl start gridclear && curl -s http://127.0.0.1:8080/board")
+    tally.check("the register goes on with it", status == 0 and "verified 0 commands\n" in out and out.endswith("BOARD 0\n"), out)
+
+
 def main():
     root, tally = Root(sys.argv[1]), Tally()
     subprocess.run(["ip", "link", "set", "lo", "up"], check=True)
     for name, kind in (("proc", "proc"), ("run", "tmpfs")):
         subprocess.run(["mount", "-t", kind, kind, str(root.path(name))], check=True)
     root.run("mkdir -p /run/systemd/system")
-    for part in (install, refusals, logins, backup, restore, update, upgrade, migrate):
+    for part in (install, refusals, logins, backup, restore, update, upgrade, migrate, old_journal):
         part(root, tally)
     asked = root.path("run/asked").read_text()
     tally.check("systemd was asked to read the units again", "--system daemon-reload" in asked, asked)

@@ -10,7 +10,7 @@ import subprocess
 import tarfile
 
 TOP = pathlib.Path(__file__).resolve().parent.parent.parent
-PROGRAMS = {"usr/bin/gridclear", "usr/sbin/gridclear-setup", *(f"usr/lib/gridclear/{name}" for name in ("serve", "verify", "whole", "backup", "follow", "desk-conf"))}
+PROGRAMS = {"usr/bin/gridclear", "usr/sbin/gridclear-setup", *(f"usr/lib/gridclear/{name}" for name in ("serve", "finish", "verify", "forward", "log", "backup", "follow", "desk-conf"))}
 CONFIGURATION = {"etc/gridclear/gridclear.conf", "etc/logrotate.d/gridclear"}
 SCRIPTS = {"preinst", "postinst", "prerm", "postrm"}
 CONTROL = {"control", "conffiles", "md5sums", *SCRIPTS}

@@ -28,7 +28,18 @@ class Desk:
         self.base = os.path.join(work, f"{name}.db")
         self.address = f"http://127.0.0.1:{ports[0]}/"
         self.process, self.starts = None, 0
-        gridclear("init", *files, "--db", self.base)
+        self.journal = self.options[self.options.index("--journal") + 1] if "--journal" in self.options else None
+        gridclear("init", *files, *self.stored())
+
+    def stored(self):
+        """The register, as a subcommand takes it."""
+        return ["--db", self.base, *(["--journal", self.journal] if self.journal else [])]
+
+    def begin_journal(self, path):
+        """From now on the register has a journal."""
+        gridclear("migrate", self.base, "--journal", path)
+        self.options += ["--journal", path]
+        self.journal = path
 
     def start(self, status=200):
         """Serves, until the board has this status."""
@@ -91,13 +102,13 @@ def gridclear(*words, text=None):
 
 
 def tables(path):
-    """All rows of all tables, read in a copy, since reading folds the log into the file."""
+    """All rows of all tables but that of the place in a journal, read in a copy, since reading folds the log into the file."""
     with tempfile.TemporaryDirectory() as folder:
         for end in ("", "-wal"):
             if os.path.exists(path + end):
                 shutil.copy(path + end, os.path.join(folder, "copy.db" + end))
         base = sqlite3.connect(os.path.join(folder, "copy.db"))
-        names = [row[0] for row in base.execute("SELECT name FROM sqlite_master WHERE type = 'table' ORDER BY name")]
+        names = [row[0] for row in base.execute("SELECT name FROM sqlite_master WHERE type = 'table' AND name != 'journal' ORDER BY name")]
         found = {name: sorted(base.execute(f'SELECT * FROM "{name}"').fetchall(), key=repr) for name in names}
         base.close()
         return found

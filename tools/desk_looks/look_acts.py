@@ -23,7 +23,7 @@ window.fetch = async (path, options) => {
 def served(stage):
     """Two logins, and a journal."""
     desk = stage.desk = with_logins(stage, [("bert", "DISP1")])
-    desk.options += ["--journal", os.path.join(stage.work, "journal")]
+    desk.begin_journal(os.path.join(stage.work, "journal"))
     desk.start(401)
     hand = stage.bare_window()
     open_as(stage, hand, "anna")

@@ -85,6 +85,8 @@ def goes_on(hand):
     hand.carry_out("instruct", "instruct step 1 of DISP2/1")
     hand.turn("log")
     hand.shows("instruct 1 OPEN N14-Q21")
+    hand.turn("shift")
+    hand.shows("The journal has come to number", "main .paper")
 
 
 def live_by_log(stage):

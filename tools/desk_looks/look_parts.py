@@ -3,7 +3,7 @@
 import os
 
 from desk_looks.browser import Differs, free_ports, wait_until
-from desk_looks.desk import Desk
+from desk_looks.desk import Desk, gridclear
 from desk_looks.look_log import CUT, ENDS, rows, search
 from desk_looks.network import closed, granted, switch, write_files
 
@@ -11,14 +11,12 @@ LIVE = [*granted("KIM", "N13-F12", ["N13-Q11", "N13-B1", "N13-Q13"]), {"by": "KI
 
 
 def rotate(desk, journal, number):
-    """As the guide has it: all but the last line become a part, while the register is stopped."""
+    """As the package does it: the journal becomes a part, and the next one begins, while the register is stopped."""
     desk.stop()
-    with open(journal, encoding="utf-8") as file:
-        lines = file.readlines()
-    for name, own in ((f"journal-2026-01-0{number}T000000Z", lines[:-1]), ("next", lines[-1:])):
-        with open(os.path.join(os.path.dirname(journal), name), "w", encoding="utf-8") as file:
-            file.writelines(own)
-    os.rename(os.path.join(os.path.dirname(journal), "next"), journal)
+    folder = os.path.dirname(journal)
+    gridclear("journal", journal, "--db", desk.base, "--next", os.path.join(folder, "journal-next"))
+    os.rename(journal, os.path.join(folder, f"journal-2026-01-0{number}T000000Z"))
+    os.rename(os.path.join(folder, "journal-next"), journal)
     desk.start()
 
 
@@ -84,8 +82,9 @@ def part_lost(stage):
     give(hand, [switch(["OPEN N14-Q21"]), switch(["OPEN N14-Q22"]), switch(["OPEN N14-Q23"])])
     rotate(desk, journal, 1)
     os.remove(os.path.join(stage.work, "journal-2026-01-01T000000Z"))
+    give(hand, [switch(["OPEN N14-Q31"])])
     fresh = stage.window("log")
-    fresh.shows("The entries before number 3 are in no part of the journal that is served here")
+    fresh.shows("The entries before number 4 are in no part of the journal that is served here")
     fresh.lacks("whole journal was read", "main")
 
 

@@ -15,7 +15,6 @@ from guide_place import Stuck
 LOGINS = {"ANNA": ("DISP1", "REED", "JONES"), "BERT": ("DISP2", "DALE", "KIM")}
 OF_ANNA = ("N11-F33", ["N11-Q33", "TIE3-N11-N12"], ["CLOSE", "LEAVE"])
 OF_BERT = ("N16-F33", ["N16-Q33", "TIE3-N15-N16"], ["CLOSE", "LEAVE"])
-ROTATE = "tail -n 1 journal > next"
 
 
 class Shift:
@@ -80,7 +79,7 @@ class Shift:
         self.agree("after the full disk")
 
     def rotated(self):
-        self.first.guide(ROTATE)
+        self.first.rotate()
         self.anna.reload()
         self.agree("after a rotation")
 
@@ -121,7 +120,7 @@ class Shift:
             self.bert.restore(*OF_BERT[1:])
             self.bert.steps("KIM/1", undoing(*OF_BERT[1:])[:2])
         self.both(anna, bert)
-        self.first.guide(ROTATE)
+        self.first.rotate()
         self.agree("both are given back")
 
     def taken_over(self):

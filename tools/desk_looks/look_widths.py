@@ -69,8 +69,9 @@ def several(screen):
 
 def served(stage):
     """The life, and a switch order since then that the journal has."""
-    desk = Desk(stage.work, "desk", write_files(stage.work), free_ports(2), ["--journal", os.path.join(stage.work, "journal")])
+    desk = Desk(stage.work, "desk", write_files(stage.work), free_ports(2))
     give(desk, life())
+    desk.begin_journal(os.path.join(stage.work, "journal"))
     hand = stage.begin(desk)
     for command in (switch(["OPEN N14-Q31"], "DISP3"), *step("DISP3/1", 1, "OPEN N14-Q31")):
         hand.post(command)

@@ -138,14 +138,19 @@ class Machine(guide_place.Place):
 
     def printed(self):
         """What the program prints of the journal, all parts of it."""
-        return self.give("/usr/lib/gridclear/whole | gridclear journal /dev/stdin").splitlines()
+        return self.give("/usr/lib/gridclear/log").splitlines()
 
     def entries(self):
-        """The lines of the journal, all parts of it, as JSON."""
-        return [json.loads(line) for line in self.give("/usr/lib/gridclear/whole").splitlines()]
+        """The commands of the journal, all parts of it, with their replies, as JSON."""
+        parts = [*sorted(self.own.glob("journal-2*Z")), self.own / "journal"]
+        lines = [json.loads(line) for part in parts for line in part.read_text(encoding="utf-8").splitlines()]
+        return [line for line in lines if "command" in line]
+
+    def rotate(self):
+        self.give(guide_place.served_again(guide_place.block("--rotate")))
 
     def verified(self):
-        return self.guide("/verify", without=("cp ", "known=", "commands")).strip()
+        return self.guide("/verify", without=("cp ",)).strip()
 
     def sent(self):
         """The commands that the proxy passed on."""

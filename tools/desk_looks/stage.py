@@ -93,7 +93,7 @@ def give(desk, commands):
     """Gives commands to the register itself, before it is served."""
     moment = int(time.time()) - 60
     text = "".join(json.dumps(one if one["do"] == "jumper" else dict(one, at=moment)) + "\n" for one in commands)
-    replies = gridclear("run", "--db", desk.base, text=text) if text else ""
+    replies = gridclear("run", *desk.stored(), text=text) if text else ""
     for command, reply in zip(commands, replies.splitlines()):
         if json.loads(reply).get("reply") not in ("accepted", "added"):
             raise Differs(f"before the look: {command} is {reply}")

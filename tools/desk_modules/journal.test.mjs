@@ -19,30 +19,45 @@ globalThis.fetch = async (path, { headers = {} } = {}) => {
   return new Response(whole.slice(from, to), { status: 206, headers: { "Content-Range": `bytes ${from}-${Math.min(to, whole.length) - 1}/${whole.length}` } });
 };
 
-const line = (number, at = 1000) => `${JSON.stringify({ command: { at: at + number, by: "OPS", do: "switch", steps: ["OPEN S1"] }, login: null, number, received: at + number, reply: { card: { clearance: `OPS/${number}`, round: 1 }, reply: "accepted" } })}\n`;
-const lines = (first, last, at) => Array.from({ length: last - first + 1 }, (_, place) => line(first + place, at)).join("");
+// A sum that is another for the line of another register.
+const sum = (number, at) => `${at}-${number}`;
+const line = (number, at = 1000) => `${JSON.stringify({ command: { at: at + number, by: "OPS", do: "switch", steps: ["OPEN S1"] }, login: null, number, received: at + number, reply: { card: { clearance: `OPS/${number}`, round: 1 }, reply: "accepted" }, sum: sum(number, at) })}\n`;
+const first = (number, at = 1000) => `${JSON.stringify({ journal: `id ${at}`, number, rules: 1, sum: sum(number, at) })}\n`;
+// A part with these numbers, after its first line.
+const part = (begin, end, at) => first(begin - 1, at) + Array.from({ length: end - begin + 1 }, (_, place) => line(begin + place, at)).join("");
 const numbers = () => journal.entries.map(({ number }) => number);
 const upTo = (last, first = 1) => Array.from({ length: last - first + 1 }, (_, place) => first + place);
 
 test("a journal that is rotated while it is read, and one that is read after", async () => {
-  files.set("journal", lines(1, 20));
+  files.set("journal", part(1, 20));
   await newest();
-  assert.deepEqual([numbers(), isWhole()], [upTo(20), true]);
-  files.set("journals/journal-2026-01-01T000000Z", lines(1, 19));
-  files.set("journal", lines(20, 23));
+  assert.deepEqual([numbers(), isWhole(), journal.last.number, journal.last.sum], [upTo(20), true, 20, sum(20, 1000)]);
+  files.set("journals/journal-2026-01-01T000000Z", part(1, 20));
+  files.set("journal", first(20));
+  await newest();
+  assert.deepEqual([numbers(), isWhole(), journal.last.sum], [upTo(20), true, sum(20, 1000)]);
+  files.set("journal", part(21, 23));
   await newest();
   assert.deepEqual([numbers(), isWhole()], [upTo(23), true]);
-  files.set("journal", lines(20, 24) + line(25).slice(0, 9));
+  files.set("journal", part(21, 24) + line(25).slice(0, 9));
   await newest();
-  assert.deepEqual(numbers(), upTo(24));
+  assert.deepEqual([numbers(), journal.last.number], [upTo(24), 24]);
+});
+
+test("a new register, whose journal has no command yet", async () => {
+  files.clear();
+  files.set("journal", first(0, 3000));
+  await newest();
+  assert.deepEqual([numbers(), isWhole(), hasEarlier(), journal.last.number], [[], true, false, 0]);
 });
 
 test("another register's journal is read from its end, and back as far as a record needs it", async () => {
   files.clear();
-  files.set("journals/journal-2026-01-01T000000Z", lines(1, 4, 5000));
-  files.set("journals/journal-2026-01-02T000000Z", lines(4, 8, 5000));
+  files.set("journals/journal-2026-01-01T000000Z", part(1, 3, 5000));
+  files.set("journals/journal-2026-01-02T000000Z", `${part(4, 8, 5000)}{"number":8,"sum":"s","withdrawn":true}\n`);
+  files.set("journals/journal-2026-01-02T000000Z-wal", "none of the parts");
   files.set("journals/room.db", "none of the parts");
-  files.set("journal", `{"number":8,"withdrawn":true}\n${lines(9, 10, 5000)}`);
+  files.set("journal", part(9, 10, 5000));
   await newest();
   assert.deepEqual([numbers(), isWhole(), hasEarlier()], [[9, 10], false, true]);
   await readBackTo(["OPS/6"]);
@@ -54,7 +69,7 @@ test("another register's journal is read from its end, and back as far as a reco
 
 test("a part that is gone", async () => {
   files.clear();
-  files.set("journal", lines(30, 31));
+  files.set("journal", part(30, 31));
   await newest();
   await readBackTo(["OPS/6"]);
   assert.deepEqual([numbers(), isWhole(), hasEarlier()], [[30, 31], false, false]);

@@ -16,6 +16,19 @@ try 'an import of too few files' 2 '' '~Usage: gridclear init' init "$files/sect
 printf '{\n\n%s\n' "$request" >"$work/lines"
 with_input "$work/lines" try 'a run' 0 "{\"fault\":\"NotJson\"}$feed$requested$feed" '' run "${three[@]}"
 try 'a run over two files' 2 '' '~error: run takes three files' run "$files/sections.csv" "$files/points.csv"
+try 'an import with a journal and no database' 2 '' "error: init takes --journal FILE only with --db FILE$feed" \
+  init "${three[@]}" --journal "$work/none"
+try 'a run over files with a journal' 2 '' "error: run takes --journal FILE only with --db FILE and no files$feed" \
+  run "${three[@]}" --journal "$work/none"
+next_usage="error: journal takes --next FILE with --db DB, and then no other argument but FILE$feed"
+try 'a next part of no register' 2 '' "$next_usage" journal "$work/journal" --next "$work/none"
+try 'a journal of a register, and no next part' 2 '' "$next_usage" journal "$work/journal" --db "$work/kept.db"
+for word in JONES/1 --commands "--part=$work/journal"; do
+  try "a next part, and $word" 2 '' "$next_usage" \
+    journal "$work/journal" "$word" --db "$work/kept.db" --next "$work/none"
+done
+try 'a next part twice' 2 '' '~--next' journal "$work/journal" --db "$work/kept.db" --next "$work/none" --next "$work/none"
+expect 'no journal was begun' test ! -e "$work/none"
 try 'an argument that is no text' 2 '' "error: an argument is not UTF-8 text$feed" fence $'\xFF'
 
 # Inputs at the limit and beyond it: no command of a longer one is run.

@@ -124,6 +124,12 @@ written OtherTables 'a meta that is not STRICT' 'DROP TABLE meta' \
   'CREATE TABLE meta (name TEXT NOT NULL, value INTEGER NOT NULL, PRIMARY KEY (name))' "INSERT INTO meta VALUES ('version', 2)"
 written OtherTables 'a table with a CHECK' 'DROP TABLE hold' \
   "CREATE TABLE hold (kind TEXT NOT NULL CHECK (kind <> ''), place TEXT NOT NULL, requester TEXT NOT NULL, number INTEGER NOT NULL, PRIMARY KEY (kind, place, requester, number)) STRICT"
+places='CREATE TABLE journal (id TEXT NOT NULL, number INTEGER NOT NULL, sum TEXT NOT NULL, PRIMARY KEY (id)) STRICT'
+written OtherTables 'a table of the journal without a place' "$places"
+written OtherTables 'a table of the journal with two places' "$places" "INSERT INTO journal VALUES ('a', 0, 'b'), ('b', 0, 'b')"
+written OtherTables 'a table of the journal that is not STRICT' "${places% STRICT}" "INSERT INTO journal VALUES ('a', 0, 'b')"
+written OtherTables 'a table of the journal with a column more' "${places/PRIMARY/more TEXT, PRIMARY}" \
+  "INSERT INTO journal VALUES ('a', 0, 'b', NULL)"
 written 'BadRow section' 'a name of a million bytes' "UPDATE section SET name = $huge WHERE name = 'L2'"
 written 'BadRow section' 'a name of 25 bytes' "UPDATE section SET name = 'ABCDEFGHIJKLMNOPQRSTUVWXY' WHERE name = 'G'"
 written 'BadRow section' 'an empty name' "UPDATE section SET name = '' WHERE name = 'G'"
@@ -146,6 +152,34 @@ written 'BadRow step' 'an ordinal beyond its type' 'UPDATE step SET ordinal = 65
 written 'BadRow step' 'a point of a million bytes' "UPDATE step SET point = $huge WHERE ordinal = 1"
 written 'BadRow hold' "a hold's number beyond its type" "INSERT INTO hold VALUES ('Tag', 'S2', 'JONES', -1)"
 written 'BadRow hold' 'a place of a million bytes' "INSERT INTO hold VALUES ('Tag', $huge, 'JONES', 1)"
+
+# A place that does not read, or is in no journal: what only reads opens the register. What would change it, or looks for
+# the place, does not.
+placed() {
+  local fault=$1 title=$2 value=$3
+  cp "$work/ordered.db" "$place/room.db"
+  write_to "$place/room.db" "$places" "INSERT INTO journal VALUES $value"
+  cp "$place/room.db" "$work/before.db"
+  try "the board, $title" 0 "~BOARD 1$feed" '' board "$place/room.db"
+  try "an order, $title" 0 '~ORDER JONES/1 ROUND 1' '' order "$place/room.db" JONES/1 1
+  try "a way back, $title" 0 '~"do":' '' wayback "$place/room.db" JONES/1
+  with_input "$work/one" try "a run, $title" 1 '' "fault: $fault$feed" run --db "$place/room.db"
+  try "a server, $title" 1 '' "fault: $fault$feed" serve "$place/room.db" --port "$port" --count 1
+  try "an archive, $title" 1 '' "fault: $fault$feed" archive "$place/room.db" --before 1
+  try "an update, $title" 1 '' "fault: $fault$feed" update "$place/room.db" "${three[@]}"
+  try "a journal for it, $title" 1 '' "fault: $fault$feed" migrate "$place/room.db" --journal "$place/new"
+  [ "$fault" != 'journal Missing' ] || fault='journal OtherRegister'
+  with_input "$work/one" try "a run with a journal, $title" 1 '' "fault: $fault$feed" \
+    run --db "$place/room.db" --journal "$work/journal"
+  try "a comparison, $title" 1 '' "fault: $fault$feed" verify "$place/room.db" "$work/journal" "${three[@]}"
+  expect "$title: the database is unchanged" cmp "$place/room.db" "$work/before.db"
+  expect "$title: no journal was begun" test ! -e "$place/new"
+  rm -f "$place"/*
+}
+placed 'store BadRow journal' 'a place before the first' "('a', -1, 'b')"
+placed 'store BadRow journal' 'the least number of a place' "('a', -9223372036854775808, 'b')"
+placed 'journal Missing' 'a place in another journal' "('a', 9223372036854775807, 'b')"
+placed 'journal Missing' 'a place without texts' "('', 0, '')"
 
 # Locked by SQLite: whoever has it open, reading or writing, has it alone. What it holds is not touched, and when it is
 # let go it opens.

@@ -26,7 +26,7 @@ leaves() {
   expect "$2: no change is in the log" test "$(wc -c <"$edge/room.db-wal")" -eq 41
 }
 
-# Of a register that was closed: what only reads leaves the database byte for byte. Of one whose server was killed: the
+# Of a register that was closed: what only reads, or is refused, leaves the database byte for byte. Of one whose server was killed: the
 # log is folded in, and the tables are as before.
 edge=$work/edge
 mkdir "$edge"
@@ -35,7 +35,10 @@ board=$(bounded board "$edge/room.db")
 leaves try 'the board of a closed register' 0 "$board$feed" '' board "$edge/room.db"
 leaves try 'an order of it' 0 '~ORDER JONES/1 ROUND 1' '' order "$edge/room.db" JONES/1 1
 leaves try 'a way back' 0 '~"do":' '' wayback "$edge/room.db" JONES/1
-leaves try 'a comparison with its journal' 0 "verified 2 commands$feed" '' verify "$edge/room.db" "$work/journal" "${three[@]}"
+leaves try 'a comparison with a journal that it has not' 1 '' "fault: journal OtherRegister$feed" \
+  verify "$edge/room.db" "$work/journal" "${three[@]}"
+leaves try 'a run with such a journal' 1 '' "fault: journal OtherRegister$feed" \
+  run --db "$edge/room.db" --journal "$work/journal"
 leaves try 'an order of a round that is not there' 1 '' "fault: clearance NoSuch$feed" \
   order "$edge/room.db" JONES/1 2
 printf '%s\n' '{"by":"JONES","clearance":"JONES/1","do":"show"}' '{' >"$work/asks"
@@ -69,6 +72,22 @@ print("\n".join(sqlite3.connect(sys.argv[1]).iterdump()))
 END
   rm -f "$edge"/copy.db*
 }
+# The same of a register with a journal.
+cp "$work/kept.db" "$edge/room.db"
+leaves try 'the board of a register with a journal' 0 "$board$feed" '' board "$edge/room.db"
+leaves try 'an order of it' 0 '~ORDER JONES/1 ROUND 1' '' order "$edge/room.db" JONES/1 1
+leaves try 'a way back of it' 0 '~"do":' '' wayback "$edge/room.db" JONES/1
+leaves try 'a comparison with its journal' 0 "verified 2 commands$feed" '' verify "$edge/room.db" "$work/journal" "${three[@]}"
+leaves try 'a comparison with its journal, from itself' 0 "verified 0 commands$feed" '' \
+  verify "$edge/room.db" "$work/journal" --from "$edge/room.db"
+leaves try 'an opening with its journal' 0 '' '' run --db "$edge/room.db" --journal "$work/journal"
+leaves try 'an opening without it' 1 '' "fault: journal Missing$feed" run --db "$edge/room.db"
+leaves try 'a server without it' 1 '' "fault: journal Missing$feed" serve "$edge/room.db" --port "$port" --count 1
+leaves try 'an update of it' 1 '' "fault: journal Missing$feed" update "$edge/room.db" "${three[@]}"
+leaves try 'an archive of it' 1 '' "fault: journal Missing$feed" archive "$edge/room.db" --before 1
+leaves try 'another journal for it' 1 '' "fault: journal Missing$feed" migrate "$edge/room.db" --journal "$edge/new"
+leaves try 'a move of it' 0 "version 2$feed" '' migrate "$edge/room.db"
+expect 'no journal was begun' test ! -e "$edge/new"
 cp "$work/killed.db" "$edge/room.db"
 cp "$work/killed.db-wal" "$edge/room.db-wal"
 tables_at "$edge/room.db" >"$work/tables"
@@ -142,7 +161,7 @@ else
   opens 'an order of nothing' "${register[@]}" -- order "$edge/room.db" JONES/9 1
   opens 'a way back' "${register[@]}" -- wayback "$edge/room.db" JONES/1
   opens 'a log' "$work/journal" -- journal "$work/journal"
-  opens 'a comparison' "${three[@]}" "$work/journal" "${register[@]}" -- verify "$edge/room.db" "$work/journal" "${three[@]}"
+  opens 'a log of two parts' "$work/journal" "$work/parted-2" -- journal "$work/journal" --part "$work/parted-2"
   opens 'a move' "${register[@]}" -- migrate "$edge/room.db"
   with_input "$work/asks" opens 'a run over a database' "${register[@]}" -- run --db "$edge/room.db"
   opens 'a fence' "${three[@]:0:2}" -- fence "${three[@]:0:2}" L2 S2 S3
@@ -154,16 +173,38 @@ else
     init "${three[@]}" --db "$edge/made.db"
   opens 'a register made over one' "${three[@]}" "${register[@]}" -- init "${three[@]}" --db "$edge/room.db"
   serving_opens 'a server' "$edge/room.db" -- "${register[@]}"
-  # with the options of a desk: the logins first, the journal after the register
+  # a journal is begun after the files were read, and before the register is made
+  kept=("$edge/begun" "$edge/begun-wal" "$edge")
+  made=("$edge/kept.db" "$edge/kept.db" "$edge/kept.db-wal" "$edge")
+  opens 'a register with a journal that is made' "${three[@]}" "$edge/begun" "${kept[@]}" "${made[@]}" -- \
+    init "${three[@]}" --db "$edge/kept.db" --journal "$edge/begun"
+  opens 'one whose journal is there' "${three[@]}" "${kept[@]}" -- \
+    init "${three[@]}" --db "$edge/other.db" --journal "$edge/begun"
+  opens 'a journal for a register' "${register[@]}" "$edge/given" "$edge/given" "$edge/given-wal" "$edge" -- \
+    migrate "$edge/room.db" --journal "$edge/given"
+  # the journal after the register, and where the register has none it is not opened
   cp "$work/kept.db" "$edge/room.db"
   cp "$work/journal" "$edge/journal"
   : >"$edge/journal-wal"
   printf '%s\n' 'login,employee' 'JONES,JONES' >"$edge/logins.csv"
   kept=("$edge/journal" "$edge/journal-wal" "$edge")
+  opens 'a comparison' "${three[@]}" "${register[@]}" "$edge/journal" -- \
+    verify "$edge/room.db" "$edge/journal" "${three[@]}"
+  opens 'a comparison with a copy' "$edge/kept.db" "$edge/kept.db-wal" "$edge" "${register[@]}" "$edge/journal" -- \
+    verify "$edge/room.db" "$edge/journal" --from "$edge/kept.db"
+  opens 'a run that names no journal' "${register[@]}" -- run --db "$edge/room.db"
+  opens 'a run with a journal that is not there' "${register[@]}" -- run --db "$edge/room.db" --journal "$edge/none"
+  cp "$work/ordered.db" "$edge/plain.db"
+  : >"$edge/plain.db-wal"
+  opens 'a run with a journal, of a register without one' "$edge/plain.db" "$edge/plain.db-wal" "$edge" -- \
+    run --db "$edge/plain.db" --journal "$edge/journal"
   with_input "$work/asks" opens 'a run with a journal' "${register[@]}" "${kept[@]}" -- \
     run --db "$edge/room.db" --journal "$edge/journal"
   serving_opens 'a server with a journal' "$edge/room.db" --journal "$edge/journal" -- "${register[@]}" "${kept[@]}"
   serving_opens 'a server at a desk' "$edge/room.db" --desk --deadline 5 --logins "$edge/logins.csv" \
     --journal "$edge/journal" -- "$edge/logins.csv" "${register[@]}" "${kept[@]}"
   expect 'the journal of what changed nothing is unchanged' cmp "$work/journal" "$edge/journal"
+  opens 'a next part' "${register[@]}" "${kept[@]}" "$edge/next" "$edge/next" "$edge/next-wal" "$edge" -- \
+    journal "$edge/journal" --db "$edge/room.db" --next "$edge/next"
+  expect 'the part before is unchanged' cmp "$work/journal" "$edge/journal"
 fi

@@ -16,6 +16,11 @@ done
 keeping "$room" try 'init, a directory for the database' 1 '' "$no_store" init "${three[@]}" --db "$room"
 keeping "$room" try 'init, a database in a file' 1 '' "$no_store" init "${three[@]}" --db "$room/staff.csv/new.db"
 keeping "$room" try 'init, a database in no directory' 1 '' "$no_store" init "${three[@]}" --db "$room/none/new.db"
+no_journal="fault: journal OpenFailed$feed"
+for journal in "$room" "$room/staff.csv/journal" "$room/none/journal"; do
+  keeping "$room" try "init, its journal at $journal" 1 '' "$no_journal" \
+    init "${three[@]}" --db "$room/new.db" --journal "$journal"
+done
 
 # from_pipes TITLE STATUS OUTPUT ERRORS COUNT: an import whose three files are pipes. The points' pipe ends after
 # COUNT bytes, and the others at their end.
@@ -34,8 +39,16 @@ from_pipes 'a pipe that ends within the first row' 1 '' "fault: points FieldCoun
 from_pipes 'a pipe that ends within a word' 1 '' "fault: points BadWord row 1 column 6$feed" 57
 bounded fence "$files/sections.csv" <(cat "$files/points.csv") L2 S2 S3 >"$work/output" 2>"$work/errors"
 judge 'a fence from a pipe' 0 "L2$feed" '' $?
+bounded journal <(cat "$work/journal") >"$work/output" 2>"$work/errors"
+judge 'a log from a pipe' 0 "$(bounded journal "$work/journal")$feed" '' $?
+bounded journal <(head -n 1 "$work/journal") --part <(tail -n +2 "$work/journal") >"$work/output" 2>"$work/errors"
+judge 'a further part without a first line, from a pipe' 1 '' "fault: journal BadLine 0$feed" $?
+bounded verify "$work/kept.db" <(cat "$work/journal") "${three[@]}" >"$work/output" 2>"$work/errors"
+judge 'a comparison with a journal from a pipe' 0 "verified 2 commands$feed" '' $?
 mkfifo "$room/pipe"
 keeping "$room" try 'init, a pipe for the database' 1 '' "$no_store" init "${three[@]}" --db "$room/pipe"
+keeping "$room" try 'init, a pipe for the journal' 1 '' "$no_journal" init "${three[@]}" --db "$room/new.db" --journal "$room/pipe"
+try 'run, a pipe for the journal' 1 '' "$no_journal" run --db "$work/kept.db" --journal "$room/pipe"
 rm "$room/pipe"
 
 # A file that shrinks to nothing after the first bytes that are read of it: those bytes are what it had.
@@ -103,8 +116,24 @@ if [ "$(type -t as_nobody)" = function ]; then
   barred_each 'a database that may not be written'
   chmod 0 "$room/room.db"
   barred_each 'a database that may not be read'
+  chmod 777 "$room"
+  cp "$work/kept.db" "$room/room.db"
+  cp "$work/journal" "$room/journal"
+  chmod 666 "$room/room.db"
+  chmod 444 "$room/journal"
+  barred_run 'a run with a journal that may not be written' "$no_journal" run --db "$room/room.db" --journal "$room/journal"
+  chmod 0 "$room/journal"
+  barred_run 'a run with a journal that may not be read' "$no_journal" run --db "$room/room.db" --journal "$room/journal"
+  barred_run 'a log of a journal that may not be read' "$no_journal" journal "$room/journal"
+  barred_run 'a comparison with a journal that may not be read' "$no_journal" verify "$room/room.db" "$room/journal" "${given[@]}"
+  chmod 555 "$room"
+  barred_run 'a journal in a folder that may not be written' "$no_journal" \
+    init "${given[@]}" --db "$room/new.db" --journal "$room/new"
   chmod 755 "$room"
-  rm "$room/room.db"
+  chmod 644 "$room/journal"
+  expect 'the journal is unchanged' cmp "$room/journal" "$work/journal"
+  expect 'no other is made' test ! -e "$room/new"
+  rm -f "$room"/room.db* "$room"/journal*
 else
   left_out 'a file without permission' 'root may read all, and setpriv is not installed'
 fi
@@ -121,10 +150,11 @@ if unshare -Urm true 2>/dev/null && cp "$work/ordered.db" "$room/room.db" &&
     unshare -Urm bash -c 'mount -t tmpfs none "$2" && cp "$1"/* "$2" && mount -o remount,ro "$2" && cd "$2" &&
       shift 2 && exec timeout 60 "$@"' read_only "$room" "$work/mount" "$program" "$@" \
       >"$work/output" 2>"$work/errors" <"$work/input"
-    judge "$title on a file system that may not be written" 1 '' "$no_store" $?
+    judge "$title on a file system that may not be written" 1 '' "${ends:-$no_store}" $?
     rmdir "$work/mount"
   }
   read_only 'init --db' init sections.csv points.csv staff.csv --db new.db
+  ends=$no_journal read_only 'init --journal' init sections.csv points.csv staff.csv --db new.db --journal new
   read_only 'run --db' run --db room.db
   read_only 'order' order room.db JONES/1 1
   read_only 'board' board room.db

@@ -52,13 +52,15 @@ def shift(count=None):
     return (EXAMPLES / "shift.jsonl").read_text(encoding="ascii").splitlines()[:count]
 
 
-def register(path, commands=(), files=FILES):
-    """A new register, after these commands. Returns its path."""
-    for old in (path, path.with_name(path.name + "-wal")):
-        old.unlink(missing_ok=True)
-    status, _, errors = run("init", *files, "--db", path)
+def register(path, commands=(), files=FILES, journal=None):
+    """A new register, after these commands, with a journal if one is named. Returns its path."""
+    for old in (path, *([journal] if journal else [])):
+        for one in (old, old.with_name(old.name + "-wal")):
+            one.unlink(missing_ok=True)
+    words = ["--db", path, *(["--journal", journal] if journal else [])]
+    status, _, errors = run("init", *files, *words)
     if status == 0 and commands:
-        status, _, errors = run("run", "--db", path, lines=commands)
+        status, _, errors = run("run", *words, lines=commands)
     if status:
         sys.exit(f"a register is not made: {errors}")
     return path

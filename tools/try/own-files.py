@@ -4,7 +4,7 @@
 import os
 import shutil
 
-from looks import EXAMPLES, FILES, REQUEST, look, main, register, run, same
+from looks import EXAMPLES, FILES, REQUEST, copied, look, main, register, run, same
 
 ENDINGS = ("", "-journal", "-wal", "-shm")
 LOGINS = "login,employee\nJONES,JONES\n"
@@ -39,7 +39,27 @@ def journals(folder):
         for path in spellings(folder, f"room.db{ending}"):
             refused(folder, f"run --journal {path}", "journal", "run", "--db", "room.db", "--journal", path)
             refused(folder, f"serve --journal {path}", "journal", "serve", "room.db", "--port", "1", "--count", "1", "--journal", path)
+            refused(folder, f"migrate --journal {path}", "journal", "migrate", "room.db", "--journal", path)
+            refused(folder, f"init --journal {path}", "journal", "init", *FILES, "--db", "room.db", "--journal", path)
             refused(folder, f"serve --logins {path}", "logins", "serve", "room.db", "--port", "1", "--count", "1", "--desk", "--logins", path)
+
+
+def parts(folder):
+    """A journal with its register: neither a part nor the next one may be a file of that, or of a copy of it."""
+    register(folder / "room.db", [REQUEST], journal=folder / "journal")
+    copied(folder / "room.db", folder / "copy.db")
+    for ending in ENDINGS:
+        for path in spellings(folder, f"room.db{ending}"):
+            refused(folder, f"journal {path} --next", "journal", "journal", path, "--db", "room.db", "--next", "new")
+            refused(folder, f"journal --next {path}", "journal", "journal", "journal", "--db", "room.db", "--next", path)
+            refused(folder, f"verify {path}", "journal", "verify", "room.db", path, *FILES)
+            refused(folder, f"verify --part {path}", "journal", "verify", "room.db", "journal", "--part", "other", "--part", path, *FILES)
+            refused(folder, f"verify --part {path} --from", "journal", "verify", "room.db", "journal", "--part", path, "--from", "copy.db")
+        path = f"copy.db{ending}"
+        refused(folder, f"verify {path} --from", "journal", "verify", "room.db", path, "--from", "copy.db")
+        refused(folder, f"verify --part {path} of the copy", "journal", "verify", "room.db", "journal", "--part", path, "--from", "copy.db")
+    same("its own parts are none of these", run("verify", "room.db", "journal", "--from", "copy.db", folder=folder), (0, "verified 0 commands\n", ""))
+    same("nor is a next part", run("journal", "journal", "--db", "room.db", "--next", "room.db-log", folder=folder), (0, "next part after 1\n", ""))
 
 
 def links(folder):
@@ -75,13 +95,14 @@ def files(folder):
 
 def others(folder):
     """A file of another database, or of a like name, is none of these."""
-    register(folder / "room.db")
     register(folder / "other.db")
-    same("a journal of a like name", run("run", "--db", "room.db", "--journal", "room.db-log", lines=[REQUEST], folder=folder)[0], 0)
-    same("a journal beside another database", run("run", "--db", "room.db", "--journal", "other.db-journal", lines=[REQUEST], folder=folder)[0], 0)
+    for title, database, journal in (("a journal of a like name", "room.db", "room.db-log"), ("a journal beside another database", "more.db", "other.db-journal")):
+        words = ["--db", database, "--journal", journal]
+        same(f"{title}: init", run("init", *FILES, *words, folder=folder)[0], 0)
+        same(f"{title}: run", run("run", *words, lines=[REQUEST], folder=folder)[0], 0)
     (folder / "logins.csv").write_text(LOGINS, encoding="ascii")
     look("the examples are there", (EXAMPLES / "sections.csv").exists())
 
 
 if __name__ == "__main__":
-    main(journals, links, files, others)
+    main(journals, parts, links, files, others)

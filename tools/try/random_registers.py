@@ -300,7 +300,7 @@ def made(folder, chance):
     return path, files, at
 
 
-def commands_follow(path, chance, at):
+def commands_follow(path, chance, at, journal=None):
     """A run: what comes next of each record, and perhaps more records. Returns the last moment."""
     moves = Moves(Tables(path), chance, at)
     going = moves.tables.open_records()
@@ -309,7 +309,7 @@ def commands_follow(path, chance, at):
     if moves.charge and moves.operators and moves.tables.points and len(going) < 5:
         for _ in range(chance.choice([0, 1, 1, 2])):
             moves.begin()
-    status, _, errors = run("run", "--db", path, lines=moves.lines)
+    status, _, errors = run("run", "--db", path, *(["--journal", journal] if journal else []), lines=moves.lines)
     if status:
         look("random commands", False, errors)
     return moves.at

@@ -5,18 +5,25 @@
 each_subcommand() {
   cp "$work/one" "$work/input"
   new_register "$work/run.db"
-  rm -f "$work/made.db"*
+  new_register "$work/plain.db"
+  new_register "$work/parted.db" "$work/parted"
+  rm -f "$work/made.db"* "$work/begun.db"* "$work/begun" "$work/given" "$work/parted-2"
   "$@" 'help' --help
   "$@" 'the version' --version
   "$@" 'fence' fence "$files/sections.csv" "$files/points.csv" L2 S2 S3
   "$@" 'init' init "${three[@]}"
   "$@" 'init --db' init "${three[@]}" --db "$work/made.db"
+  "$@" 'init --journal' init "${three[@]}" --db "$work/begun.db" --journal "$work/begun"
+  "$@" 'migrate --journal' migrate "$work/plain.db" --journal "$work/given"
   "$@" 'run' run "${three[@]}"
   "$@" 'run --db' run --db "$work/run.db"
   "$@" 'order' order "$work/ordered.db" JONES/1 1
   "$@" 'board' board "$work/ordered.db"
   "$@" 'journal' journal "$work/journal"
+  "$@" 'journal --commands' journal "$work/journal" --commands
+  "$@" 'journal --next' journal "$work/parted" --db "$work/parted.db" --next "$work/parted-2"
   "$@" 'verify' verify "$work/kept.db" "$work/journal" "${three[@]}"
+  "$@" 'verify --from' verify "$work/kept.db" "$work/journal" --from "$work/kept.db"
   "$@" 'serve' serve "$work/ordered.db" --port "$port" --count 1
   : >"$work/input"
 }
@@ -50,10 +57,15 @@ unread_output() {
   rm "$work/pipe"
 }
 
-# What was to be kept is kept: the register is made, the command was run.
+# What was to be kept is kept: registers and journals are made, the command was run.
 left_by_output() {
   try "$1: init --db made the register" 0 "BOARD 0$feed" '' board "$work/made.db"
   try "$1: the command of run --db was carried out" 0 "~BOARD 1$feed" '' board "$work/run.db"
+  with_input /dev/null try "$1: init --journal made both" 0 '' '' run --db "$work/begun.db" --journal "$work/begun"
+  with_input /dev/null try "$1: migrate --journal gave the register its journal" 0 '' '' \
+    run --db "$work/plain.db" --journal "$work/given"
+  with_input /dev/null try "$1: journal --next began the next part" 0 '' '' \
+    run --db "$work/parted.db" --journal "$work/parted-2"
 }
 
 each_subcommand full_output

@@ -1,0 +1,286 @@
+"""What the looks of tools/try reckon of a journal by themselves: how its lines and their sums are written, which lines of
+a file hold their sums, and what an opening finds in it at the place of a register. Nothing of it is the program's, but
+that a command reads is asked of `run` over files."""
+
+import collections
+import contextlib
+import functools
+import hashlib
+import json
+import pathlib
+import shutil
+import sqlite3
+import tempfile
+
+from looks import FILES, run
+
+RULES = 1
+FRONT = 4096  # bytes that a first line may have, with its line feed
+BRIEF = 2048  # bytes of the line of a refused command that has all that it says
+NAMES = ("command", "login", "number", "received", "reply")
+LEFT_OUT = {"order": {"points": [], "steps": []}, "restore": {"steps": []}, "switch": {"steps": []}, "repeat": {"text": ""}}
+
+Place = collections.namedtuple("Place", "id, number, sum")
+End = collections.namedtuple("End", "last, is_open, sum")  # of a chain: its last number, whether that may be withdrawn
+Ahead = collections.namedtuple("Ahead", "entries, keep")  # lines after a register's, and how many bytes are not cut off
+
+
+# ---- writing
+
+def sum_of(*parts):
+    return hashlib.sha256(b"".join(parts)).hexdigest()
+
+
+def files_sum(texts, name):
+    """Of three files and an id: the sum of each file on a line of its own, and the id."""
+    return sum_of("".join(f"{sum_of(text)}\n" for text in texts).encode(), name.encode())
+
+
+def first_place(texts, moment, database, journal):
+    """The place of a new register. Its id is of the files too, and of when and where the journal was begun."""
+    name = files_sum(texts, f"{moment} {database} {journal}")
+    return Place(name, 0, files_sum(texts, name))
+
+
+def written(value):
+    """JSON without blanks, its keys in the order of their bytes."""
+    return json.dumps(value, sort_keys=True, separators=(",", ":"), ensure_ascii=False).encode()
+
+
+def first_text(place):
+    return written({"journal": place.id, "number": place.number, "rules": RULES, "sum": place.sum})
+
+
+def carried(command, login, number, received, reply):
+    return dict(zip(NAMES, (command, login, number, received, reply)))
+
+
+def withdrawn(number):
+    return {"number": number, "withdrawn": True}
+
+
+def noted(entry):
+    """A line as it is noted: that of a refused command which would be long has no lists and no text."""
+    is_long = len(written(entry | {"sum": "0" * 64})) > BRIEF
+    command = entry["command"]
+    return entry | {"command": command | LEFT_OUT.get(command["do"], {})} if is_long and not accepts(entry) else entry
+
+
+def sum_after(before, entry):
+    """The sum at a line: of the sum before it, and of the line without its sum."""
+    return sum_of(before.encode(), written(entry))
+
+
+class Chain:
+    """A journal that is written here, line by line."""
+
+    def __init__(self, first):
+        self.place = first
+        self.lines = [first_text(first)]
+
+    def put(self, entry):
+        """One more line, which need not be the next."""
+        self.place = Place(self.place.id, entry["number"], sum_after(self.place.sum, entry))
+        self.lines.append(written(entry | {"sum": self.place.sum}))
+
+    def add(self, command, reply, login=None, received=1795503841):
+        self.put(noted(carried(command, login, self.place.number + 1, received, reply)))
+
+    def withdraw(self):
+        self.put(withdrawn(self.place.number))
+
+    def text(self):
+        return text_of(self.lines)
+
+
+def text_of(lines):
+    return b"".join(line + b"\n" for line in lines)
+
+
+# ---- reading
+
+def lines_in(data):
+    """The lines that a line feed ends, without it."""
+    return data.split(b"\n")[:-1]
+
+
+def is_whole(value):
+    return isinstance(value, int) and not isinstance(value, bool) and 0 <= value < 1 << 64
+
+
+def has_fraction(value):
+    if isinstance(value, dict):
+        return any(map(has_fraction, value.values()))
+    return any(map(has_fraction, value)) if isinstance(value, list) else isinstance(value, float)
+
+
+@functools.lru_cache(maxsize=None)
+def reads_as_command(text):
+    return not run("run", *FILES, lines=[text])[1].startswith('{"fault":')
+
+
+def value_in(text):
+    """The JSON object of a line; None where it has none."""
+    with contextlib.suppress(ValueError):
+        value = json.loads(text.decode("utf-8"))
+        return value if isinstance(value, dict) else None
+    return None
+
+
+def entry_in(text):
+    """What a text says, if it is a line of a journal, whatever its sum is."""
+    value = value_in(text)
+    if value is None or not is_whole(value.get("number")):
+        return None
+    if "withdrawn" in value:
+        return withdrawn(value["number"]) if value["withdrawn"] is True else None
+    is_line = all(name in value for name in NAMES) and is_whole(value["received"])
+    if not is_line or not isinstance(value["login"], (str, type(None))):
+        return None
+    command = value["command"]
+    is_line = isinstance(command, dict) and reads_as_command(written(command).decode())
+    return {name: value[name] for name in NAMES} if is_line else None
+
+
+def accepts(entry):
+    """A line says that its command was carried out."""
+    reply = (entry or {}).get("reply")
+    return isinstance(reply, dict) and reply.get("reply") in ("accepted", "added")
+
+
+def first_in(text):
+    """The place that a first line says, if it is one in its own form."""
+    value = value_in(text) if len(text) < FRONT else None
+    if value is None or not is_whole(value.get("number")):
+        return None
+    names = [value.get(name) for name in ("journal", "sum")]
+    if not all(isinstance(name, str) for name in names):
+        return None
+    place = Place(names[0], value["number"], names[1])
+    return place if text == first_text(place) else None
+
+
+def is_next(end, entry):
+    if "withdrawn" in entry:
+        return end.is_open and entry["number"] == end.last
+    return entry["number"] == end.last + 1
+
+
+def next_link(end, text):
+    """The next line of a chain and the end after it, if the text is that and holds its sum; or None."""
+    entry = entry_in(text)
+    if entry is None or not is_next(end, entry) or has_fraction(entry):
+        return None
+    own = sum_after(end.sum, entry)
+    return (entry, End(entry["number"], accepts(entry), own)) if text == written(entry | {"sum": own}) else None
+
+
+def said_by(end, text):
+    """Where a chain goes on after a line that does not hold its sum: where the line says."""
+    entry, own = entry_in(text), (value_in(text) or {}).get("sum")
+    if entry is None or not isinstance(own, str):
+        return End(end.last + 1, False, end.sum)
+    return End(entry["number"], accepts(entry), own)
+
+
+def walk(place, texts):
+    """Of each line its number, and what it says if it holds its sum."""
+    end, steps = End(place.number, False, place.sum), []
+    for text in texts:
+        link = next_link(end, text)
+        steps.append((link[0]["number"], link[0]) if link else (end.last + 1, None))
+        end = link[1] if link else said_by(end, text)
+    return steps
+
+
+def bad_lines(data):
+    """The numbers of the lines that do not hold their sums; 0 where there is no first line."""
+    lines = lines_in(data)
+    first = first_in(lines[0]) if lines else None
+    return [number for number, entry in walk(first, lines[1:]) if entry is None] if first else [0]
+
+
+# ---- what an opening finds
+
+def found(place, data):
+    """What an opening finds at the place of a register: lines after it, or the words of a fault."""
+    lines = lines_in(data)
+    first = first_in(lines[0]) if lines else None
+    if not data or first is None:
+        return "journal BadLine 0" if data else "journal OpenFailed"
+    if first.id != place.id:
+        return "journal OtherRegister"
+    for at in range(len(lines) - 1, 0, -1):
+        entry = entry_in(lines[at])
+        if entry and "withdrawn" not in entry and entry["number"] == place.number:
+            if has_fraction(entry) or lines[at] != written(entry | {"sum": place.sum}):
+                return f"journal Differs {place.number}"
+            return after(place, accepts(entry), data, lines, at + 1)
+        if entry and entry["number"] < place.number:
+            return too_short(entry["number"], lines[at + 1:])
+    return by_first(place, first, data, lines)
+
+
+def by_first(place, first, data, lines):
+    """What is found where no line has the register's number or a lower one."""
+    if first.number != place.number:
+        return too_short(first.number, lines[1:]) if first.number < place.number else "journal TooShort"
+    if first.sum != place.sum:
+        return f"journal Differs {place.number}"
+    return after(place, False, data, lines, 1)
+
+
+def too_short(number, texts):
+    is_bad = any(accepts(entry_in(text)) for text in texts)
+    return f"journal BadLine {number + 1}" if is_bad else "journal TooShort"
+
+
+def after(place, is_open, data, lines, at):
+    """What is found after the register's line: lines that hold their sums, and no accepted one after these."""
+    end, entries = End(place.number, is_open, place.sum), []
+    while at < len(lines) and (link := next_link(end, lines[at])):
+        end, at = link[1], at + 1
+        entries.append(link[0])
+    if entries and "withdrawn" in entries[0]:
+        return f"journal Differs {place.number}"
+    if any(accepts(entry_in(text)) for text in lines[at:]):
+        return f"journal BadLine {end.last + 1}"
+    return Ahead(entries, len(text_of(lines[:at])))
+
+
+def place_after(place, entries):
+    """The place of a register once it was rolled forward through lines."""
+    own, done = place.sum, carried_out(entries)
+    for entry in entries:
+        own = sum_after(own, entry)
+        if entry in done:
+            place = Place(place.id, entry["number"], own)
+    return place
+
+
+def carried_out(entries):
+    """The lines whose commands were accepted and not withdrawn."""
+    later = [*entries[1:], {}]
+    return [entry for entry, then in zip(entries, later) if accepts(entry) and "withdrawn" not in then]
+
+
+# ---- the place that a database has
+
+def rows_of(path, statement):
+    """What SQLite says of a copy of a database and its log."""
+    with tempfile.TemporaryDirectory(prefix="rows-") as folder:
+        one = pathlib.Path(folder) / "one.db"
+        shutil.copy(path, one)
+        log = path.with_name(f"{path.name}-wal")
+        if log.exists():
+            shutil.copy(log, f"{one}-wal")
+        with contextlib.closing(sqlite3.connect(one)) as opened:
+            return opened.execute(statement).fetchall()
+
+
+def place_of(path):
+    """The place of a register in its journal; None where it has none."""
+    if not rows_of(path, "SELECT name FROM sqlite_schema WHERE name = 'journal'"):
+        return None
+    (row,) = rows_of(path, "SELECT id, number, sum FROM journal")
+    return Place(*row)
