@@ -1,5 +1,6 @@
-// Handing a shift over: who leaves, who comes, and what is open, to be printed and signed by both.
+// Handing a shift over: who leaves, who comes, what is open, and how far the journal has come, to be printed and signed by both.
 
+import { journal, newest } from "../log/journal.js";
 import { sectionWords } from "../orders/findings.js";
 import { drafted, draftName } from "../shared/drafts.js";
 import { el, button, choice, field, panel, table, unbroken } from "../shared/elements.js";
@@ -28,6 +29,12 @@ function pointWords({ point, position, hand, holds }) {
     + `${owners.length ? `; held by ${owners.join(", ")}` : ""}${hand ? `; in hand of ${hand}` : ""}`;
 }
 
+// Who signs these keeps the lines up to there from being written again unseen.
+function journalRow() {
+  const { state, last } = journal;
+  return state === "read" && last?.sum ? el("p", {}, `The journal has come to number ${last.number}, with the sum `, el("span", { class: "sum" }, last.sum), ".") : null;
+}
+
 // On a phone, where there are no heads, the holder and the last moment have theirs.
 function recordRow(row) {
   return el("tr", {}, row.map((text, place) => el("td", { "data-head": place > 4 ? HEADS[place].toLowerCase() : null }, text)));
@@ -51,12 +58,17 @@ export class ShiftPage {
   }
 
   update() {
+    this.#draw();
+    newest().then(() => this.#draw());
+  }
+
+  #draw() {
     const states = [...this.#desk.states().values()];
     const moved = states.filter((state) => isOffNormal(state) || state.holds.length || state.hand).map(pointWords);
     const jumpers = states.filter(({ point }) => point.jumper).map(({ point, position }) => `${point.name}, ${point.from} – ${point.to}, ${position}`);
     const dead = [...network.sections.values()].filter(({ live }) => !live).map(({ name }) => name);
     const alarmed = alarms().map(({ id, section }) => `${section} under ${id}`), records = recordRows();
-    panel(this.#sheet, [this.#leaves.value, this.#comes.value, this.#notes.value, moved, jumpers, dead, alarmed, records, room.read], () => [
+    panel(this.#sheet, [this.#leaves.value, this.#comes.value, this.#notes.value, moved, jumpers, dead, alarmed, records, room.read, journal.last?.sum], () => [
       el("h2", {}, "Hand-over of a shift"),
       el("p", {}, `Leaves: ${this.#leaves.value || "not chosen"}. Comes: ${this.#comes.value || "not chosen"}. The board of ${wholeTime(room.read)}; the network of ${shortTime(room.network)}.`),
       alarmed.length ? list("TESTED LIVE", alarmed) : null,
@@ -66,7 +78,7 @@ export class ShiftPage {
       list(knowsNormal() ? "Points held, in hand, or not normal" : "Points held or in hand", moved), list("Jumpers", jumpers),
       list("Dead by the register's positions", dead.length ? [sectionWords(dead, dead.length)] : []),
       this.#notes.value ? [el("h3", {}, "Further"), el("p", { class: "notes" }, this.#notes.value)] : null,
-      el("p", {}, CHECKED),
+      journalRow(), el("p", {}, CHECKED),
       el("p", { class: "signed" }, `${this.#leaves.value || "Leaves"}: ______________________   ${this.#comes.value || "Comes"}: ______________________`),
     ].flat(2).filter(Boolean));
   }

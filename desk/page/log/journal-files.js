@@ -2,7 +2,7 @@
 // was rotated. Each is read by ranges of bytes.
 
 export const NEWEST = "journal";
-const PARTS = "journals/", PART = /^journal-2[0-9TZ:-]+$/;
+const PARTS = "journals/", PART = /^journal-2[0-9T:-]+Z$/;
 
 // { bytes, from, size } of a range: its bytes, where they begin, and the size of the whole; `from` is null where there are no
 // more. { status } where the file cannot be read: 0 without an answer.

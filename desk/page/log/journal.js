@@ -1,6 +1,6 @@
 // The register's journal, as the proxy serves it where this desk has one: read from its end backwards, a piece at a time, and
-// on through its parts. Each entry is a line of it: { command, login, number, received, reply }, and `withdrawn` where a
-// later line says so.
+// on through its parts. Each entry is a line of it: { command, login, number, received, reply, sum }, and `withdrawn` where a
+// later line says so. The first line of each part has the number and the sum of the line before it, and is no entry.
 
 import { bytesOf, NEWEST, partFiles } from "./journal-files.js";
 
@@ -10,8 +10,8 @@ const AGAIN = 30000; // milliseconds after which a journal that was not there is
 
 // `state`: "new" until it was asked for, "read", "none" where there is no journal, or "failed". `end` is where the newest file
 // ends; `file` is the one that is being read backwards, as far as `begin`; `older` are the parts before that one, null while
-// they are not known.
-export const journal = { state: "new", entries: [], begin: 0, end: 0, file: NEWEST, older: null };
+// they are not known. `last` is the last line, null while none was read.
+export const journal = { state: "new", entries: [], begin: 0, end: 0, file: NEWEST, older: null, last: null };
 
 let withdrawn = new Set();
 let turn = Promise.resolve();
@@ -25,11 +25,12 @@ function entryIn(line) {
   }
 }
 
-// The entries of whole lines; a withdrawal is put to what it withdraws.
-function entriesIn(bytes) {
-  const found = new TextDecoder().decode(bytes).split("\n").filter(Boolean).map(entryIn).filter(Boolean);
-  for (const { number } of found.filter((entry) => entry.withdrawn)) withdrawn.add(number);
-  return found.filter((entry) => entry.command);
+// What whole lines say: their entries, the first line of a part where that is among them, the last of them, and whether one
+// does not read. A withdrawal is put to what it withdraws.
+function saidBy(bytes) {
+  const texts = new TextDecoder().decode(bytes).split("\n").filter(Boolean), lines = texts.map(entryIn).filter(Boolean);
+  for (const { number } of lines.filter((one) => one.withdrawn)) withdrawn.add(number);
+  return { found: lines.filter((one) => one.command), head: lines.find((one) => one.journal) ?? null, last: lines.at(-1) ?? null, isTorn: lines.length < texts.length };
 }
 
 function keep(entries) {
@@ -38,18 +39,20 @@ function keep(entries) {
   journal.state = "read";
 }
 
-// What was read goes on with these entries: they overlap it, or follow it. Otherwise they are of another journal.
-function joins(known, found) {
-  const last = known.at(-1), [first] = found;
-  if (!last || !first) return true;
+// What was read goes on with these lines: they have an entry of it, by its sum, or follow it. Otherwise they are of another
+// journal.
+function joins(known, { found: [first], head }) {
+  const last = known.at(-1);
+  if (!last || (!first && !head)) return true;
+  if (!first) return head.number === last.number;
   const same = known.findLast(({ number }) => number === first.number);
-  return same ? same.received === first.received && JSON.stringify(same.command) === JSON.stringify(first.command) : first.number === last.number + 1;
+  return same ? same.sum === first.sum : first.number === last.number + 1;
 }
 
-// The whole lines of what was found, and where they begin and end.
+// What the whole lines of a range say, and where they begin and end.
 function linesOf({ bytes, from }, isBegin) {
-  const skip = isBegin || !from ? 0 : bytes.indexOf(LINE_FEED) + 1, last = Math.max(bytes.lastIndexOf(LINE_FEED) + 1, skip);
-  return { found: entriesIn(bytes.slice(skip, last)), begin: (from ?? 0) + skip, end: (from ?? 0) + last };
+  const skip = isBegin || !from ? 0 : bytes.indexOf(LINE_FEED) + 1, end = Math.max(bytes.lastIndexOf(LINE_FEED) + 1, skip);
+  return { ...saidBy(bytes.slice(skip, end)), begin: (from ?? 0) + skip, end: (from ?? 0) + end };
 }
 
 // The newest file from its end, at first and where it is another one than before, as after a rotation.
@@ -62,10 +65,10 @@ async function readFromEnd() {
   }
   const before = withdrawn;
   withdrawn = new Set();
-  const { found, begin, end } = linesOf(answer, false);
-  if (joins(journal.entries, found)) withdrawn = new Set([...before, ...withdrawn]);
+  const lines = linesOf(answer, false), { found, begin, end, last } = lines;
+  if (joins(journal.entries, lines)) withdrawn = new Set([...before, ...withdrawn]);
   else journal.entries = [];
-  Object.assign(journal, { begin, end, file: NEWEST, older: null });
+  Object.assign(journal, { begin, end, last, file: NEWEST, older: null });
   keep([...journal.entries.filter(({ number }) => number < (found[0]?.number ?? Infinity)), ...found]);
   if (!begin && !isWhole()) journal.older = await partFiles();
 }
@@ -83,13 +86,13 @@ async function readNewest() {
     return;
   }
   const isOther = answer.from === null ? answer.size < journal.end : answer.from !== journal.end;
-  const { found, end } = isOther ? { found: [] } : linesOf(answer, true), last = journal.entries.at(-1);
-  if (isOther || (found.length && last && found[0].number !== last.number + 1)) {
+  const { found, end, last, isTorn } = isOther ? { found: [] } : linesOf(answer, true);
+  if (isOther || isTorn || (found.length && journal.last && found[0].number !== journal.last.number + 1)) {
     await readFromEnd();
     return;
   }
   if (answer.bytes.length && end > journal.end) {
-    journal.end = end;
+    Object.assign(journal, { end, last: last ?? journal.last });
     keep([...journal.entries, ...found]);
   }
 }
