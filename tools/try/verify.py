@@ -131,8 +131,8 @@ def restores(folder):
         changed.execute("UPDATE clearance SET last_at = last_at + 1 WHERE number = 1")
         changed.commit()
     same("verify finds a row that fits and is another", run("verify", path, journal, *files), (1, "", "fault: verify Differs clearance JONES-1/1\n"))
-    for statement, wanted in (("number = number + 1", "journal TooShort"), ("number = number - 1", f"journal Differs {last - 1}"), ("sum = replace(sum, 'a', 'b')", f"journal Differs {last}"),
-                              ("id = replace(id, 'a', 'b')", "journal OtherRegister"), ("number = -1", "store BadRow journal")):
+    for statement, wanted in (("number = number + 1", "journal TooShort"), ("number = number - 1", f"journal Differs {last - 1}"), ("sum = substr(sum, 2) || substr(sum, 1, 1)", f"journal Differs {last}"),
+                              ("id = substr(id, 2) || substr(id, 1, 1)", "journal OtherRegister"), ("number = -1", "store BadRow journal")):
         one = copied(other, folder / "placed.db")
         with contextlib.closing(sqlite3.connect(one)) as changed:
             changed.execute(f"UPDATE journal SET {statement}")
