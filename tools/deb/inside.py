@@ -255,19 +255,8 @@ def restore(root, tally):
 
 
 def update(root, tally):
-    """A register with a journal takes no update; one without takes it."""
+    """Network and staff change while a crew is at work."""
     print("updates", flush=True)
-    before = root.curl("/board", port=8080)
-    status, out = root.run("gridclear-setup --update")
-    tally.check("with a journal it is refused, and says why", status == 1 and "no line for an update" in out and root.curl("/board", port=8080) == before, out)
-    status, out = root.run(f"systemctl stop gridclear; mkdir aside; mv /{DATA}/* aside; cp -p aside/*.csv /{DATA}; cd /{DATA} && runuser -u gridclear -- gridclear init sections.csv points.csv staff.csv --db room.db")
-    tally.check("a register without a journal", status == 0, out)
-    updated(root, tally)
-    root.run(f"systemctl stop gridclear; rm -rf /{DATA}/* /etc/gridclear/users /etc/gridclear/logins.csv; mv aside/* /{DATA}; rmdir aside; systemctl restart gridclear gridclear-desk")
-
-
-def updated(root, tally):
-    """Network and staff of a register without a journal change while a crew is at work."""
     network = root.path(f"{ETC}/network")
     was = {name: (network / f"{name}.csv").read_text() for name in ("sections", "points", "staff")}
     shift = (TOP / "examples" / "held.jsonl").read_text().splitlines()
@@ -293,9 +282,25 @@ def updated(root, tally):
     tally.check("nobody speaks as who is gone", root.run("gridclear-setup --logins")[1] == "DAY: KIM\n", root.run("gridclear-setup --logins"))
     normal = root.path(f"{DATA}/normal.csv").read_text()
     tally.check("normal positions stay, and the new point has its own", "S1,G,L1,yes,no,closed\n" in normal and "S5,L1,L4,yes,no,open\n" in normal, normal)
-    tally.check("the register from before is kept", len(list(root.path(DATA).glob("before-*/room.db"))) == 1)
+    status, out = root.run(f"systemctl stop gridclear; cd /{DATA} && runuser -u gridclear -- /usr/lib/gridclear/verify; s=$?; systemctl start gridclear; exit $s")
+    tally.check("verify goes from the copy", status == 0 and "verified " in out, out)
+    status, out = root.run("rm -f /run/gridclear-backup.out; sleep 1; systemctl start gridclear-backup; s=$?; cat /run/gridclear-backup.out; exit $s")
+    tally.check("so does a backup", status == 0 and "verified " in out and "made from the journal" not in out, out)
+    aside = list(root.path(DATA).glob("before-*"))
+    status, out = root.run(f"cd /{DATA}/{aside[0].name if aside else '.'} && runuser -u gridclear -- /usr/lib/gridclear/verify")
+    tally.check("the register from before is whole, with its journal", len(aside) == 1 and status == 0 and "verified " in out, out)
     for name, text in was.items():
         (network / f"{name}.csv").write_text(text)
+    status, out = root.run("gridclear-setup --update")
+    tally.check("and back", "employee DALE comes" in out or "fault: update Employee ADA" in out, out)
+    (network / "staff.csv").write_text(was["staff"] + "ADA,charge,\nEVE,field,\n")
+    (network / "sections.csv").write_text(was["sections"] + "L4,no\n")
+    (network / "points.csv").write_text(was["points"] + "S5,L1,L4,yes,no,open\n")
+    status, out = root.run("gridclear-setup --update")
+    tally.check("once more, over the second journal", status == 0 and "employee EVE comes" in out, out)
+    for name, text in was.items():
+        (network / f"{name}.csv").write_text(text)
+    root.run("rm -f /etc/gridclear/users /etc/gridclear/logins.csv; systemctl restart gridclear gridclear-desk")
 
 
 def port_443(root, tally):
