@@ -1,6 +1,8 @@
 """What the looks of tools/try that are in Python share: the program, registers of examples/, servers, requests, and a line
 for each look: `passed: TITLE`, or `differs: TITLE: FOUND`. GRIDCLEAR names another program than tools/gridclear."""
 
+import collections
+import concurrent.futures
 import contextlib
 import json
 import os
@@ -24,6 +26,19 @@ REASONS = {200: "OK", 400: "Bad Request", 403: "Forbidden", 404: "Not Found", 40
 
 def look(title, good, found=""):
     print(f"passed: {title}" if good else f"differs: {title}: {str(found)[:1500]}", flush=True)
+
+
+def outcomes_counted(title, outcomes_of, seeds):
+    """How often each outcome came, of all seeds, some at a time. One that begins with `differs: ` is a look that differs."""
+    counts = collections.Counter()
+    with concurrent.futures.ThreadPoolExecutor(os.cpu_count()) as pool:
+        for outcomes in pool.map(outcomes_of, seeds):
+            for outcome in outcomes:
+                if outcome.startswith("differs: "):
+                    look(title, False, outcome)
+                    outcome = "differs"
+                counts[outcome] += 1
+    return counts
 
 
 def same(title, found, wanted):

@@ -9,8 +9,6 @@ that and nothing more, and the register that is left has to be the one that its 
 have to name the lines that do not hold their sums. A loss of power may leave any sectors of what came after the last
 sync: of these none is refused. A line counts what was tried. GRIDCLEAR names another program than tools/gridclear."""
 
-import collections
-import concurrent.futures
 import os
 import pathlib
 import random
@@ -19,7 +17,7 @@ import tempfile
 
 from chain import Ahead, accepts, bad_lines, carried_out, entry_in, files_sum, first_in, found, lines_in, place_after
 from chain import place_of, text_of, walk
-from looks import copied, look, main, register, run
+from looks import copied, look, main, outcomes_counted, register, run
 from random_registers import BEGIN, commands_follow, random_files
 
 COUNT = 2_000 if "--full" in sys.argv[1:] else int((sys.argv[1:] or ["150"])[0])
@@ -240,14 +238,7 @@ def openings_of(seed):
 
 
 def openings(_):
-    counts, seeds = collections.Counter(), range(SEED, SEED + -(-COUNT // EACH))
-    with concurrent.futures.ThreadPoolExecutor(os.cpu_count()) as pool:
-        for outcomes in pool.map(openings_of, seeds):
-            for outcome in outcomes:
-                if outcome.startswith("differs: "):
-                    look("an opening", False, outcome)
-                    outcome = "differs"
-                counts[outcome] += 1
+    counts = outcomes_counted("an opening", openings_of, range(SEED, SEED + -(-COUNT // EACH)))
     counted = ", ".join(f"{count} {outcome}" for outcome, count in sorted(counts.items()))
     look(f"{sum(counts.values())} openings: {counted}", not counts["differs"], counted)
     kinds = ("opened, cut", "opened, level", "opened, rolled forward", "BadLine", "Differs", "OtherRegister", "TooShort")

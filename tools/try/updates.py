@@ -10,8 +10,6 @@ its fence. The commands of what is open are answered as in a copy that was not u
 has a way back. Files that `init` refuses are refused with the same line. A line counts what was tried; of
 2,000 each obstacle has some. GRIDCLEAR names another program than tools/gridclear."""
 
-import collections
-import concurrent.futures
 import hashlib
 import json
 import os
@@ -22,7 +20,7 @@ import subprocess
 import sys
 import tempfile
 
-from looks import GRIDCLEAR, Server, copied, look, main, run, same
+from looks import GRIDCLEAR, Server, copied, look, main, outcomes_counted, run, same
 from random_registers import BEGIN, IN_FORCE, OPEN, OPEN_PHASES, YES, Employee, Files, Moves, Tables
 from random_registers import commands_follow, made, random_files, reached, text_of
 from random_updates import Chosen
@@ -296,14 +294,7 @@ def years(seed):
 
 
 def updates(_):
-    counts, seeds = collections.Counter(), range(SEED, SEED + -(-COUNT // EACH))
-    with concurrent.futures.ThreadPoolExecutor(os.cpu_count()) as pool:
-        for outcomes in pool.map(years, seeds):
-            for outcome in outcomes:
-                if outcome.startswith("differs: "):
-                    look("an update", False, outcome)
-                    outcome = "differs"
-                counts[outcome] += 1
+    counts = outcomes_counted("an update", years, range(SEED, SEED + -(-COUNT // EACH)))
     tried = ", ".join(f"{kind} {counts[kind]}" for kind in ("accepted", "files", *KINDS))
     look(f"{sum(counts.values())} updates: {tried}", not counts["differs"], f"{counts['differs']} differ")
     missing = [kind for kind in ("accepted", *KINDS) if not counts[kind]]
