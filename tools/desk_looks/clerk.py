@@ -114,10 +114,10 @@ class Clerk(Hand):
         self.carry_out("restore", "Restoring")
         return undoing(cut, ends)
 
-    def not_taken(self, name, *answers):
-        """A press that the register answers with 503."""
-        if self.kind_of(name, *answers) == "accepted":
-            raise Differs(f"{name} was to be answered with 503, and is accepted")
+    def unanswered(self, name, *answers):
+        """A press while there is no register: the proxy says so."""
+        self.consent(name, (), answers)
+        self.reply("lost", "No reply came")
 
     def press_until_refused(self, name):
         """A press again and again: what a full disk has left may be enough for the first ones."""

@@ -1,5 +1,6 @@
 """tools/desk over a register, and what the program and the tables say."""
 
+import contextlib
 import json
 import os
 import resource
@@ -64,15 +65,30 @@ class Desk:
             return False
 
     def register(self):
-        with open(os.path.join(self.run_folder(), "desk", "run", "register.pid"), encoding="utf-8") as file:
-            return int(file.read())
+        """The number of its process, which tools/desk may be writing just now."""
+        path = os.path.join(self.run_folder(), "desk", "run", "register.pid")
+        return wait_until(lambda: number_in(path), "the number of the register's process")
 
     def fill_disk(self, room=ROOM):
-        """The register may write no file beyond this many bytes, as on a disk that is full."""
-        resource.prlimit(self.register(), resource.RLIMIT_FSIZE, (room, resource.RLIM_INFINITY))
+        """The register may write no file beyond this many bytes, as on a disk that is full; nor may one that tools/desk starts after it."""
+        for process in (self.register(), self.process.pid):
+            resource.prlimit(process, resource.RLIMIT_FSIZE, (room, resource.RLIM_INFINITY))
 
     def free_disk(self):
-        resource.prlimit(self.register(), resource.RLIMIT_FSIZE, (resource.RLIM_INFINITY, resource.RLIM_INFINITY))
+        for process in (self.register(), self.process.pid):
+            with contextlib.suppress(ProcessLookupError):  # the register may have ended
+                resource.prlimit(process, resource.RLIMIT_FSIZE, (resource.RLIM_INFINITY, resource.RLIM_INFINITY))
+
+    def ends_again(self):
+        """The register has ended by itself; tools/desk starts it again, and it ends again."""
+        before = self.register()
+        wait_until(lambda: self.register() != before, "the register started again")
+        again = self.register()
+        wait_until(lambda: self.register() != again, "the register started a third time")
+
+    def comes_back(self):
+        """tools/desk starts it again, and now it serves."""
+        wait_until(lambda: self.answers(200), "the register again")
 
     def restart(self):
         """The register ends, and tools/desk starts it again."""
@@ -92,6 +108,11 @@ class Desk:
         with open(f"{self.base}.commands.log", encoding="utf-8") as file:
             entries = [json.loads(line) for line in file]
         return [entry["command"] for entry in entries if entry["status"] != 502]
+
+
+def number_in(path):
+    with open(path, encoding="utf-8") as file:
+        return int(file.read() or 0)
 
 
 def gridclear(*words, text=None):

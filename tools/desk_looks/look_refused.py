@@ -1,9 +1,10 @@
-"""A register that refuses commands, as on a full disk: each is not known until it was looked up, and the top is an alarm."""
+"""A register that refuses commands, as on a full disk: each is not known until it was looked up, and the top is an alarm. With
+a journal the register ends once the database has refused one, and the journal decides when it is back."""
 
 import time
 
 from desk_looks.browser import Differs, wait_until
-from desk_looks.look_log import journaled
+from desk_looks.look_log import journaled, rows
 from desk_looks.network import granted
 
 CUT = ["N13-Q11", "N13-B1", "N13-Q13"]
@@ -36,20 +37,35 @@ def is_well(hand):
     hand.tab_is_quiet()
 
 
-def marked(hand):
-    """The log, and that of the record, have the entry that the board lacks marked."""
+def is_gone(hand):
+    """No register answers the page, which still has the command as one that is not known."""
+    hand.shows("does not answer since", "#contact.silent")
+    hand.tab_says("NO ANSWER")
+    hand.shows("C1 is on")
+
+
+def loaded_again(hand):
+    """The page comes without the register, and still has the command."""
+    hand.browser.own("POST", "/refresh", {})
+    hand.shows("The network is not known yet")
+    hand.shows("a restart of the register may do it", "#replies")
+    hand.tab_says("NO ANSWER")
+
+
+def logged(hand):
+    """The log has the entry as its newest, accepted, and nothing is marked as lacking on the board."""
     hand.turn("log")
-    hand.shows("crew C1 off", "main tr.lacking")
-    hand.shows("the board lacks it", "main tr.lacking")
-    if hand.browser.script("return document.querySelectorAll('main tr.lacking').length") != 1:
-        raise Differs("not one entry of the log is marked")
-    hand.picture("refused-log")
-    hand.turn("clearance/KIM/1")
-    hand.shows("the board lacks it", "main .story .bad")
+    hand.shows("sign off C1")
+    newest = rows(hand)[0]
+    if newest[4:] != ["sign off C1", "accepted"]:
+        raise Differs(f"the newest entry of the log is {newest}")
+    if hand.there("main tr.lacking"):
+        raise Differs("the log marks an entry, though the board has them all")
 
 
 def with_log(stage):
-    """The log has it, the board does not: it stays open through a reload, and the restart that carries it out."""
+    """The log has it, the board does not, and the register ends: it stays open, through a reload, until there is room; then it is
+    carried out."""
     hand, other = journaled(stage, "clearance/KIM/1"), stage.window("board")
     hand.speak("KIM")
     for command in KIM:
@@ -58,24 +74,22 @@ def with_log(stage):
     time.sleep(1.2)
     stage.desk.fill_disk()
     sign_off(hand, "C1")
-    is_open(hand, "was accepted. The board lacks it", "when the register is started again")
-    alarmed(hand)
-    alarmed(other)
-    hand.shows("The log has number", "#contact")
-    hand.shows("C1 is on")
+    is_open(hand, "a restart of the register may do it")
+    is_gone(hand)
+    other.shows("does not answer since", "#contact.silent")
     hand.picture("refused")
-    marked(hand)
-    hand.reload()
-    hand.shows("The board lacks it", "#replies")
-    alarmed(hand)
+    stage.desk.ends_again()
+    is_gone(hand)
+    loaded_again(hand)
     stage.desk.free_disk()
-    stage.desk.restart()
+    stage.desk.comes_back()
     hand.found("was accepted", "So it was carried out.")
     for one in (hand, other):
         is_well(one)
+    hand.shows("C2 is on")
     hand.lacks("C1 is on", "main")
-    if hand.there("main tr.lacking") or hand.there("main .story .bad"):
-        raise Differs("the log still marks what the board has by now")
+    logged(hand)
+    hand.picture("refused-log")
 
 
 def without_line(stage):

@@ -58,21 +58,22 @@ class Shift:
         self.second.follow(self.first)
 
     def full_disk(self):
-        """Both desks are answered 503: what is in the journal is carried out by the restart, the other is given again."""
+        """A desk is answered 503, and the register ends: its command is in the journal, and is carried out by the next start. The
+        other desk's command after that has no line there, and is given again."""
         self.anna.at("JONES/1", "JONES")
         self.bert.at("KIM/1", "KIM")
         for hand in self.hands:
             hand.rest()
         self.first.fill_disk()
         self.bert.press_until_refused(f"dead {OF_BERT[0]}")
-        self.bert.shows("was accepted. The board lacks it", "#replies")
-        self.anna.not_taken("off C1", "yes")
-        self.anna.shows("no restart carries it out", "#replies")
-        self.all_show("NO COMMAND IS TAKEN")
+        self.first.has_ended()
+        self.all_show("does not answer since")
+        self.anna.unanswered("off C1", "yes")
         self.anna.shows("C1 is on")
         self.first.free_disk()
         self.first.give("systemctl restart gridclear")
         self.bert.found("was accepted", "So it was carried out.")
+        self.anna.found("It has no line of this desk's command", "So far it was not carried out.")
         self.anna.browser.click('#replies [data-name$="Give it again"]')
         self.anna.answer("yes")
         self.anna.reply("accepted", "sign crew C1 off")

@@ -88,6 +88,12 @@ class Machine(guide_place.Place):
     def has_disk(self):
         return self.own.is_mount()
 
+    def has_ended(self):
+        """The register ends by itself, with the status of a fault; nothing starts it here."""
+        wait_until(lambda: self.register.poll() is not None, "the register's end")
+        if self.register.returncode != 1:
+            raise Differs(f"the register ended with status {self.register.returncode} after a fault")
+
     def room(self):
         return (self.own / "journal").stat().st_size + ROOM
 
@@ -104,9 +110,8 @@ class Machine(guide_place.Place):
                 pass
 
     def free_disk(self):
+        """Room again; without a disk the limit was that of the register's process, which has ended."""
         (self.own / "filler").unlink(missing_ok=True)
-        if not self.has_disk():
-            resource.prlimit(self.register.pid, resource.RLIMIT_FSIZE, (resource.RLIM_INFINITY, resource.RLIM_INFINITY))
 
     def tear(self):
         """The register is killed, and its file is damaged."""
