@@ -23,7 +23,7 @@ try 'a run over files with a journal' 2 '' "error: run takes --journal FILE only
 next_usage="error: journal takes --next FILE with --db DB, and then no other argument but FILE$feed"
 try 'a next part of no register' 2 '' "$next_usage" journal "$work/journal" --next "$work/none"
 try 'a journal of a register, and no next part' 2 '' "$next_usage" journal "$work/journal" --db "$work/kept.db"
-for word in JONES/1 --commands "--part=$work/journal"; do
+for word in JONES/1 --commands --offset=60 "--part=$work/journal"; do
   try "a next part, and $word" 2 '' "$next_usage" \
     journal "$work/journal" "$word" --db "$work/kept.db" --next "$work/none"
 done

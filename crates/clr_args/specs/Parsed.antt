@@ -142,10 +142,11 @@ abbrev pub AsksNextPart : List Row → Text → Text → Asked → Type 0
 AsksNextPart rows database next (asked.NextPart args) = IsNextPart rows database next args
 AsksNextPart rows database next what = ⊥
 
--- more is asked for beside a next part: a clearance, or the commands
-abbrev pub IsMoreThanNext : Option Text → Bool → Type 0
-IsMoreThanNext None false = ⊥
-IsMoreThanNext clearance commands = Unit {0}
+-- more is asked for beside a next part, all of which is for printing: a clearance, an offset, or the
+-- commands
+abbrev pub IsMoreThanNext : Option Text → Option Text → Bool → Type 0
+IsMoreThanNext None None false = ⊥
+IsMoreThanNext clearance offset commands = Unit {0}
 
 -- a journal is to be printed, where neither a next part nor a database is named; or its next part is
 -- to be begun, where both are, and no further parts
@@ -159,16 +160,17 @@ AsksOfJournal rows what = AsksJournalOver rows (first_of (codes "next") rows)
     (first_of (codes "db") rows) (words_in rows (codes "part")) what
 
 -- neither is asked for
-abbrev pub IsNoJournalOver : Option Text → Option Text → List Text → Option Text → Bool → Type 0
-IsNoJournalOver None None parts clearance commands = ⊥
-IsNoJournalOver (Some next) (Some database) [] clearance commands =
-    IsMoreThanNext clearance commands
-IsNoJournalOver next database parts clearance commands = Unit {0}
+abbrev pub IsNoJournalOver : Option Text → Option Text → List Text → Option Text → Option Text
+    → Bool → Type 0
+IsNoJournalOver None None parts clearance offset commands = ⊥
+IsNoJournalOver (Some next) (Some database) [] clearance offset commands =
+    IsMoreThanNext clearance offset commands
+IsNoJournalOver next database parts clearance offset commands = Unit {0}
 
 abbrev pub IsNoJournal : List Row → Type 0
 IsNoJournal rows = IsNoJournalOver (first_of (codes "next") rows) (first_of (codes "db") rows)
     (words_in rows (codes "part")) (first_of (codes "CLEARANCE") rows)
-    (flag_in (first_of (codes "commands") rows))
+    (first_of (codes "offset") rows) (flag_in (first_of (codes "commands") rows))
 
 -- a run of a journal begins with the register of three files, where no copy is named
 abbrev pub BeginsWithFiles : Option Text → List Text → Files → Type 0

@@ -325,14 +325,16 @@ fn next_part_asked<'a>(
 ) -> Option<Asked<'a>>
     ensures { MatchOption result
         (IsMoreThanNext (first_of (codes "CLEARANCE") (rows_of (found_of matches.now)))
+        (first_of (codes "offset") (rows_of (found_of matches.now)))
         (flag_in (first_of (codes "commands") (rows_of (found_of matches.now)))))
         (AsksNextPart (rows_of (found_of matches.now)) database.entry.now next.entry.now) }
 {
     match (
         option_of(matches, "CLEARANCE"),
+        option_of(matches, "offset"),
         flag_of(matches, "commands"),
     ) {
-        (None, false) => Some(Asked::NextPart(NextPartArgs {
+        (None, None, false) => Some(Asked::NextPart(NextPartArgs {
             path: word_of(matches, "FILE"),
             database,
             next,
