@@ -1,9 +1,8 @@
 -- One command at a keeper with one place for each change.
-use Rattle.std.proofs.Common.{◌≡◌, ◌∙◌, ◌⊎◌, Bool, true, false, List, [], ◌∷◌, Result, Ok, Err, inl, inr, refl, ap, subst, sym}
+use Rattle.std.proofs.Common.{◌≡◌, ◌∙◌, true, List, [], ◌∷◌, Result, Ok, Err, inl, inr, refl, ap, subst, sym}
 use Rattle.std.specs.Prelude.{IfOk, OnErr, OnOk}
 use Rattle.sqlite.specs.State.{State}
 use Rattle.clr_answer.specs.Decision.{is_accepted}
-use Rattle.clr_place.specs.declared.place.Place.{Place}
 use Rattle.clr_rules.specs.Answer.{Answer}
 use Rattle.clr_rules.specs.Register.{Register}
 use Rattle.clr_rules.specs.declared.change.Edit.{Edit}

@@ -1,7 +1,7 @@
 -- A chain with a line more: its text, its place, and what was carried out.
 use Rattle.std.proofs.Common.{◌≡◌, ◌∙◌, ◌==◌, ℕ, Bool, true, false, cond, not, ◌&&◌, List, [], ◌∷◌, ◌++◌, map, Option, None, Some, refl, ap, ap₂, sym, subst, append_assoc, append-nil}
 use Rattle.std.proofs.lemmas.Cmp.{nat_eq_equiv}
-use Rattle.std.proofs.lemmas.List.{map-append}
+use Rattle.std.proofs.lemmas.List.{append_cancel_left, map-append}
 use Rattle.serde_json.specs.Data.{Data}
 use Rattle.clr_append.specs.Lines.{text_of, with_feed}
 use Rattle.clr_rules.specs.Answer.{Answer, answer}
@@ -182,3 +182,27 @@ one_run R q = record { register = refl; replied = refl }
 pub run_more : (first R : Register) (pairs : List (Command × Data)) (q : Command) → IsRunOf first pairs R
     → IsRunOf first (pairs ++ (q, reply_data (Answer.reply (answer R q))) ∷ []) (after R q)
 run_more first R pairs q run = run_on first R (after R q) pairs _ run (one_run R q)
+
+append_first : (a b : Data) (xs ys : List Data) → a ∷ xs ≡ b ∷ ys → a ≡ b
+append_first a b xs ys is = cc
+
+-- in a run each command has the reply of the register that the run has come to
+pub reply_in_run : (first R T : Register) (xs : List (Command × Data)) (q : Command) (d : Data) (ys : List (Command × Data)) → IsRunOf first xs R
+    → IsRunOf first (xs ++ (q, d) ∷ ys) T → d ≡ reply_data (Answer.reply (answer R q))
+unfolding replies
+reply_in_run first R T xs q d ys one all =
+    let commands = map (λ (pair : Command × Data). pair.0) xs in
+    let later = map (λ (pair : Command × Data). pair.0) ys in
+    let told = map (λ (pair : Command × Data). pair.1) xs in
+    let others = map (λ (pair : Command × Data). pair.1) ys in
+    let firsts : map (λ (pair : Command × Data). pair.0) (xs ++ (q, d) ∷ ys) ≡ commands ++ q ∷ later = map-append _ xs ((q, d) ∷ ys) in
+    let seconds : map (λ (pair : Command × Data). pair.1) (xs ++ (q, d) ∷ ys) ≡ told ++ d ∷ others = map-append _ xs ((q, d) ∷ ys) in
+    let whole : map reply_data (replies first (commands ++ q ∷ later))
+    ≡ map reply_data (replies first commands) ++ map reply_data (replies (after_all first commands) (q ∷ later)) =
+    ap (map reply_data) (runs_go_on first commands (q ∷ later)).replied
+    ∙ map-append reply_data (replies first commands) (replies (after_all first commands) (q ∷ later)) in
+    let both : told ++ d ∷ others ≡ told ++ map reply_data (replies R (q ∷ later)) =
+    sym seconds ∙ all.replied ∙ ap (λ (qs : List Command). map reply_data (replies first qs)) firsts ∙ whole
+    ∙ ap₂ (λ (a b : List Data). a ++ b) (sym one.replied) (ap (λ (X : Register). map reply_data (replies X (q ∷ later))) (sym one.register)) in
+    append_first d (reply_data (Answer.reply (answer R q))) others (map reply_data (replies (after R q) later))
+    (append_cancel_left told (d ∷ others) (map reply_data (replies R (q ∷ later))) both)

@@ -1,5 +1,5 @@
 -- How far a register has come of the lines after its place.
-use Rattle.std.proofs.Common.{◌≡◌, ◌∙◌, Bool, true, false, cond, ℕ, List, [], ◌∷◌, ◌++◌, map, Option, None, Some, IfSome, IfOk, OnErr, OnOk, Result, Ok, Err, refl, ap, sym, subst, append_assoc, append-nil, reverse}
+use Rattle.std.proofs.Common.{◌≡◌, ◌∙◌, Bool, true, false, cond, ℕ, List, [], ◌∷◌, ◌++◌, map, Option, None, Some, IfSome, IfErr, IfOk, OnErr, OnOk, Result, Ok, Err, refl, ap, sym, subst, append_assoc, append-nil, reverse}
 use Rattle.std.proofs.lemmas.List.{reverse-append, reverse-reverse}
 use Rattle.sqlite.specs.State.{State}
 use Rattle.serde_json.specs.Data.{Data}
@@ -15,7 +15,7 @@ use Rattle.clr_rules.specs.declared.reply.Reply.{Reply}
 use Rattle.clr_rules.proofs.keeps.EveryKind.{runs_keep_good}
 use Rattle.clr_text.specs.Replies.{reply_data}
 use Rattle.clr_journal.specs.Journals.{carried_out, withdraws}
-use Rattle.clr_journal.specs.Line.{Entry, carried, entry_of, is_accepted, withdrawn}
+use Rattle.clr_journal.specs.Line.{Entry, entry_of, is_accepted, withdrawn}
 use Rattle.clr_journal.specs.declared.line.Carried.{Carried}
 use Rattle.clr_journal.specs.declared.line.Line.{Line}
 use Rattle.clr_journal.specs.declared.line.Line.TheVariants as line
@@ -26,13 +26,12 @@ use Rattle.clr_desk.specs.Given.{LeadsTo}
 use Rattle.clr_desk.specs.Taking.{Hearing, Taking}
 use Rattle.clr_desk.specs.declared.desk.Desk.{Desk}
 use Rattle.clr_desk.proofs.Givings.{leads_itself}
-use Rattle.clr_verify.specs.Replies.{DecidesReply}
-use Rattle.clr_level.specs.Forward.{AreShallow, DiffersAt, HasCome, HasStopped, IsAccepted, StopsAt, Went, open_after, open_entries, opened_by}
+use Rattle.clr_level.specs.Forward.{AreAnswered, AreShallow, HasCome, HasStopped, IsAccepted, StopsAt, Went, entry_with, open_after, open_entries, opened_by}
 use Rattle.clr_desk.specs.Placing.{Placing}
 use Rattle.clr_level.specs.Placing.{ComesTo, IsAt, StaysShown}
 use Rattle.clr_level.specs.declared.fault.OpeningFault.{OpeningFault}
 use Rattle.clr_level.proofs.Accepting.{accepted_data}
-use Rattle.clr_level.proofs.Chains.{accepted_out, ends_so, front_kept, no_run, place_more, refused_out, run_more, withdrawn_out}
+use Rattle.clr_level.proofs.Chains.{accepted_out, ends_so, front_kept, no_run, place_more, refused_out, reply_in_run, run_more, withdrawn_out}
 use Rattle.clr_level.proofs.Places.{at_moves, at_stays}
 
 -- a run leaves a good register good
@@ -186,31 +185,29 @@ module _ (has_place : Placing) (R : Register) (place : Place) (lines : List Entr
     shallow = come.shallow;
   }
 
-  -- where it is answered as its line says
-  pub answered_on : (S T : Register) (s t : State) (at : Place) (one : Carried) (rest : List Entry) (reply : Reply) (same : Bool) → same ≡ true → IsGood R
+  -- where all lines are answered as they say, it is
+  said : (S : Register) (s : State) (at : Place) (one : Carried) (rest : List Entry) → AreAnswered R lines
+      → HasCome has_place R place lines S s at (Some one) rest → withdraws rest ≡ false → view one.reply ≡ reply_data (Answer.reply (answer S one.command))
+  said S s at one rest answered come kept =
+      let entry = entry_with one in
+      let now = come.idle ++ entry ∷ [] in
+      let pairs : carried_out lines ≡ carried_out come.had ++ (one.command, view one.reply) ∷ carried_out rest =
+      ap carried_out come.all_is ∙ carried_out-append come.had (now ++ rest) come.begins
+      ∙ ap (λ ps. carried_out come.had ++ ps) (carried_out-append now rest kept
+      ∙ ap (λ ps. ps ++ carried_out rest) (accepted_out come.idle one.receipt one.command (view one.reply) come.none come.accepted)) in
+      reply_in_run R S answered.0 (carried_out come.had) one.command (view one.reply) (carried_out rest) come.run
+      (subst (λ ps. IsRunOf R ps answered.0) pairs answered.1)
+
+  pub answered_on : (S T : Register) (s t : State) (at : Place) (one : Carried) (rest : List Entry) (reply : Reply) → IsGood R → AreAnswered R lines
       → HasCome has_place R place lines S s at (Some one) rest → withdraws rest ≡ false
-      → (IsGood S → DecidesReply (view one.reply) (Answer.reply (answer S one.command)) same)
       → (IsGood S → reply ≡ Answer.reply (answer S one.command)) → (IsGood S → T ≡ after S one.command)
       → (accepts reply ≡ true → ComesTo has_place s t at) → HasCome has_place R place lines T t at None rest
-  answered_on S T s t at one rest reply same is_same good come kept decides replied went comes =
+  answered_on S T s t at one rest reply good answered come kept replied went comes =
       let fine = still_good R S (carried_out come.had) good come.run in
-      let is = subst (λ (b : Bool). DecidesReply (view one.reply) (Answer.reply (answer S one.command)) b) is_same (decides fine) come.shallow.0 in
+      let is = said S s at one rest answered come kept in
       let accepted : accepts reply ≡ true =
       ap accepts (replied fine) ∙ sym (accepted_data (Answer.reply (answer S one.command))) ∙ ap is_accepted (sym is) ∙ come.accepted in
       carried_on S T s t at one rest come kept is (went fine) (comes accepted)
-
-  pub differs : (S : Register) (s : State) (at : Place) (one : Carried) (rest : List Entry) (same : Bool) → same ≡ false → IsGood R → HasCome has_place R place lines S s at (Some one) rest
-      → (IsGood S → DecidesReply (view one.reply) (Answer.reply (answer S one.command)) same)
-      → DiffersAt has_place R place lines one.receipt.number S s
-  differs S s at one rest same is_same good come decides = record {
-    at = at;
-    one = one;
-    rest = rest;
-    come = come;
-    number_is = refl;
-    other = subst (λ (b : Bool). DecidesReply (view one.reply) (Answer.reply (answer S one.command)) b) is_same
-        (decides (still_good R S (carried_out come.had) good come.run));
-  }
 
   pub stopped : (S : Register) (s : State) (at : Place) (open_one : Option Carried) (rest : List Entry) → HasCome has_place R place lines S s at open_one rest
       → HasStopped has_place R place lines S s
@@ -224,6 +221,9 @@ on_err {A} {B} came fault P is holds = subst (λ (r : Result A B). OnErr r P) is
 
 pub if_ok : {A B : Type 0} (came : Result A B) (value : A) (P : A → Type 0) → came ≡ Ok value → IfOk came P → P value
 if_ok {A} {B} came value P is holds = subst (λ (r : Result A B). IfOk r P) is holds
+
+pub if_err : {A B : Type 0} (came : Result A B) (fault : B) (P : B → Type 0) → came ≡ Err fault → IfErr came P → P fault
+if_err {A} {B} came fault P is holds = subst (λ (r : Result A B). IfErr r P) is holds
 
 -- a line that has a command withdraws none
 pub carried_kept : (one : Line) (c : Carried) (rest : List Entry) → one ≡ line.Carried c → withdraws (entry_of one ∷ rest) ≡ false
@@ -256,14 +256,14 @@ module _ {K : Type 0} (kept : K → State) (has_place : Placing) (R : Register) 
 -- the lines so far, where `left` are those after them, the last first
 pub record SoFar {K : Type 0} (kept : K → State) (takes : Taking K) (hears : Hearing K) (has_place : Placing) (desk now : Desk K) (place at : Place)
     (open_one : Option Carried) (lines left : List Line) : Type 0 where
-  pub come : IsGood desk.book.register → withdraws (map entry_of lines) ≡ false → AreShallow (map entry_of lines) → IsAt has_place (kept desk.store) place
+  pub come : IsGood desk.book.register → AreAnswered desk.book.register (map entry_of lines) → withdraws (map entry_of lines) ≡ false → AreShallow (map entry_of lines) → IsAt has_place (kept desk.store) place
       → HasCome has_place desk.book.register place (map entry_of lines) now.book.register (kept now.store) at open_one (map entry_of (reverse left))
   pub led : LeadsTo kept takes hears desk now
 
 module _ {K : Type 0} (kept : K → State) (takes : Taking K) (hears : Hearing K) (has_place : Placing) (desk : Desk K) (place : Place) (lines : List Line) where
   pub none_yet : (left : List Line) → left ≡ reverse lines → SoFar kept takes hears has_place desk desk place place None lines left
   none_yet left is = record {
-    come = λ good begins shallow at.
+    come = λ good answered begins shallow at.
         subst (λ rest. HasCome has_place desk.book.register place (map entry_of lines) desk.book.register (kept desk.store) place None rest)
         (sym (ap (λ ls. map entry_of (reverse ls)) is ∙ ap (map entry_of) (reverse-reverse lines)))
         (begun has_place desk.book.register place (map entry_of lines) (kept desk.store) begins shallow at);
@@ -276,17 +276,17 @@ module _ {K : Type 0} (kept : K → State) (takes : Taking K) (hears : Hearing K
   -- what is said of the next line is said of the lines so far
   pub at_line : (now : Desk K) (at : Place) (open_one : Option Carried) (left rest : List Line) (one : Line) → left ≡ rest ++ one ∷ []
       → SoFar kept takes hears has_place desk now place at open_one lines left
-      → IsGood desk.book.register → withdraws (map entry_of lines) ≡ false → AreShallow (map entry_of lines) → IsAt has_place (kept desk.store) place
+      → IsGood desk.book.register → AreAnswered desk.book.register (map entry_of lines) → withdraws (map entry_of lines) ≡ false → AreShallow (map entry_of lines) → IsAt has_place (kept desk.store) place
       → HasCome has_place desk.book.register place (map entry_of lines) now.book.register (kept now.store) at open_one (entry_of one ∷ map entry_of (reverse rest))
-  at_line now at open_one left rest one is so_far good begins shallow here =
+  at_line now at open_one left rest one is so_far good answered begins shallow here =
       subst (λ es. HasCome has_place desk.book.register place (map entry_of lines) now.book.register (kept now.store) at open_one es)
-      (taken_last left rest one is) (so_far.come good begins shallow here)
+      (taken_last left rest one is) (so_far.come good answered begins shallow here)
 
   -- none is left
   pub at_last : (now : Desk K) (at : Place) (open_one : Option Carried) (left : List Line) → left ≡ []
       → SoFar kept takes hears has_place desk now place at open_one lines left
-      → IsGood desk.book.register → withdraws (map entry_of lines) ≡ false → AreShallow (map entry_of lines) → IsAt has_place (kept desk.store) place
+      → IsGood desk.book.register → AreAnswered desk.book.register (map entry_of lines) → withdraws (map entry_of lines) ≡ false → AreShallow (map entry_of lines) → IsAt has_place (kept desk.store) place
       → HasCome has_place desk.book.register place (map entry_of lines) now.book.register (kept now.store) at open_one []
-  at_last now at open_one left is so_far good begins shallow here =
+  at_last now at open_one left is so_far good answered begins shallow here =
       subst (λ es. HasCome has_place desk.book.register place (map entry_of lines) now.book.register (kept now.store) at open_one es)
-      (ap (λ ls. map entry_of (reverse ls)) is) (so_far.come good begins shallow here)
+      (ap (λ ls. map entry_of (reverse ls)) is) (so_far.come good answered begins shallow here)

@@ -9,3 +9,5 @@ pub mod Openings
 pub mod Places
 pub mod Sounds
 pub mod Taken
+pub mod Tried
+pub mod BegunLevel

@@ -1,11 +1,10 @@
 -- A keeper that is given its journal, level with it.
-use Rattle.std.proofs.Common.{◌≡◌, ◌∙◌, false, List, [], ◌++◌, None, ℕ, refl, ap, sym, subst, append_assoc, append-nil}
+use Rattle.std.proofs.Common.{◌≡◌, ◌∙◌, false, List, [], ◌++◌, None, ℕ, ap, sym, subst, append_assoc, append-nil}
 use Rattle.sqlite.specs.State.{State}
 use Rattle.clr_place.specs.declared.place.Place.{Place}
 use Rattle.clr_rules.specs.Register.{Register}
 use Rattle.clr_journal.specs.Journals.{carried_out, withdraws}
 use Rattle.clr_journal.specs.Line.{Entry}
-use Rattle.clr_chain.specs.Chain.{chain_text}
 use Rattle.clr_chain.specs.Level.{IsLevel, IsRunOf, place_after}
 use Rattle.clr_chain.proofs.LevelKept.{carried_out-append}
 use Rattle.clr_level.specs.Forward.{CanBeOpened, HasCome}

@@ -1,6 +1,6 @@
 -- ROLLING FORWARD: what an opening carries out of the lines after a register's place.
 use Rattle.std.specs.Prelude.{◌≡◌, ◌≢◌, ◌≤◌, ℕ, true, false, List, [], ◌∷◌, ◌++◌, Option}
-use Rattle.std.specs.Prelude.{None, Some, IfSome, Result, Ok, Err, ⊤, if◌then◌else◌}
+use Rattle.std.specs.Prelude.{None, Some, IfSome, Result, Ok, Err, ⊤, if◌then◌else◌, ◌&&◌, not}
 use Rattle.serde_json.specs.Data.{depth}
 use Rattle.serde_json.specs.View.{view}
 use Rattle.sqlite.specs.State.{State}
@@ -84,26 +84,69 @@ pub record HasStopped (has_place : Placing) (R : Register) (place : Place) (line
   pub rest : List Entry
   pub come : HasCome has_place R place lines S s at open_one rest
 
--- THE LINE OF THIS NUMBER DIFFERS: the register that has come to it answers its command otherwise
-pub record DiffersAt (has_place : Placing) (R : Register) (place : Place) (lines : List Entry)
-    (number : ℕ) (S : Register) (s : State) : Type 0 where
-  pub at : Place
+-- ---- whether commands are answered as their lines say
+
+-- the command of a line, where it was accepted and the next line does not withdraw it
+abbrev pub due : Line → List Entry → Option Carried
+due (line.Carried one) rest = if is_accepted (view one.reply) && not (withdraws rest) then Some one
+    else None
+due (line.Withdrawn n) rest = None
+
+abbrev pub entry_with : Carried → Entry
+entry_with one = carried one.receipt one.command (view one.reply)
+
+-- the first command of these lines that was accepted and not withdrawn, and the lines after its own
+pub record IsNext (lines : List Entry) (one : Carried) (rest : List Entry) : Type 0 where
+  pub before : List Entry
+  pub all_is : lines ≡ before ++ entry_with one ∷ rest
+  pub accepted : IsAccepted one
+  pub kept : withdraws rest ≡ false
+  pub out : carried_out lines ≡ (one.command, view one.reply) ∷ carried_out rest
+
+-- ALL LINES ARE ANSWERED AS THEY SAY: the commands that they say were carried out are a run from
+-- this register, with their replies
+abbrev pub AreAnswered : Register → List Entry → Type 0
+AreAnswered R lines = (S : Register) × IsRunOf R (carried_out lines) S
+
+-- THE LINE OF THIS NUMBER DIFFERS: the commands before it are a run from this register, with their
+-- replies. The register that the run leaves answers the command of the line otherwise, which was
+-- accepted and not withdrawn
+pub record DiffersAt (R : Register) (lines : List Entry) (number : ℕ) : Type 0 where
+  pub before : List Entry
   pub one : Carried
   pub rest : List Entry
-  pub come : HasCome has_place R place lines S s at (Some one) rest
+  pub all_is : lines ≡ before ++ entry_with one ∷ rest
   pub number_is : number ≡ one.receipt.number
-  pub other : view one.reply ≢ reply_data (Answer.reply (answer S one.command))
+  pub accepted : IsAccepted one
+  pub kept : withdraws rest ≡ false
+  pub leaves : Register
+  pub run : IsRunOf R (carried_out before) leaves
+  pub other : view one.reply ≢ reply_data (Answer.reply (answer leaves one.command))
 
--- where lines stop, by the fault
+-- the first line that differs, if there is one
+abbrev pub IsTried : Register → List Entry → Option ℕ → Type 0
+IsTried R lines None = AreAnswered R lines
+IsTried R lines (Some number) = DiffersAt R lines number
+
+-- ---- what comes of lines
+
+-- where lines stop, by the fault: at one that differs the register is as it was
 abbrev pub StopsAt : Placing → Register → Place → List Entry → OpeningFault → Register → State
     → Type 0
-StopsAt has_place R place lines (Differs n) S s = DiffersAt has_place R place lines n S s
+StopsAt has_place R place lines (Differs n) S s = (S ≡ R) × DiffersAt R lines n
 StopsAt has_place R place lines OtherRegister S s = HasStopped has_place R place lines S s
 StopsAt has_place R place lines TooShort S s = HasStopped has_place R place lines S s
 StopsAt has_place R place lines (BadLine n) S s = HasStopped has_place R place lines S s
 StopsAt has_place R place lines (Failed cause) S s = HasStopped has_place R place lines S s
 
--- what comes of lines
+-- a fault as commands are carried out: no line differs
+abbrev pub IsOfCarrying : OpeningFault → Type 0
+IsOfCarrying OtherRegister = ⊤
+IsOfCarrying TooShort = ⊤
+IsOfCarrying (Differs n) = ⊥
+IsOfCarrying (BadLine n) = ⊤
+IsOfCarrying (Failed cause) = ⊤
+
 abbrev pub Went : {K : Type 0} → (K → State) → Placing → Register → Place → List Entry
     → Result (Unit {0}) OpeningFault → Desk K → Place → Option Carried → List Entry → Type 0
 Went kept has_place R place lines (Ok done) desk at open_one rest =

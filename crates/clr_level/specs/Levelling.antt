@@ -16,6 +16,8 @@ use Rattle.clr_chain.specs.Laws.{line_at}
 use Rattle.clr_chain.specs.Level.{IsLevel, IsRunOf, place_after}
 use Rattle.clr_desk.specs.Given.{AreGiven, Given}
 use Rattle.clr_desk.specs.Taking.{Taking}
+use Rattle.clr_chain.specs.Opening.{new_text}
+use Rattle.clr_level.specs.Forward.{CanBeOpened}
 use Rattle.clr_level.specs.Journaling.{HearsLogin, IsSound, Journals}
 use Rattle.clr_desk.specs.Placing.{Placing}
 use Rattle.clr_level.specs.Placing.{IsAt}
@@ -85,3 +87,9 @@ abbrev pub EitherIsLevel : Type 0
 EitherIsLevel = (first R : Register) (start place : Place) (entries : List Entry)
     (level : IsLevel first start entries place R) (due : IsDue R (IsLevel.more level))
     → IsLevel first start entries (place_after start entries) (after R (IsDue.q due))
+
+-- A REGISTER AND THE JOURNAL THAT IT BEGINS WITH are level: the register is at the first line, which
+-- is all that the journal has, so that both can be opened
+abbrev pub BegunIsLevel : Placing → State → Type 0
+BegunIsLevel has_place s = (R : Register) (start : Place) → IsAt has_place s start
+    → CanBeOpened has_place R start start R s (new_text start) []

@@ -1,25 +1,23 @@
 //! A register is rolled forward through the lines after its place.
-ghost use Rattle.std.specs.Prelude.{◌≡◌, ◌∷◌, false, IfOk, List, [], map, None, OnOk, Some};
-ghost use Rattle.serde_json.specs.View.{view};
-ghost use Rattle.clr_rules.specs.Answer.{Answer, answer};
+ghost use Rattle.std.specs.Prelude.{◌≡◌, ◌∷◌, ℕ, Err, false, IfErr, List, [], map, None, OnOk, Some};
 ghost use Rattle.clr_rules.specs.Good.{IsGood};
 ghost use Rattle.clr_rules.specs.Register.{Register};
 ghost use Rattle.clr_place.specs.declared.place.Place.{Place};
 ghost use Rattle.clr_journal.specs.Journals.{withdraws};
 ghost use Rattle.clr_journal.specs.Line.{Entry, entry_of};
 ghost use Rattle.clr_desk.specs.Given.{LeadsTo};
-ghost use Rattle.clr_verify.specs.Replies.{DecidesReply};
-ghost use Rattle.clr_level.specs.Forward.{AreShallow, HasCome, Went, open_after, opened_by};
+ghost use Rattle.clr_level.specs.Forward.{AreAnswered, AreShallow, HasCome, IsOfCarrying, Went};
+ghost use Rattle.clr_level.specs.Forward.{open_after, opened_by};
 ghost use Rattle.clr_level.specs.Placing.{IsAt};
 
 use crate::fault::OpeningFault;
 use crate::placing::carry_at;
+use crate::trying::first_differing;
 use clr_chain::step;
 use clr_desk::{CommitAt, Desk, DeskFault};
 use clr_journal::{Carried, Line, is_accepted};
 use clr_place::Place;
-use clr_verify::is_reply;
-use std::alloc::{AllocError, Global};
+use std::alloc::Global;
 
 /// A desk on its way through the lines after its register's place.
 #[derive(Drop)]
@@ -33,7 +31,8 @@ pub(crate) struct Forward<K: CommitAt> {
 }
 
 /// Carries out what was accepted in these lines and not withdrawn, in order, each command with the
-/// place at its line, and gives the place after all lines.
+/// place at its line, and gives the place after all lines. The commands are tried first: nothing is
+/// carried out where one of them is answered otherwise than its line says.
 pub(crate) fn roll_forward<K: CommitAt>(
     alloc: Global,
     desk: Desk<K>,
@@ -45,6 +44,30 @@ pub(crate) fn roll_forward<K: CommitAt>(
         → Went K.kept K.has_place desk.book.register place (map entry_of lines.items)
         result.0 result.1 result.2 None [] }
     ensures led { LeadsTo K.kept K.takes K.hears desk result.1 }
+    ensures unchanged { (n : ℕ) → result.0 ≡ Err (OpeningFault.Differs n) → result.1 ≡ desk }
+{
+    match first_differing(alloc, desk.book(), lines.as_slice()) {
+        Ok(None) => carry_all(alloc, desk, place, lines),
+        Ok(Some(number)) => (Err(OpeningFault::Differs(number)), desk, place),
+        Err(_) => (Err(OpeningFault::Desk(DeskFault::NoMemory)), desk, place),
+    }
+}
+
+/// Carries out what was accepted in these lines and not withdrawn, where each command is answered as
+/// its line says.
+fn carry_all<K: CommitAt>(
+    alloc: Global,
+    desk: Desk<K>,
+    place: Place,
+    lines: Vec<Line>,
+) -> (Result<(), OpeningFault>, Desk<K>, Place)
+    ensures went { IsGood desk.book.register → AreAnswered desk.book.register
+        (map entry_of lines.items) → withdraws (map entry_of lines.items) ≡ false
+        → AreShallow (map entry_of lines.items) → IsAt K.has_place (K.kept desk.store) place
+        → Went K.kept K.has_place desk.book.register place (map entry_of lines.items)
+        result.0 result.1 result.2 None [] }
+    ensures led { LeadsTo K.kept K.takes K.hears desk result.1 }
+    ensures fault { IfErr result.0 IsOfCarrying }
 {
     let mut left = lines;
     left.reverse();
@@ -60,7 +83,7 @@ pub(crate) fn roll_forward<K: CommitAt>(
             return (Err(fault), forward.desk, forward.at);
         }
     }
-    let (came, forward) = forward.close(alloc);
+    let (came, forward) = forward.close();
     (came, forward.desk, forward.at)
 }
 
@@ -68,13 +91,15 @@ impl<K: CommitAt> Forward<K> {
     /// Takes the next line. The command before it is carried out, unless the line withdraws it.
     fn line(self, alloc: Global, line: Line) -> (Result<(), OpeningFault>, Forward<K>)
         ensures went { (R : Register) (place : Place) (lines rest : List Entry) → IsGood R
+            → AreAnswered R lines
             → HasCome K.has_place R place lines self.desk.book.register (K.kept self.desk.store)
             self.at self.pending (entry_of line ∷ rest)
             → Went K.kept K.has_place R place lines result.0 result.1.desk result.1.at
             result.1.pending rest }
         ensures led { LeadsTo K.kept K.takes K.hears self.desk result.1.desk }
+        ensures fault { IfErr result.0 IsOfCarrying }
     {
-        let (came, before) = self.before(alloc, &line);
+        let (came, before) = self.before(&line);
         if let Err(fault) = came {
             return (Err(fault), before);
         }
@@ -82,17 +107,19 @@ impl<K: CommitAt> Forward<K> {
     }
 
     /// Carries out the open command before a line that has another.
-    fn before(self, alloc: Global, line: &Line) -> (Result<(), OpeningFault>, Forward<K>)
+    fn before(self, line: &Line) -> (Result<(), OpeningFault>, Forward<K>)
         ensures went { (R : Register) (place : Place) (lines rest : List Entry) → IsGood R
+            → AreAnswered R lines
             → HasCome K.has_place R place lines self.desk.book.register (K.kept self.desk.store)
             self.at self.pending (entry_of line.now ∷ rest)
             → Went K.kept K.has_place R place lines result.0 result.1.desk result.1.at
             result.1.pending (entry_of line.now ∷ rest) }
         ensures closed { OnOk result.0 (result.1.pending ≡ open_after line.now self.pending) }
         ensures led { LeadsTo K.kept K.takes K.hears self.desk result.1.desk }
+        ensures fault { IfErr result.0 IsOfCarrying }
     {
         match line {
-            Line::Carried(_) => self.close(alloc),
+            Line::Carried(_) => self.close(),
             Line::Withdrawn(_) => (Ok(()), self),
         }
     }
@@ -106,6 +133,7 @@ impl<K: CommitAt> Forward<K> {
             → Went K.kept K.has_place R place lines result.0 result.1.desk result.1.at
             result.1.pending rest }
         ensures desk { result.1.desk ≡ self.desk }
+        ensures fault { IfErr result.0 IsOfCarrying }
     {
         let mut forward = self;
         match step(alloc, &mut forward.at, &line) {
@@ -121,15 +149,16 @@ impl<K: CommitAt> Forward<K> {
         }
     }
 
-    /// Carries out the open command, if there is one, where its answer is that of its line.
-    fn close(self, alloc: Global) -> (Result<(), OpeningFault>, Forward<K>)
+    /// Carries out the open command, if there is one.
+    fn close(self) -> (Result<(), OpeningFault>, Forward<K>)
         ensures went { (R : Register) (place : Place) (lines rest : List Entry) → IsGood R
-            → withdraws rest ≡ false
+            → AreAnswered R lines → withdraws rest ≡ false
             → HasCome K.has_place R place lines self.desk.book.register (K.kept self.desk.store)
             self.at self.pending rest
             → Went K.kept K.has_place R place lines result.0 result.1.desk result.1.at None rest }
         ensures closed { OnOk result.0 (result.1.pending ≡ None) }
         ensures led { LeadsTo K.kept K.takes K.hears self.desk result.1.desk }
+        ensures fault { IfErr result.0 IsOfCarrying }
     {
         let Forward { desk, at, pending } = self;
         match pending {
@@ -141,71 +170,35 @@ impl<K: CommitAt> Forward<K> {
                     pending: None,
                 },
             ),
-            Some(one) => carry_out(alloc, desk, at, one),
+            Some(one) => carry_out(desk, at, one),
         }
     }
 }
 
-/// Carries out a command, where its answer is that of its line.
+/// Carries out a command.
 fn carry_out<K: CommitAt>(
-    alloc: Global,
     desk: Desk<K>,
     at: Place,
     one: Carried,
 ) -> (Result<(), OpeningFault>, Forward<K>)
     ensures went { (R : Register) (place : Place) (lines rest : List Entry) → IsGood R
-        → withdraws rest ≡ false
+        → AreAnswered R lines → withdraws rest ≡ false
         → HasCome K.has_place R place lines desk.book.register (K.kept desk.store) at (Some one) rest
         → Went K.kept K.has_place R place lines result.0 result.1.desk result.1.at None rest }
     ensures closed { OnOk result.0 (result.1.pending ≡ None) }
     ensures led { LeadsTo K.kept K.takes K.hears desk result.1.desk }
+    ensures fault { IfErr result.0 IsOfCarrying }
 {
-    match is_answer(alloc, &desk, &one) {
-        Ok(true) => {
-            let (came, desk, at) = carry_at(desk, one.command, at);
-            let forward = Forward {
-                desk,
-                at,
-                pending: None,
-            };
-            match came {
-                Ok(_) => (Ok(()), forward),
-                Err(fault) => (Err(OpeningFault::Desk(fault)), forward),
-            }
-        }
-        Ok(false) => {
-            let number = one.receipt.number;
-            (
-                Err(OpeningFault::Differs(number)),
-                Forward {
-                    desk,
-                    at,
-                    pending: None,
-                },
-            )
-        }
-        Err(_) => {
-            let fault = OpeningFault::Desk(DeskFault::NoMemory);
-            (
-                Err(fault),
-                Forward {
-                    desk,
-                    at,
-                    pending: None,
-                },
-            )
-        }
+    let (came, desk, at) = carry_at(desk, one.command, at);
+    let forward = Forward {
+        desk,
+        at,
+        pending: None,
+    };
+    match came {
+        Ok(_) => (Ok(()), forward),
+        Err(fault) => (Err(OpeningFault::Desk(fault)), forward),
     }
-}
-
-/// Whether a command is answered as its line says.
-fn is_answer<K: CommitAt>(alloc: Global, desk: &Desk<K>, one: &Carried) -> Result<bool, AllocError>
-    ensures { IsGood desk.now.book.register → IfOk result (DecidesReply (view one.now.reply)
-        (Answer.reply (answer desk.now.book.register one.now.command))) }
-{
-    let decision = desk.book().answer(&one.command)?;
-    let is = is_reply(alloc, &one.reply, &decision.reply)?;
-    Ok(is)
 }
 
 /// The command of a line, if it was accepted.

@@ -1,5 +1,5 @@
 //! Laws of keepers with a journal: the contract of each function is the law, and its body is empty.
-ghost use Rattle.clr_level.specs.Levelling.{EitherIsLevel, LevelIsKept};
+ghost use Rattle.clr_level.specs.Levelling.{BegunIsLevel, EitherIsLevel, LevelIsKept};
 ghost use Rattle.clr_level.specs.Levelling.{SettledIsWhatItSays, SoundIsKept};
 
 use crate::clock::Clock;
@@ -20,4 +20,10 @@ pub fn level_is_kept<K: CommitAt, J: Journal + Drop, C: Clock>()
 /// Where the last command is in doubt, the register is level whether it was carried out or not.
 pub fn either_is_level()
     ensures { EitherIsLevel }
+{}
+
+/// A register that a keeper has at the first line of its journal, which has no other, is level with
+/// it.
+pub fn begun_is_level<K: CommitAt>(keeper: &K)
+    ensures { BegunIsLevel K.has_place (K.kept keeper.now) }
 {}

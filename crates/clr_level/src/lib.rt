@@ -14,6 +14,7 @@ mod lines;
 mod noting;
 mod opening;
 mod placing;
+mod trying;
 
 pub use clock::Clock;
 pub use fault::OpeningFault;

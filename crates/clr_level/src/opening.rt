@@ -1,5 +1,5 @@
 //! A register and its journal are opened together.
-ghost use Rattle.std.specs.Prelude.{◌≡◌, false, IfErr, IfOk, map, None};
+ghost use Rattle.std.specs.Prelude.{◌≡◌, ℕ, false, IfErr, IfOk, map, None};
 ghost use Rattle.clr_rules.specs.Good.{IsGood};
 ghost use Rattle.clr_rules.specs.Register.{Register};
 ghost use Rattle.clr_place.specs.declared.place.Place.{Place};
@@ -40,9 +40,10 @@ pub fn ahead_of(found: Found) -> Result<Ahead, OpeningFault>
 /// the lines after it, and not withdrawn, is carried out first, in order, each command with the
 /// place at its line.
 ///
-/// `Differs` where a command is answered otherwise than its line says: it is not carried out, nor
-/// is any after it. `Desk` where a command is not carried out, or memory runs out. A fault gives
-/// the desk back, as far as it has come, and the journal, in which nothing was written.
+/// `Differs` where a command is answered otherwise than its line says. All commands are tried first,
+/// so none is carried out then, and the desk is given back as it was. `Desk` where a command is not
+/// carried out, or memory runs out. A fault gives the desk back, as far as it has come, and the
+/// journal, in which nothing was written.
 pub fn with_journal<K: CommitAt, J: Journal + Drop, C: Clock>(
     alloc: Global,
     desk: Desk<K>,
@@ -72,6 +73,8 @@ pub fn with_journal<K: CommitAt, J: Journal + Drop, C: Clock>(
         → IsAt K.has_place (K.kept desk.store) place
         → StopsAt K.has_place desk.book.register place (map entry_of lines.items) back.0
         back.1.book.register (K.kept back.1.store)) }
+    ensures unchanged { IfErr result (λ back. (n : ℕ)
+        → back.0 ≡ OpeningFault.Differs n → back.1 ≡ desk) }
     ensures back { IfErr result (λ back. LeadsTo K.kept K.takes K.hears desk back.1) }
     ensures unwritten { IfErr result (λ back. back.2 ≡ journal) }
 {

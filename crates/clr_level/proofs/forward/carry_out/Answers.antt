@@ -1,25 +1,22 @@
-use Rattle.std.proofs.Common.{◌≡◌, None, Some, false, rules, true, subst, sym}
+use Rattle.std.proofs.Common.{◌≡◌, None, Some, subst, sym, true}
 use Rattle.clr_answer.specs.Decision.{is_accepted}
 use Rattle.clr_rules.specs.Answer.{Answer, answer}
 use Rattle.clr_rules.specs.Run.{after}
 use Rattle.clr_place.specs.declared.place.Place.{Place}
-use Rattle.clr_desk.proofs.Givings.{leads_itself}
 use Rattle.clr_level.specs.Forward.{HasCome}
 use Rattle.clr_level.specs.Placing.{ComesTo, StaysShown}
-use Rattle.clr_level.proofs.Forwarding.{answered_on, differs, if_ok, on_err, on_ok, stayed, stopped}
+use Rattle.clr_level.proofs.Forwarding.{answered_on, if_ok, on_err, on_ok, stayed, stopped}
 use Rattle.clr_level.proofs.forward.carry_out.Goals as goal
 
 pub returns-in-Ok-clause-went : goal.returns-in-Ok-clause-went
-returns-in-Ok-clause-went g c = λ R place lines rest good kept come.
+returns-in-Ok-clause-went g c = λ R place lines rest good answered kept come.
     let old = c.args.desk in
     let new = c.carry_at-came.result.1 in
     let s = g.K.Commit.kept old.store in
     let t = g.K.Commit.kept new.store in
-    let same : c.in-Ok-true.field-0 ≡ true = search rules in
     subst (λ (p : Place). HasCome g.K.CommitAt.has_place R place lines new.book.register t p None rest) (sym c.carry_at-came.ensures.place)
     (answered_on g.K.CommitAt.has_place R place lines old.book.register new.book.register s t c.args.at c.args.one rest c.in-Ok.field-0
-    c.in-Ok-true.field-0 same good come kept
-    c.in-Ok-true.ensures
+    good answered come kept
     (λ fine. if_ok c.carry_at-came.result.0 c.in-Ok.field-0 (λ reply. reply ≡ Answer.reply (answer old.book.register c.args.one.command)) c.in-Ok.is
     (c.carry_at-came.ensures.reply fine))
     (λ fine. on_ok c.carry_at-came.result.0 c.in-Ok.field-0 (new.book.register ≡ after old.book.register c.args.one.command) c.in-Ok.is
@@ -27,25 +24,13 @@ returns-in-Ok-clause-went g c = λ R place lines rest good kept come.
     (if_ok c.carry_at-came.result.0 c.in-Ok.field-0 (λ reply. is_accepted reply ≡ true → ComesTo g.K.CommitAt.has_place s t c.args.at) c.in-Ok.is
     c.carry_at-came.ensures.placed))
 
-pub returns-in-Ok-true-clause-went : goal.returns-in-Ok-true-clause-went
-returns-in-Ok-true-clause-went g c = λ R place lines rest good kept come.
+pub returns-clause-went : goal.returns-clause-went
+returns-clause-went g c = λ R place lines rest good answered kept come.
     let old = c.args.desk in
     let new = c.carry_at-came.result.1 in
     let s = g.K.Commit.kept old.store in
     let t = g.K.Commit.kept new.store in
     stopped g.K.CommitAt.has_place R place lines new.book.register t c.args.at (Some c.args.one) rest
     (stayed g.K.CommitAt.has_place R place lines old.book.register new.book.register s t c.args.at (Some c.args.one) rest come
-    (on_err c.carry_at-came.result.0 c.in-Err-came.fault (new.book.register ≡ old.book.register) c.in-Err-came.is c.carry_at-came.ensures.unchanged)
-    (on_err c.carry_at-came.result.0 c.in-Err-came.fault (StaysShown s t) c.in-Err-came.is c.carry_at-came.ensures.stays))
-
-pub returns-in-Ok-false-clause-went : goal.returns-in-Ok-false-clause-went
-returns-in-Ok-false-clause-went g c = λ R place lines rest good kept come.
-    let same : c.in-Ok-false.field-0 ≡ false = search rules in
-    differs g.K.CommitAt.has_place R place lines c.args.desk.book.register (g.K.Commit.kept c.args.desk.store) c.args.at c.args.one rest c.in-Ok-false.field-0 same
-    good come c.in-Ok-false.ensures
-
-pub returns-in-Ok-false-clause-led : goal.returns-in-Ok-false-clause-led
-returns-in-Ok-false-clause-led g c = leads_itself g.K.Commit.kept g.K.Commit.takes g.K.Commit.hears c.args.desk
-
-pub returns-clause-led : goal.returns-clause-led
-returns-clause-led g c = leads_itself g.K.Commit.kept g.K.Commit.takes g.K.Commit.hears c.args.desk
+    (on_err c.carry_at-came.result.0 c.in-Err.fault (new.book.register ≡ old.book.register) c.in-Err.is c.carry_at-came.ensures.unchanged)
+    (on_err c.carry_at-came.result.0 c.in-Err.fault (StaysShown s t) c.in-Err.is c.carry_at-came.ensures.stays))

@@ -1,52 +1,54 @@
-use Rattle.std.proofs.Common.{[], map, refl, reverse, rules}
-use Rattle.clr_desk.proofs.Givings.{leads_on}
+use Rattle.std.proofs.Common.{◌≡◌, None, Option, Some, List, Result, map, refl, rules, subst, ℕ}
+use Rattle.std.specs.Prelude.{IfErr}
+use Rattle.clr_book.specs.Book.{Shelved}
+use Rattle.clr_rules.specs.Good.{IsGood}
+use Rattle.clr_desk.proofs.Givings.{leads_itself}
 use Rattle.clr_journal.specs.Line.{entry_of}
-use Rattle.clr_level.proofs.Forwarding.{at_last, at_line, goes_on, none_yet, stops_on}
+use Rattle.clr_journal.specs.declared.line.Line.{Line}
+use Rattle.clr_level.specs.Forward.{AreShallow, IsOfCarrying, IsTried}
+use Rattle.clr_level.specs.declared.fault.OpeningFault.{OpeningFault}
+use Rattle.clr_level.proofs.Forwarding.{begun, stopped}
 use Rattle.clr_level.proofs.forward.roll_forward.Goals as goal
 
-pub loop-line-init : goal.loop-line-init
-loop-line-init g c =
-    none_yet g.K.Commit.kept g.K.Commit.takes g.K.Commit.hears g.K.CommitAt.has_place c.args.desk c.args.place c.args.lines.items _ (search rules)
+-- what was found of lines, seen as a slice of them, over a book that is that of the desk
+tried_there : (lines slice : List Line) (book seen : Shelved) (found due : Option ℕ) → slice ≡ lines → seen ≡ book → found ≡ due
+    → (IsGood seen.register → AreShallow (map entry_of slice) → IsTried seen.register (map entry_of slice) found)
+    → IsGood book.register → AreShallow (map entry_of lines) → IsTried book.register (map entry_of lines) due
+tried_there lines slice book seen found due same books is tried =
+    subst (λ (o : Option ℕ). IsGood book.register → AreShallow (map entry_of lines) → IsTried book.register (map entry_of lines) o) is
+    (subst (λ (l : List Line). IsGood book.register → AreShallow (map entry_of l) → IsTried book.register (map entry_of l) found) same
+    (subst (λ (b : Shelved). IsGood b.register → AreShallow (map entry_of slice) → IsTried b.register (map entry_of slice) found) books tried))
 
+-- all lines are answered as they say
+pub returns-in-Ok-None-clause-went : goal.returns-in-Ok-None-clause-went
+returns-in-Ok-None-clause-went g c = λ good begins shallow at.
+    let tried =
+    tried_there c.args.lines.items c.as_slice.result.now c.args.desk.book c.book.result.now c.in-Ok-None.field-0 None c.as_slice.ensures.value c.book.ensures
+    (search rules) c.in-Ok-None.ensures in
+    c.carry_all.ensures.went good (tried good shallow) begins shallow at
+
+pub returns-in-Ok-None-clause-unchanged : goal.returns-in-Ok-None-clause-unchanged
+returns-in-Ok-None-clause-unchanged g c = λ n is.
+    absurd (subst (λ (r : Result (Unit {0}) OpeningFault). IfErr r IsOfCarrying) is c.carry_all.ensures.fault)
+
+-- or one is not
+pub returns-in-Ok-Some-clause-went : goal.returns-in-Ok-Some-clause-went
+returns-in-Ok-Some-clause-went g c = λ good begins shallow at.
+    let tried =
+    tried_there c.args.lines.items c.as_slice.result.now c.args.desk.book c.book.result.now c.in-Ok-Some.field-0 (Some c.in-Ok-Some.number) c.as_slice.ensures.value
+    c.book.ensures (search rules) c.in-Ok-Some.ensures in
+    (refl, tried good shallow)
+
+pub returns-in-Ok-Some-clause-led : goal.returns-in-Ok-Some-clause-led
+returns-in-Ok-Some-clause-led g c = leads_itself g.K.Commit.kept g.K.Commit.takes g.K.Commit.hears c.args.desk
+
+-- or memory ran out
 pub returns-in-Err-clause-went : goal.returns-in-Err-clause-went
 returns-in-Err-clause-went g c = λ good begins shallow at.
-    let l = c.loop-line in
-    let next = c.line-came.result.1 in
-    let rest = map entry_of (reverse c.pop.new.self.items) in
-    stops_on g.K.Commit.kept g.K.CommitAt.has_place c.args.desk.book.register c.args.place (map entry_of c.args.lines.items) c.line-came.result.0
-    c.in-Err.fault next.desk next.at next.pending rest c.in-Err.is
-    (c.line-came.ensures.went c.args.desk.book.register c.args.place (map entry_of c.args.lines.items) rest good
-    (at_line g.K.Commit.kept g.K.Commit.takes g.K.Commit.hears g.K.CommitAt.has_place c.args.desk c.args.place c.args.lines.items l.forward.desk l.forward.at
-    l.forward.pending l.left.items c.pop.new.self.items c.in-Some.line (search rules) l.invariant good begins shallow at))
+    let R = c.args.desk.book.register in
+    let s = g.K.Commit.kept c.args.desk.store in
+    let lines = map entry_of c.args.lines.items in
+    stopped g.K.CommitAt.has_place R c.args.place lines R s c.args.place None lines (begun g.K.CommitAt.has_place R c.args.place lines s begins shallow at)
 
 pub returns-in-Err-clause-led : goal.returns-in-Err-clause-led
-returns-in-Err-clause-led g c =
-    leads_on g.K.Commit.kept g.K.Commit.takes g.K.Commit.hears c.args.desk c.loop-line.forward.desk c.line-came.result.1.desk c.loop-line.invariant.led
-    c.line-came.ensures.led
-
-pub loop-line-preserved : goal.loop-line-preserved
-loop-line-preserved g c =
-    let l = c.loop-line in
-    let next = c.line-came.result.1 in
-    let rest = map entry_of (reverse c.pop.new.self.items) in
-    record {
-      come = λ good begins shallow at.
-          goes_on g.K.Commit.kept g.K.CommitAt.has_place c.args.desk.book.register c.args.place (map entry_of c.args.lines.items) c.line-came.result.0
-          c.in_default-came.field-0 next.desk next.at next.pending rest c.in_default-came.is
-          (c.line-came.ensures.went c.args.desk.book.register c.args.place (map entry_of c.args.lines.items) rest good
-          (at_line g.K.Commit.kept g.K.Commit.takes g.K.Commit.hears g.K.CommitAt.has_place c.args.desk c.args.place c.args.lines.items l.forward.desk
-          l.forward.at l.forward.pending l.left.items c.pop.new.self.items c.in-Some.line (search rules) l.invariant good begins shallow at));
-      led = leads_on g.K.Commit.kept g.K.Commit.takes g.K.Commit.hears c.args.desk l.forward.desk next.desk l.invariant.led c.line-came.ensures.led;
-    }
-
-pub returns-clause-went : goal.returns-clause-went
-returns-clause-went g c = λ good begins shallow at.
-    let l = c.loop-line in
-    c.close-came.ensures.went c.args.desk.book.register c.args.place (map entry_of c.args.lines.items) [] good refl
-    (at_last g.K.Commit.kept g.K.Commit.takes g.K.Commit.hears g.K.CommitAt.has_place c.args.desk c.args.place c.args.lines.items l.forward.desk l.forward.at
-    l.forward.pending l.left.items (search rules) l.invariant good begins shallow at)
-
-pub returns-clause-led : goal.returns-clause-led
-returns-clause-led g c =
-    leads_on g.K.Commit.kept g.K.Commit.takes g.K.Commit.hears c.args.desk c.loop-line.forward.desk c.close-came.result.1.desk c.loop-line.invariant.led
-    c.close-came.ensures.led
+returns-in-Err-clause-led g c = leads_itself g.K.Commit.kept g.K.Commit.takes g.K.Commit.hears c.args.desk

@@ -1,4 +1,4 @@
-use Rattle.std.proofs.Common.{[], None, ◌∙◌, ap, map, sym}
+use Rattle.std.proofs.Common.{[], Err, None, ◌∙◌, ap, map, sym}
 use Rattle.clr_book.specs.Book.{Shelved}
 use Rattle.clr_journal.specs.Journals.{carried_out, withdraws}
 use Rattle.clr_journal.specs.Line.{entry_of}
@@ -55,3 +55,6 @@ returns-in-Err-clause-stops g c = λ good begins shallow at.
     stops_on g.K.Commit.kept g.K.CommitAt.has_place c.args.desk.book.register c.args.place (map entry_of c.args.lines.items) c.roll_forward-came.result.0
     c.in-Err.fault c.roll_forward-came.result.1 c.roll_forward-came.result.2 None [] c.in-Err.is
     (c.roll_forward-came.ensures.went good begins shallow at)
+
+pub returns-in-Err-clause-unchanged : goal.returns-in-Err-clause-unchanged
+returns-in-Err-clause-unchanged g c = λ n is. c.roll_forward-came.ensures.unchanged n (c.in-Err.is ∙ ap Err is)

@@ -1,4 +1,4 @@
-use Rattle.std.proofs.Common.{◌≡◌, ◌∙◌, ap}
+use Rattle.std.proofs.Common.{◌∙◌, ap}
 use Rattle.clr_level.specs.declared.placing.Placed.{Placed}
 use Rattle.clr_level.proofs.Carrying.{leads_below, same_place, stays_below}
 use Rattle.clr_level.proofs.placing.carry_at.Goals as goal

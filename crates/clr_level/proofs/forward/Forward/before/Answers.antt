@@ -5,11 +5,11 @@ use Rattle.clr_level.proofs.Forwarding.{carried_kept, went_closed}
 use Rattle.clr_level.proofs.forward.Forward.before.Goals as goal
 
 pub returns-in-Carried-clause-went : goal.returns-in-Carried-clause-went
-returns-in-Carried-clause-went g c = λ R place lines rest good come.
+returns-in-Carried-clause-went g c = λ R place lines rest good answered come.
     let next = c.close.result.1 in
     let left = entry_of c.args.line.now ∷ rest in
     went_closed g.K.Commit.kept g.K.CommitAt.has_place R place lines c.close.result.0 next.desk next.at next.pending left c.close.ensures.closed
-    (c.close.ensures.went R place lines left good (carried_kept c.args.line.now _ rest c.in-Carried.is) come)
+    (c.close.ensures.went R place lines left good answered (carried_kept c.args.line.now _ rest c.in-Carried.is) come)
 
 pub returns-in-Withdrawn-clause-led : goal.returns-in-Withdrawn-clause-led
 returns-in-Withdrawn-clause-led g c = leads_itself g.K.Commit.kept g.K.Commit.takes g.K.Commit.hears c.args.self.desk

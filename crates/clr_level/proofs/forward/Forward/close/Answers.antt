@@ -8,8 +8,8 @@ pub returns-in-None-clause-led : goal.returns-in-None-clause-led
 returns-in-None-clause-led g c = leads_itself g.K.Commit.kept g.K.Commit.takes g.K.Commit.hears c.args.self.desk
 
 pub returns-in-Some-clause-went : goal.returns-in-Some-clause-went
-returns-in-Some-clause-went g c = λ R place lines rest good kept come.
+returns-in-Some-clause-went g c = λ R place lines rest good answered kept come.
     let self = c.args.self in
-    c.carry_out.ensures.went R place lines rest good kept
+    c.carry_out.ensures.went R place lines rest good answered kept
     (subst (λ (one : Option Carried). HasCome g.K.CommitAt.has_place R place lines self.desk.book.register (g.K.Commit.kept self.desk.store) self.at one rest)
     c.in-Some.is come)

@@ -1,6 +1,6 @@
 use Rattle.std.proofs.Common.{vec_len}
 use Rattle.clr_level.proofs.Forwarding.{SoFar}
-use Rattle.clr_level.proofs.forward.roll_forward.Given as goal
+use Rattle.clr_level.proofs.forward.carry_all.Given as goal
 
 -- it has come so far, over the lines before those that are left
 abbrev pub invariant-loop-line : goal.invariant-loop-line

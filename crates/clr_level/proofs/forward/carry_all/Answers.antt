@@ -1,0 +1,52 @@
+use Rattle.std.proofs.Common.{[], map, refl, reverse, rules}
+use Rattle.clr_desk.proofs.Givings.{leads_on}
+use Rattle.clr_journal.specs.Line.{entry_of}
+use Rattle.clr_level.proofs.Forwarding.{at_last, at_line, goes_on, none_yet, stops_on}
+use Rattle.clr_level.proofs.forward.carry_all.Goals as goal
+
+pub loop-line-init : goal.loop-line-init
+loop-line-init g c =
+    none_yet g.K.Commit.kept g.K.Commit.takes g.K.Commit.hears g.K.CommitAt.has_place c.args.desk c.args.place c.args.lines.items _ (search rules)
+
+pub returns-in-Err-clause-went : goal.returns-in-Err-clause-went
+returns-in-Err-clause-went g c = λ good answered begins shallow at.
+    let l = c.loop-line in
+    let next = c.line-came.result.1 in
+    let rest = map entry_of (reverse c.pop.new.self.items) in
+    stops_on g.K.Commit.kept g.K.CommitAt.has_place c.args.desk.book.register c.args.place (map entry_of c.args.lines.items) c.line-came.result.0
+    c.in-Err.fault next.desk next.at next.pending rest c.in-Err.is
+    (c.line-came.ensures.went c.args.desk.book.register c.args.place (map entry_of c.args.lines.items) rest good answered
+    (at_line g.K.Commit.kept g.K.Commit.takes g.K.Commit.hears g.K.CommitAt.has_place c.args.desk c.args.place c.args.lines.items l.forward.desk l.forward.at
+    l.forward.pending l.left.items c.pop.new.self.items c.in-Some.line (search rules) l.invariant good answered begins shallow at))
+
+pub returns-in-Err-clause-led : goal.returns-in-Err-clause-led
+returns-in-Err-clause-led g c =
+    leads_on g.K.Commit.kept g.K.Commit.takes g.K.Commit.hears c.args.desk c.loop-line.forward.desk c.line-came.result.1.desk c.loop-line.invariant.led
+    c.line-came.ensures.led
+
+pub loop-line-preserved : goal.loop-line-preserved
+loop-line-preserved g c =
+    let l = c.loop-line in
+    let next = c.line-came.result.1 in
+    let rest = map entry_of (reverse c.pop.new.self.items) in
+    record {
+      come = λ good answered begins shallow at.
+          goes_on g.K.Commit.kept g.K.CommitAt.has_place c.args.desk.book.register c.args.place (map entry_of c.args.lines.items) c.line-came.result.0
+          c.in_default-came.field-0 next.desk next.at next.pending rest c.in_default-came.is
+          (c.line-came.ensures.went c.args.desk.book.register c.args.place (map entry_of c.args.lines.items) rest good answered
+          (at_line g.K.Commit.kept g.K.Commit.takes g.K.Commit.hears g.K.CommitAt.has_place c.args.desk c.args.place c.args.lines.items l.forward.desk
+          l.forward.at l.forward.pending l.left.items c.pop.new.self.items c.in-Some.line (search rules) l.invariant good answered begins shallow at));
+      led = leads_on g.K.Commit.kept g.K.Commit.takes g.K.Commit.hears c.args.desk l.forward.desk next.desk l.invariant.led c.line-came.ensures.led;
+    }
+
+pub returns-clause-went : goal.returns-clause-went
+returns-clause-went g c = λ good answered begins shallow at.
+    let l = c.loop-line in
+    c.close-came.ensures.went c.args.desk.book.register c.args.place (map entry_of c.args.lines.items) [] good answered refl
+    (at_last g.K.Commit.kept g.K.Commit.takes g.K.Commit.hears g.K.CommitAt.has_place c.args.desk c.args.place c.args.lines.items l.forward.desk l.forward.at
+    l.forward.pending l.left.items (search rules) l.invariant good answered begins shallow at)
+
+pub returns-clause-led : goal.returns-clause-led
+returns-clause-led g c =
+    leads_on g.K.Commit.kept g.K.Commit.takes g.K.Commit.hears c.args.desk c.loop-line.forward.desk c.close-came.result.1.desk c.loop-line.invariant.led
+    c.close-came.ensures.led
