@@ -1,11 +1,11 @@
 -- Lines more whose replies are those of a run.
-use Rattle.std.proofs.Common.{◌≡◌, ◌∙◌, Bool, true, false, List, [], ◌∷◌, ◌++◌, map, refl, ap}
+use Rattle.std.proofs.Common.{◌≡◌, ◌∙◌, false, List, ◌++◌, map, ap}
 use Rattle.std.proofs.lemmas.List.{map-append}
 use Rattle.serde_json.specs.Data.{Data}
 use Rattle.clr_rules.specs.Register.{Register}
 use Rattle.clr_rules.specs.declared.command.Command.{Command}
 use Rattle.clr_journal.specs.Journals.{carried_out, commands_of, withdraws}
-use Rattle.clr_journal.specs.Line.{Entry, carried, withdrawn}
+use Rattle.clr_journal.specs.Line.{Entry}
 use Rattle.clr_chain.proofs.LevelKept.{carried_out-append}
 use Rattle.clr_checking.specs.Checking.{AreAnswered, none, refused, gone, done}
 use Rattle.clr_checking.proofs.Places.{same_withdraws}

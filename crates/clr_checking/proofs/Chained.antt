@@ -1,9 +1,8 @@
 -- The lines that a chain holds, and one more.
-use Rattle.std.proofs.Common.{◌≡◌, ◌∙◌, ◌==◌, ◌&&◌, ◌+◌, ℕ, Bool, true, false, not, cond, List, [], ◌∷◌, ◌++◌, Option, None, Some, refl, ap, ap₂, sym, subst, option_and_then, bytes_eq}
-use Rattle.std.proofs.lemmas.Bool.{and_from, and_parts, eq-eqb, eqb-true, true≢false}
+use Rattle.std.proofs.Common.{◌≡◌, ◌∙◌, ◌==◌, ◌&&◌, ◌+◌, ℕ, Bool, true, false, cond, List, [], ◌∷◌, ◌++◌, Option, None, Some, refl, ap, sym, subst, option_and_then, bytes_eq}
+use Rattle.std.proofs.lemmas.Bool.{and_from, and_parts, eqb-true, true≢false}
 use Rattle.std.proofs.lemmas.Slice.Eq.{bytes_eq-Decides}
-use Rattle.std.specs.Option.{option_map_or}
-use Rattle.clr_journal.specs.Journals.{in_turn, is_next, next_place, turn_after, withdraws}
+use Rattle.clr_journal.specs.Journals.{in_turn, is_next, next_place}
 use Rattle.clr_journal.specs.Laws.{turn_behind}
 use Rattle.clr_journal.specs.Line.{Entry, carried, withdrawn, read_line}
 use Rattle.clr_journal.specs.declared.reading.Turn.{Turn}
@@ -16,9 +15,9 @@ use Rattle.clr_chain.specs.Link.{end_after, if_holds, is_own, next_link}
 use Rattle.clr_chain.specs.Sums.{sum_after, sum_behind}
 use Rattle.clr_chain.specs.Walking.{Step, bad, goes_on, holds, part_at, part_of, step_by, step_of}
 use Rattle.clr_chain.specs.declared.chain_end.ChainEnd.{ChainEnd}
-use Rattle.clr_checking.specs.Checking.{AreLines, EndsAt, IsBadAfter}
-use Rattle.clr_checking.specs.CheckingOn.{IsAfter, IsOfLast}
-use Rattle.clr_checking.proofs.Places.{sum_more}
+use Rattle.clr_checking.specs.Checking.{AreLines, EndsAt}
+use Rattle.clr_checking.specs.CheckingOn.{IsAfter, IsOfLast, IsOfOpen}
+use Rattle.clr_checking.proofs.Places.{opens_here, sum_more}
 
 -- ---- a line that holds its sum
 
@@ -139,6 +138,12 @@ number_there : (read : ChainEnd) (entry : Entry) (number : ℕ) → read.turn.la
 number_there read (carried receipt q reply) number is next = tt
 number_there read (withdrawn n) number is next = eqb-true n read.turn.last (and_parts read.turn.is_open (n == read.turn.last) next).1 ∙ is
 
+opens_there : (first : Place) (entries : List Entry) (turn : Turn) (entry : Entry) → turn ≡ turn_behind (first_turn_at first) entries → is_next turn entry ≡ true
+    → IsOfOpen entry first entries
+opens_there first entries turn (carried receipt q reply) same next = tt
+opens_there first entries turn (withdrawn n) same next =
+    opens_here first entries n (ap (λ (t : Turn). t.is_open) (sym same) ∙ (and_parts turn.is_open (n == turn.last) next).0)
+
 -- the line comes after them
 pub is_after : (first place : Place) (texts : List (List ℕ)) (entries : List Entry) (walked : ChainEnd) (text : List ℕ) (entry : Entry) → place.id ≡ first.id
     → AreLines first texts entries → EndsAt walked (read_on (end_at first) texts).end → next_link walked text ≡ Some entry
@@ -152,6 +157,7 @@ is_after first place texts entries walked text entry same lines ends is =
     let sum : walked.sum ≡ sum_behind first.sum entries = ends.sum ∙ it.sum ∙ ap (sum_behind first.sum) lines.read in
     record {
       last = number_there read.end entry (place_after first entries).number number there.next;
+      opens = opens_there first entries read.end.turn entry (it.turn ∙ ap (turn_behind (first_turn_at first)) lines.read) there.next;
       sum_is = ap (λ (s : List ℕ). sum_after s entry) sum ∙ sym (sum_more first.sum entries entry);
       same_id = same;
     }

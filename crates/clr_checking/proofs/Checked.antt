@@ -1,29 +1,30 @@
 -- How far a register was checked, after a line more, and after all.
-use Rattle.std.proofs.Common.{◌≡◌, ◌⊎◌, ◌∙◌, ℕ, Bool, true, false, List, [], ◌∷◌, ◌++◌, Option, None, Some, length, refl, ap, sym, subst, inl, inr, append_assoc, append-nil}
+use Rattle.std.proofs.Common.{◌≡◌, ◌≢◌, ◌⊎◌, ◌∙◌, ℕ, true, false, List, [], ◌∷◌, ◌++◌, Option, None, Some, IsSome, length, refl, ap, sym, subst, inl, inr, append_assoc, append-nil}
+use Rattle.std.proofs.lemmas.Bool.{true≢false}
 use Rattle.clr_rules.specs.Register.{Register}
 use Rattle.clr_place.specs.declared.place.Place.{Place}
 use Rattle.clr_journal.specs.Journals.{commands_of, in_turn, withdraws}
 use Rattle.clr_journal.specs.Line.{Entry}
 use Rattle.clr_journal.specs.declared.line.Carried.{Carried}
 use Rattle.clr_journal.specs.Laws.{turn_behind}
-use Rattle.clr_chain.specs.Chain.{ReadOn, read_on}
+use Rattle.clr_chain.specs.Chain.{read_on}
 use Rattle.clr_chain.specs.First.{end_at, first_turn_at}
 use Rattle.clr_chain.specs.Level.{place_after}
-use Rattle.clr_chain.specs.Link.{next_link}
-use Rattle.clr_chain.specs.Sums.{sum_behind}
 use Rattle.clr_chain.specs.Walking.{bad, holds, part_of, step_of}
 use Rattle.clr_chain.specs.declared.chain_end.ChainEnd.{ChainEnd}
 use Rattle.clr_chain.specs.declared.walk.Walk.{Walk}
-use Rattle.clr_checking.specs.Checking.{AreAnswered, AreLines, EndsAt, IsBadAfter, IsChecked, IsCheckedFrom, Refuses}
-use Rattle.clr_checking.specs.CheckingOn.{CheckedTo, CheckedToFrom, ComesFrom, GoesOver, IsAfter, IsAtCommand, IsOf, IsOfLast, IsOfRun, Ran, RanOver, RunsFrom, Waits}
+use Rattle.clr_checking.specs.Checking.{AreAnswered, AreLines, EndsAt, IsBadAfter, IsChecked, IsCheckedFrom, IsNotThere, IsRefused, IsRefusedFrom, NoneHas}
+use Rattle.clr_checking.specs.Checking.{Refuses, RefusesCopy, RefusesFrom, RefusesLine, RefusesOfCopy, RefusesRun}
+use Rattle.clr_checking.specs.CheckingOn.{CheckedTo, CheckedToFrom, ComesFrom, GoesOver, IsAfter, IsAtCommand, IsOfLast, RanOver, RunsFrom, RunsOn, Waits}
 use Rattle.clr_verify.specs.Replay.{open_entries}
 use Rattle.clr_checking.specs.declared.checking.Checking.{Checking}
 use Rattle.clr_checking.specs.declared.fault.CheckFault.{CheckFault}
 use Rattle.clr_checking.specs.declared.fault.CheckFault.TheVariants.{BadLine, Differs, NoMemory, OtherRegister, Reply, Tables, TooShort}
 use Rattle.clr_checking.proofs.Chained.{held, is_after, is_read, line_more, not_held, part_ends}
 use Rattle.clr_checking.proofs.Flat.{Each, IsFlat, read_are_flat}
-use Rattle.clr_checking.proofs.Places.{kept_more, place_on}
+use Rattle.clr_checking.proofs.Places.{kept_more, none_more, opens_after, place_on}
 use Rattle.clr_checking.proofs.Ran.{ran_none}
+use Rattle.clr_checking.proofs.Steps.{later_on}
 use Rattle.clr_checking.proofs.Runs.{each_end, is_level, turns_closed, turns_end}
 
 -- ---- the chain goes on, and the rest stays
@@ -31,6 +32,10 @@ use Rattle.clr_checking.proofs.Runs.{each_end, is_level, turns_closed, turns_end
 ran_walk : (began R : Register) (first place : Place) (old : Checking) (walk : Walk) (entries : List Entry) → RanOver began first place R old entries
     → RanOver began first place R (record old { walk = walk }) entries
 ran_walk began R first place old walk entries over = record { of = record { place_is = over.of.place_is; book_is = over.of.book_is }; ran = over.ran }
+
+runs_walk : (began R : Register) (first place : Place) (old : Checking) (walk : Walk) (entries : List Entry) → RunsOn began first place R old entries
+    → RunsOn began first place R (record old { walk = walk }) entries
+runs_walk began R first place old walk entries runs = record { over = ran_walk began R first place old walk entries runs.over; shut = runs.shut; later = runs.later }
 
 waits_walk : (copied R : Register) (at first place : Place) (old : Checking) (walk : Walk) → Waits copied at first place R old
     → Waits copied at first place R (record old { walk = walk })
@@ -76,14 +81,14 @@ goes_first first place old new ids ends same walks = record {
   id_is = ap (λ (w : Walk). w.id) walks ∙ ids;
 }
 
-at_first : (first place : Place) (old : Checking) → old.walk.end ≡ end_at first → place.id ≡ first.id
+pub at_first : (first place : Place) (old : Checking) → old.walk.end ≡ end_at first → place.id ≡ first.id
     → IsAtCommand first place old.walk.end.turn.last old.walk.end.sum []
 at_first first place old ends same =
     subst (λ (e : ChainEnd). IsAtCommand first place e.turn.last e.sum []) (sym ends) (record { here = refl; at_command = refl; same_id = same })
 
 pub begun_checked : (began R : Register) (first place : Place) (old new : Checking) → old.walk.id ≡ first.id → old.walk.end ≡ end_at first → old.place.id ≡ old.walk.id
     → new.walk ≡ old.walk → (old.from ≡ None → new.from ≡ None)
-    → (IsAtCommand first place old.walk.end.turn.last old.walk.end.sum [] → old.from ≡ None → RanOver began first place R old [] → RanOver began first place R new [])
+    → (IsAtCommand first place old.walk.end.turn.last old.walk.end.sum [] → old.from ≡ None → RanOver began first place R old [] → RunsOn began first place R new [])
     → old.from ≡ None → RanOver began first place R old [] → CheckedTo began first place R new []
 begun_checked began R first place old new ids ends own walks begun went none over =
     let same : place.id ≡ first.id = ap (λ (p : Place). p.id) (sym over.of.place_is) ∙ own ∙ ids in
@@ -97,8 +102,9 @@ begun_checked began R first place old new ids ends own walks begun went none ove
 pub begun_checked_from : (copied R : Register) (at first place : Place) (old new : Checking) → old.walk.id ≡ first.id → old.walk.end ≡ end_at first
     → old.place.id ≡ old.walk.id → at.id ≡ old.walk.id → new.walk ≡ old.walk
     → (IsAtCommand first place old.walk.end.turn.last old.walk.end.sum [] → Waits copied at first place R old → ComesFrom copied at first place R new [] [])
+    → (new.from ≡ Some at → old.walk.end.turn.last ≢ at.number)
     → (at.id ≡ first.id → Waits copied at first place R old) → CheckedToFrom copied at first place R new []
-begun_checked_from copied R at first place old new ids ends own own_from walks waited waits =
+begun_checked_from copied R at first place old new ids ends own own_from walks waited passed waits =
     let w = waits (own_from ∙ ids) in
     let same : place.id ≡ first.id = ap (λ (p : Place). p.id) (sym w.of.place_is) ∙ own ∙ ids in
     record {
@@ -106,6 +112,7 @@ begun_checked_from copied R at first place old new ids ends own own_from walks w
       entries = [];
       over = goes_first first place old new ids ends same walks;
       come = waited (at_first first place old ends same) w;
+      sought = λ some. (λ is. passed some (ap (λ (e : ChainEnd). e.turn.last) ends ∙ is), tt);
     }
 
 -- nothing was run yet
@@ -121,12 +128,20 @@ fresh first it last count met = record {
 -- what comes of a line that is run, and of one that is not
 abbrev pub Goes : Checking → Walk → Entry → Checking → Type 0
 Goes old walk entry new = (began : Register) (first place : Place) (R : Register) (entries : List Entry) → old.from ≡ None
-    → IsAfter first place walk.end.sum entry entries → RanOver began first place R (record old { walk = walk }) entries
-    → RanOver began first place R new (entries ++ entry ∷ [])
+    → IsAfter first place walk.end.sum entry entries → RunsOn began first place R (record old { walk = walk }) entries
+    → RunsOn began first place R new (entries ++ entry ∷ [])
 
 abbrev pub StaysKept : Checking → Walk → Entry → Type 0
 StaysKept old walk entry = (began : Register) (first place : Place) (R : Register) → old.from ≡ None
-    → RanOver began first place R (record old { walk = walk }) [] → withdraws (entry ∷ []) ≡ false
+    → RunsOn began first place R (record old { walk = walk }) [] → withdraws (entry ∷ []) ≡ false
+
+-- the line is not that of the copy's place, where that is still sought
+abbrev pub Passed : Entry → Checking → Type 0
+Passed entry new = (at : Place) → new.from ≡ Some at → NoneHas at.number (entry ∷ [])
+
+sought_on : (first at : Place) (before : List Entry) (entry : Entry) (new : Checking) → Passed entry new → IsNotThere first before at → new.from ≡ Some at
+    → IsNotThere first (before ++ entry ∷ []) at
+sought_on first at before entry new passed there some = (there.0, none_more at.number before entry there.1 (passed at some))
 
 abbrev pub Waited : Checking → Walk → Entry → Checking → Type 0
 Waited old walk entry new = (copied : Register) (at first place : Place) (R : Register) (before : List Entry)
@@ -141,7 +156,7 @@ line_checked began R first place texts text entry old new walk step ids walks be
   over = over_more first place texts text it.entries entry old new walk step ids walks it.over;
   begun = begun it.begun;
   ran = goes began first place R it.entries it.begun (after_over first place texts text it.entries entry old walk step it.over)
-      (ran_walk began R first place old walk it.entries it.ran);
+      (runs_walk began R first place old walk it.entries it.ran);
 }
 
 -- lines after a place are after it
@@ -154,15 +169,16 @@ after_place first at place sum entry before entries is_at is =
     ∙ ap (place_after first) (sym (append_assoc before entries (entry ∷ []))) in
     record {
       last = subst (λ (p : Place). IsOfLast entry p.number) (sym here) is.last;
+      opens = opens_after first at before entries entry is.opens;
       sum_is = is.sum_is ∙ ap (λ (p : Place). p.sum) (sym there);
       same_id = is.same_id ∙ ap (λ (p : Place). p.id) (sym is_at);
     }
 
 waited_on : (copied R : Register) (at first place : Place) (texts : List (List ℕ)) (text : List ℕ) (entry : Entry) (old new : Checking) (walk : Walk) (before entries : List Entry)
-    → (holds entry, walk.end) ≡ step_of old.walk.end text → walk.id ≡ old.walk.id → new.walk ≡ walk → Waited old walk entry new
-    → GoesOver first place old texts (before ++ entries) → entries ≡ [] → Waits copied at first place R old
+    → (holds entry, walk.end) ≡ step_of old.walk.end text → walk.id ≡ old.walk.id → new.walk ≡ walk → Waited old walk entry new → Passed entry new
+    → GoesOver first place old texts (before ++ entries) → (old.from ≡ Some at → IsNotThere first before at) → entries ≡ [] → Waits copied at first place R old
     → CheckedToFrom copied at first place R new (texts ++ text ∷ [])
-waited_on copied R at first place texts text entry old new walk before entries step ids walks waited over none w =
+waited_on copied R at first place texts text entry old new walk before entries step ids walks waited passed over sought none w =
     let all : before ++ entries ≡ before = ap (λ (es : List Entry). before ++ es) none ∙ append-nil before in
     let so_far : GoesOver first place old texts before = subst (λ (es : List Entry). GoesOver first place old texts es) all over in
     record {
@@ -172,6 +188,7 @@ waited_on copied R at first place texts text entry old new walk before entries s
           (over_more first place texts text before entry old new walk step ids walks so_far);
       come = waited copied at first place R before (after_over first place texts text before entry old walk step so_far)
           (waits_walk copied R at first place old walk w);
+      sought = sought_on first at before entry new passed (sought w.from);
     }
 
 run_on : (copied R : Register) (at first place : Place) (texts : List (List ℕ)) (text : List ℕ) (entry : Entry) (old new : Checking) (walk : Walk) (before entries : List Entry)
@@ -182,7 +199,7 @@ run_on : (copied R : Register) (at first place : Place) (texts : List (List ℕ)
 run_on copied R at first place texts text entry old new walk before entries step ids walks begun goes stays over runs =
     let is = after_place first at place walk.end.sum entry before entries runs.is_at
     (after_over first place texts text (before ++ entries) entry old walk step over) in
-    let ran = ran_walk copied R at place old walk entries runs.ran in
+    let ran = runs_walk copied R at place old walk entries runs.ran in
     record {
       before = before;
       entries = entries ++ entry ∷ [];
@@ -193,19 +210,20 @@ run_on copied R at first place texts text entry old new walk before entries step
         is_at = runs.is_at;
         at_command = runs.at_command;
         kept = kept_more entries entry runs.kept (λ none.
-            stays copied at place R runs.begun (subst (λ (es : List Entry). RanOver copied at place R (record old { walk = walk }) es) none ran));
+            stays copied at place R runs.begun (subst (λ (es : List Entry). RunsOn copied at place R (record old { walk = walk }) es) none ran));
         ran = goes copied at place R entries runs.begun is ran;
       });
+      sought = λ some. absurd (cc (sym (begun runs.begun) ∙ some));
     }
 
 pub line_checked_from : (copied R : Register) (at first place : Place) (texts : List (List ℕ)) (text : List ℕ) (entry : Entry) (old new : Checking) (walk : Walk)
     → (holds entry, walk.end) ≡ step_of old.walk.end text → walk.id ≡ old.walk.id → new.walk ≡ walk → (old.from ≡ None → new.from ≡ None)
-    → Goes old walk entry new → StaysKept old walk entry → Waited old walk entry new
+    → Goes old walk entry new → StaysKept old walk entry → Waited old walk entry new → Passed entry new
     → CheckedToFrom copied at first place R old texts → CheckedToFrom copied at first place R new (texts ++ text ∷ [])
-line_checked_from copied R at first place texts text entry old new walk step ids walks begun goes stays waited it = by it.come
+line_checked_from copied R at first place texts text entry old new walk step ids walks begun goes stays waited passed it = by it.come
   where
     by : ComesFrom copied at first place R old it.before it.entries → CheckedToFrom copied at first place R new (texts ++ text ∷ [])
-    by (inl w) = waited_on copied R at first place texts text entry old new walk it.before it.entries step ids walks waited it.over w.0 w.1
+    by (inl w) = waited_on copied R at first place texts text entry old new walk it.before it.entries step ids walks waited passed it.over it.sought w.0 w.1
     by (inr runs) = run_on copied R at first place texts text entry old new walk it.before it.entries step ids walks begun goes stays it.over runs
 
 -- ---- a line that does not hold its sum
@@ -216,15 +234,104 @@ bad_over first place texts text entries old after n step over =
     let both = not_held old.walk.end after text n step in
     record { entries = entries; lines = over.lines; end = old.walk.end; end_is = over.end_is; bad = both.0; number = both.1 }
 
--- no other fault says so
-pub of_run : (first : Place) (texts : List (List ℕ)) (text : List ℕ) (fault : CheckFault) → IsOfRun fault → Refuses first texts text fault
-of_run first texts text (BadLine n) is = absurd is
-of_run first texts text (Reply n) is = tt
-of_run first texts text (Differs n) is = tt
-of_run first texts text (Tables found) is = tt
-of_run first texts text TooShort is = absurd is
-of_run first texts text OtherRegister is = absurd is
-of_run first texts text NoMemory is = tt
+-- ---- why there is no yes
+
+line_else : (first : Place) (texts : List (List ℕ)) (text : List ℕ) (Is : CheckFault → Type 0) (fault : CheckFault) → ((n : ℕ) → fault ≡ BadLine n → ⊥)
+    → (fault ≡ TooShort → ⊥) → Is fault → RefusesLine first texts text Is fault
+line_else first texts text Is OtherRegister never_bad never_short is = is
+line_else first texts text Is (BadLine n) never_bad never_short is = absurd (never_bad n refl)
+line_else first texts text Is (Reply n) never_bad never_short is = is
+line_else first texts text Is (Differs n) never_bad never_short is = is
+line_else first texts text Is (Tables found) never_bad never_short is = is
+line_else first texts text Is TooShort never_bad never_short is = absurd (never_short refl)
+line_else first texts text Is NoMemory never_bad never_short is = tt
+
+-- what comes of a line that is run, and of one that is not
+abbrev pub RunRefuses : Checking → Walk → Entry → CheckFault → Type 0
+RunRefuses old walk entry fault = (began : Register) (first place : Place) (R : Register) (entries : List Entry) → old.from ≡ None
+    → IsAfter first place walk.end.sum entry entries → RunsOn began first place R (record old { walk = walk }) entries
+    → RefusesRun began first (entries ++ entry ∷ []) place R fault
+
+abbrev pub WaitRefuses : Checking → Walk → Entry → CheckFault → Type 0
+WaitRefuses old walk entry fault = (copied : Register) (at first place : Place) (R : Register) (before : List Entry)
+    → IsAfter first place walk.end.sum entry before → Waits copied at first place R (record old { walk = walk })
+    → RefusesFrom copied at first (before ++ entry ∷ []) [] place R fault
+
+lines_on : (first place : Place) (texts : List (List ℕ)) (text : List ℕ) (entries : List Entry) (entry : Entry) (old : Checking) (walk : Walk)
+    → (holds entry, walk.end) ≡ step_of old.walk.end text → GoesOver first place old texts entries → AreLines first (texts ++ text ∷ []) (entries ++ entry ∷ [])
+lines_on first place texts text entries entry old walk step over =
+    (line_more first texts entries old.walk.end text entry over.lines over.end_is (held old.walk.end walk.end text entry step).0).0
+
+pub line_refused : (began R : Register) (first place : Place) (texts : List (List ℕ)) (text : List ℕ) (entry : Entry) (old : Checking) (walk : Walk) (fault : CheckFault)
+    → (holds entry, walk.end) ≡ step_of old.walk.end text → RunRefuses old walk entry fault → CheckedTo began first place R old texts
+    → Refuses began first texts text place R fault
+line_refused began R first place texts text entry old walk fault step refuses it =
+    let cause : RefusesRun began first (it.entries ++ entry ∷ []) place R fault =
+    refuses began first place R it.entries it.begun (after_over first place texts text it.entries entry old walk step it.over)
+    (runs_walk began R first place old walk it.entries it.ran) in
+    line_else first texts text (IsRefused began first (texts ++ text ∷ []) place R) fault
+    (λ n is. subst (λ (f : CheckFault). RefusesRun began first (it.entries ++ entry ∷ []) place R f) is cause)
+    (λ is. subst (λ (f : CheckFault). RefusesRun began first (it.entries ++ entry ∷ []) place R f) is cause) (record {
+      entries = it.entries ++ entry ∷ [];
+      lines = lines_on first place texts text it.entries entry old walk step it.over;
+      cause = inl cause;
+    })
+
+-- from a copy, with these lines after its place
+pub record RefusedWith (copied R : Register) (at first place : Place) (texts : List (List ℕ)) (fault : CheckFault) : Type 0 where
+  pub before : List Entry
+  pub entries : List Entry
+  pub lines : AreLines first texts (before ++ entries)
+  pub cause : RefusesFrom copied at first before entries place R fault
+
+never_from : (copied R : Register) (at first place : Place) (before entries : List Entry) (fault other : CheckFault)
+    → (RefusesCopy first (before ++ entries) at place other → ⊥) → (RefusesRun copied at entries place R other → ⊥)
+    → RefusesFrom copied at first before entries place R fault → fault ≡ other → ⊥
+never_from copied R at first place before entries fault other copy run (inl is) same = copy (subst (λ (f : CheckFault). RefusesCopy first (before ++ entries) at place f) same is)
+never_from copied R at first place before entries fault other copy run (inr is) same = run (subst (λ (f : CheckFault). RefusesRun copied at entries place R f) same is.1)
+
+from_else : (copied R : Register) (at first place : Place) (texts : List (List ℕ)) (text : List ℕ) (fault : CheckFault)
+    → RefusedWith copied R at first place (texts ++ text ∷ []) fault → RefusesOfCopy copied at first texts text place R fault
+from_else copied R at first place texts text fault it =
+    line_else first texts text (IsRefusedFrom copied at first (texts ++ text ∷ []) place R) fault
+    (λ n is. never_from copied R at first place it.before it.entries fault (BadLine n) (λ never. never) (λ never. never) it.cause is)
+    (λ is. never_from copied R at first place it.before it.entries fault TooShort (λ never. never) (λ never. never) it.cause is)
+    (record { before = it.before; entries = it.entries; lines = it.lines; cause = inl it.cause })
+
+pub line_refused_from : (copied R : Register) (at first place : Place) (texts : List (List ℕ)) (text : List ℕ) (entry : Entry) (old : Checking) (walk : Walk) (fault : CheckFault)
+    → (holds entry, walk.end) ≡ step_of old.walk.end text → RunRefuses old walk entry fault → WaitRefuses old walk entry fault
+    → CheckedToFrom copied at first place R old texts → RefusesOfCopy copied at first texts text place R fault
+line_refused_from copied R at first place texts text entry old walk fault step refuses waits it = from_else copied R at first place texts text fault (by it.come)
+  where
+    waiting : (entries : List Entry) → GoesOver first place old texts (it.before ++ entries) → entries ≡ [] → Waits copied at first place R old
+        → RefusedWith copied R at first place (texts ++ text ∷ []) fault
+    waiting entries over none w =
+        let so_far : GoesOver first place old texts it.before =
+        subst (λ (es : List Entry). GoesOver first place old texts es) (ap (λ (es : List Entry). it.before ++ es) none ∙ append-nil it.before) over in
+        record {
+          before = it.before ++ entry ∷ [];
+          entries = [];
+          lines = subst (λ (es : List Entry). AreLines first (texts ++ text ∷ []) es) (sym (append-nil (it.before ++ entry ∷ [])))
+              (lines_on first place texts text it.before entry old walk step so_far);
+          cause = waits copied at first place R it.before (after_over first place texts text it.before entry old walk step so_far)
+              (waits_walk copied R at first place old walk w);
+        }
+
+    running : RunsFrom copied at first place R old it.before it.entries → RefusedWith copied R at first place (texts ++ text ∷ []) fault
+    running runs =
+        let is = after_place first at place walk.end.sum entry it.before it.entries runs.is_at
+        (after_over first place texts text (it.before ++ it.entries) entry old walk step it.over) in
+        record {
+          before = it.before;
+          entries = it.entries ++ entry ∷ [];
+          lines = subst (λ (es : List Entry). AreLines first (texts ++ text ∷ []) es) (append_assoc it.before it.entries (entry ∷ []))
+              (lines_on first place texts text (it.before ++ it.entries) entry old walk step it.over);
+          cause = inr (runs.is_at, refuses copied at place R it.entries runs.begun is (runs_walk copied R at place old walk it.entries runs.ran));
+        }
+
+    by : ComesFrom copied at first place R old it.before it.entries → RefusedWith copied R at first place (texts ++ text ∷ []) fault
+    by (inl w) = waiting it.entries it.over w.0 w.1
+    by (inr runs) = running runs
 
 -- ---- a further part
 
@@ -245,7 +352,7 @@ part_checked began R first place texts old walk found part ids it = record {
   entries = it.entries;
   over = over_part first place texts it.entries old walk found part ids it.over;
   begun = it.begun;
-  ran = ran_walk began R first place old walk it.entries it.ran;
+  ran = runs_walk began R first place old walk it.entries it.ran;
 }
 
 pub part_checked_from : (copied R : Register) (at first place : Place) (texts : List (List ℕ)) (old : Checking) (walk : Walk) (found : Option Place)
@@ -256,6 +363,7 @@ part_checked_from copied R at first place texts old walk found part ids it = rec
   entries = it.entries;
   over = over_part first place texts (it.before ++ it.entries) old walk found part ids it.over;
   come = by it.come;
+  sought = it.sought;
 }
   where
     by : ComesFrom copied at first place R old it.before it.entries → ComesFrom copied at first place R (record old { walk = walk }) it.before it.entries
@@ -265,7 +373,7 @@ part_checked_from copied R at first place texts old walk found part ids it = rec
       is_at = runs.is_at;
       at_command = runs.at_command;
       kept = runs.kept;
-      ran = ran_walk copied R at place old walk it.entries runs.ran;
+      ran = runs_walk copied R at place old walk it.entries runs.ran;
     })
 
 -- ---- the end
@@ -276,10 +384,10 @@ ran_all began R first place new entries closed over =
     sym (over.ran.entries_are ∙ ap (λ (o : Option Carried). over.ran.done ++ open_entries o) closed ∙ append-nil over.ran.done)
 
 pub all_checked : (began R : Register) (first place : Place) (texts : List (List ℕ)) (old new : Checking) → new.last ≡ None → new.is_met ≡ true
-    → ((entries : List Entry) → RanOver began first place R old entries → RanOver began first place R new entries)
+    → (old.from ≡ None → (entries : List Entry) → RanOver began first place R old entries → RanOver began first place R new entries)
     → CheckedTo began first place R old texts → IsChecked began first texts place R new.count
 all_checked began R first place texts old new closed met close it =
-    let over = close it.entries it.ran in
+    let over = close it.begun it.entries it.ran.over in
     let done = ran_all began R first place new it.entries closed over in
     let turns : in_turn (first_turn_at first) it.entries ≡ true =
     subst (λ (es : List Entry). in_turn (first_turn_at first) es ≡ true) it.over.lines.read (is_read texts (end_at first)).turns in
@@ -300,7 +408,7 @@ all_checked_from copied R at first place texts old new closed met begun close it
   where
     all_run : RunsFrom copied at first place R old it.before it.entries → IsCheckedFrom copied at first texts place R new.count
     all_run runs =
-        let over = close it.entries runs.ran in
+        let over = close it.entries runs.ran.over in
         let done = ran_all copied R at place new it.entries closed over in
         let whole : in_turn (first_turn_at first) (it.before ++ it.entries) ≡ true =
         subst (λ (es : List Entry). in_turn (first_turn_at first) es ≡ true) it.over.lines.read (is_read texts (end_at first)).turns in
@@ -325,3 +433,80 @@ all_checked_from copied R at first place texts old new closed met begun close it
     by : ComesFrom copied at first place R old it.before it.entries → IsCheckedFrom copied at first texts place R new.count
     by (inl w) = let none : Some at ≡ None = sym w.1.from ∙ begun in absurd (cc none)
     by (inr runs) = all_run runs
+
+-- ---- why there is none at the end
+
+-- the place was not met
+not_there : (began R : Register) (first place : Place) (old new : Checking) (entries : List Entry) → new.last ≡ None → (old.is_met ≡ true → new.is_met ≡ true) → new.is_met ≡ false
+    → RanOver began first place R new entries → RunsOn began first place R old entries → IsNotThere first entries place
+not_there began R first place old new entries closed stays unmet over runs = (
+  later_on first place old.is_met new.is_met stays runs.later unmet,
+  subst (λ (es : List Entry). NoneHas place.number es) (ran_all began R first place new entries closed over) (over.ran.unmet unmet),
+)
+
+pub end_unmet : (began R : Register) (first place : Place) (texts : List (List ℕ)) (old new : Checking) → new.last ≡ None → (old.is_met ≡ true → new.is_met ≡ true)
+    → new.is_met ≡ false
+    → (old.from ≡ None → (entries : List Entry) → RanOver began first place R old entries → RanOver began first place R new entries)
+    → CheckedTo began first place R old texts → IsRefused began first texts place R TooShort
+end_unmet began R first place texts old new closed stays unmet close it = record {
+  entries = it.entries;
+  lines = it.over.lines;
+  cause = inr (refl, not_there began R first place old new it.entries closed stays unmet (close it.begun it.entries it.ran.over) it.ran);
+}
+
+-- nor is the place of a copy
+abbrev NotThereFrom : Place → Place → List Entry → List Entry → Place → Type 0
+NotThereFrom at first before entries place = IsNotThere first (before ++ entries) at ⊎ ((at ≡ place_after first before) × IsNotThere at entries place)
+
+refused_short : (copied R : Register) (at first place : Place) (texts : List (List ℕ)) (old : Checking) (it : CheckedToFrom copied at first place R old texts)
+    → NotThereFrom at first it.before it.entries place → IsRefusedFrom copied at first texts place R TooShort
+refused_short copied R at first place texts old it there = record { before = it.before; entries = it.entries; lines = it.over.lines; cause = inr (refl, there) }
+
+still_sought : (copied R : Register) (at first place : Place) (texts : List (List ℕ)) (old : Checking) (it : CheckedToFrom copied at first place R old texts)
+    → it.entries ≡ [] → Waits copied at first place R old → NotThereFrom at first it.before it.entries place
+still_sought copied R at first place texts old it none w =
+    inl (subst (λ (es : List Entry). IsNotThere first es at) (sym (ap (λ (es : List Entry). it.before ++ es) none ∙ append-nil it.before)) (it.sought w.from))
+
+pub end_unmet_from : (copied R : Register) (at first place : Place) (texts : List (List ℕ)) (old new : Checking) → new.last ≡ None → (old.is_met ≡ true → new.is_met ≡ true)
+    → new.is_met ≡ false
+    → (old.from ≡ None → (entries : List Entry) → RanOver copied at place R old entries → RanOver copied at place R new entries)
+    → CheckedToFrom copied at first place R old texts → IsRefusedFrom copied at first texts place R TooShort
+end_unmet_from copied R at first place texts old new closed stays unmet close it = refused_short copied R at first place texts old it (by it.come)
+  where
+    by : ComesFrom copied at first place R old it.before it.entries → NotThereFrom at first it.before it.entries place
+    by (inl w) = still_sought copied R at first place texts old it w.0 w.1
+    by (inr runs) =
+        inr (runs.is_at, not_there copied R at place old new it.entries closed stays unmet (close runs.begun it.entries runs.ran.over) runs.ran)
+
+-- it is still sought
+pub end_sought : (copied R : Register) (at first place : Place) (texts : List (List ℕ)) (old : Checking) → IsSome old.from
+    → CheckedToFrom copied at first place R old texts → IsRefusedFrom copied at first texts place R TooShort
+end_sought copied R at first place texts old some it = refused_short copied R at first place texts old it (by it.come)
+  where
+    by : ComesFrom copied at first place R old it.before it.entries → NotThereFrom at first it.before it.entries place
+    by (inl w) = still_sought copied R at first place texts old it w.0 w.1
+    by (inr runs) = absurd (true≢false (sym (subst (λ (o : Option Place). IsSome o) runs.begun some)))
+
+-- over the lines from the first no copy is sought
+pub none_sought : (began R : Register) (first place : Place) (texts : List (List ℕ)) (old : Checking) → IsSome old.from → CheckedTo began first place R old texts → ⊥
+none_sought began R first place texts old some it = true≢false (sym (subst (λ (o : Option Place). IsSome o) it.begun some))
+
+-- the open command had another reply, or the tables differ
+pub end_else : (began R : Register) (first place : Place) (texts : List (List ℕ)) (old : Checking) (fault : CheckFault)
+    → (old.from ≡ None → (entries : List Entry) → RanOver began first place R old entries → RefusesRun began first entries place R fault)
+    → CheckedTo began first place R old texts → IsRefused began first texts place R fault
+end_else began R first place texts old fault close it = record { entries = it.entries; lines = it.over.lines; cause = inl (close it.begun it.entries it.ran.over) }
+
+pub end_else_from : (copied R : Register) (at first place : Place) (texts : List (List ℕ)) (old : Checking) (fault : CheckFault) → IsSome old.last
+    → (old.from ≡ None → (entries : List Entry) → RanOver copied at place R old entries → RefusesRun copied at entries place R fault)
+    → CheckedToFrom copied at first place R old texts → IsRefusedFrom copied at first texts place R fault
+end_else_from copied R at first place texts old fault some close it = by it.come
+  where
+    by : ComesFrom copied at first place R old it.before it.entries → IsRefusedFrom copied at first texts place R fault
+    by (inl w) = absurd (true≢false (sym (subst (λ (o : Option Carried). IsSome o) w.1.last some)))
+    by (inr runs) = record {
+      before = it.before;
+      entries = it.entries;
+      lines = it.over.lines;
+      cause = inl (inr (runs.is_at, close runs.begun it.entries runs.ran.over));
+    }

@@ -1,5 +1,5 @@
 -- Where lines begin that are run: at the first line, or at the place of a copy.
-use Rattle.std.proofs.Common.{◌≡◌, ◌⊎◌, ◌∙◌, ℕ, Bool, true, false, List, [], ◌∷◌, ◌++◌, Option, None, Some, IsSome, refl, ap, sym, subst, inl, inr}
+use Rattle.std.proofs.Common.{◌≡◌, ◌≢◌, ◌⊎◌, ◌∙◌, ℕ, true, false, List, [], ◌∷◌, ◌++◌, Option, None, Some, IsSome, refl, ap, sym, subst, inl, inr}
 use Rattle.std.proofs.lemmas.Bool.{true≢false}
 use Rattle.serde_json.specs.Data.{Data}
 use Rattle.clr_rules.specs.Register.{Register}
@@ -12,11 +12,11 @@ use Rattle.clr_journal.specs.declared.line.Receipt.{Receipt}
 use Rattle.clr_journal.specs.declared.reading.Turn.{Turn}
 use Rattle.clr_chain.specs.First.{first_turn_at}
 use Rattle.clr_chain.specs.Level.{is_command, place_after}
-use Rattle.clr_checking.specs.CheckingOn.{ComesFrom, IsAfter, IsAtCommand, IsOf, Ran, RanOver, RunsFrom, Waits}
+use Rattle.clr_checking.specs.CheckingOn.{ComesFrom, IsAfter, IsAtCommand, IsOf, Ran, RanOver, RunsFrom, RunsOn, Waits}
 use Rattle.clr_checking.specs.declared.checking.Checking.{Checking}
 use Rattle.clr_checking.proofs.Places.{ends_so, turn_more}
 use Rattle.clr_checking.proofs.Ran.{begins, ran_none}
-use Rattle.clr_checking.proofs.Steps.{MetAt, expected_of, met_of}
+use Rattle.clr_checking.proofs.Steps.{MetAt, UnmetAt, expected_of, met_of, unmet_of}
 
 -- ---- where the chain has come to
 
@@ -40,10 +40,10 @@ place_there first place number sum entries it expected at =
 
 -- ---- from the first line
 
-of_from : (place : Place) (R : Register) (old mid : Checking) → mid ≡ record old { from = mid.from } → IsOf place R old → IsOf place R mid
+pub of_from : (place : Place) (R : Register) (old mid : Checking) → mid ≡ record old { from = mid.from } → IsOf place R old → IsOf place R mid
 of_from place R old mid mids of = record { place_is = ap (λ (x : Checking). x.place) mids ∙ of.place_is; book_is = ap (λ (x : Checking). x.book.now.register) mids ∙ of.book_is }
 
-ran_from : (began R : Register) (first place : Place) (old mid : Checking) → mid ≡ record old { from = mid.from } → RanOver began first place R old []
+pub ran_from : (began R : Register) (first place : Place) (old mid : Checking) → mid ≡ record old { from = mid.from } → RanOver began first place R old []
     → RanOver began first place R mid []
 ran_from began R first place old mid mids over =
     let made : Checking = record old { from = mid.from } in
@@ -55,24 +55,36 @@ same_sum old mid mids = sym (ap (λ (x : Checking). x.walk.end.sum) mids)
 
 -- the tables are compared where nothing was run
 compared : (began R : Register) (first place : Place) (number : ℕ) (mid new : Checking) → (number ≡ place.number → place ≡ first)
-    → new ≡ record mid { is_met = new.is_met } → MetAt number mid new.is_met → RanOver began first place R mid [] → RanOver began first place R new []
-compared began R first place number mid new here same now over =
+    → new ≡ record mid { is_met = new.is_met } → MetAt number mid new.is_met → (mid.is_met ≡ true → new.is_met ≡ true)
+    → RanOver began first place R mid [] → RanOver began first place R new []
+compared began R first place number mid new here same now stays over =
     let newly : new.is_met ≡ true → mid.is_met ≡ false → (place ≡ first) × (tables_of R ≡ tables_of mid.desk.book.register) = λ sure before_it.
     let met = met_of place R mid number new.is_met over.of now sure before_it in (here met.0, met.1) in
     let ran : Ran began first place R mid.last mid.desk.book.register mid.count new.is_met [] =
-    begins began mid.desk.book.register R first place mid.last mid.count mid.is_met new.is_met newly over.ran in
+    begins began mid.desk.book.register R first place mid.last mid.count mid.is_met new.is_met newly stays over.ran in
     let made : Checking = record mid { is_met = new.is_met } in
     let all : RanOver began first place R made [] = record { of = record { place_is = over.of.place_is; book_is = over.of.book_is }; ran = ran } in
     subst (λ (x : Checking). RanOver began first place R x []) (sym same) all
 
-pub ran_begun : (began R : Register) (first place : Place) (number : ℕ) (old mid new : Checking) → mid ≡ record old { from = mid.from }
+-- so the run begins
+begun_runs : (began R : Register) (first place : Place) (number : ℕ) (new : Checking) → number ≡ first.number → (new.is_met ≡ false → number ≢ place.number)
+    → RanOver began first place R new [] → RunsOn began first place R new []
+begun_runs began R first place number new is later over = record { over = over; shut = λ closed. refl; later = λ unmet same. later unmet (is ∙ same) }
+
+first_number : (first place : Place) (number : ℕ) (sum : List ℕ) → IsAtCommand first place number sum [] → number ≡ first.number
+first_number first place number sum it = ap (λ (p : Place). p.number) (sym it.here)
+
+pub ran_begun : (began R : Register) (first place : Place) (number : ℕ) (old mid new : Checking) → mid ≡ record old { from = mid.from } → mid.from ≡ None
     → (number ≡ mid.place.number → mid.place.sum ≡ mid.walk.end.sum) → new ≡ record mid { is_met = new.is_met } → MetAt number mid new.is_met
-    → IsAtCommand first place number old.walk.end.sum [] → RanOver began first place R old [] → RanOver began first place R new []
-ran_begun began R first place number old mid new mids expected same now it over =
+    → UnmetAt number mid new.is_met → (mid.is_met ≡ true → new.is_met ≡ true)
+    → IsAtCommand first place number old.walk.end.sum [] → RanOver began first place R old [] → RunsOn began first place R new []
+ran_begun began R first place number old mid new mids none expected same now unmet stays it over =
     let over' = ran_from began R first place old mid mids over in
     let it' : IsAtCommand first place number mid.walk.end.sum [] = subst (λ (sum : List ℕ). IsAtCommand first place number sum []) (same_sum old mid mids) it in
-    compared began R first place number mid new
-    (place_there first place number mid.walk.end.sum [] it' (expected_of place R mid number over'.of expected)) same now over'
+    begun_runs began R first place number new (first_number first place number mid.walk.end.sum it')
+    (unmet_of place R mid number new.is_met over'.of none unmet)
+    (compared began R first place number mid new
+    (place_there first place number mid.walk.end.sum [] it' (expected_of place R mid number over'.of expected)) same now stays over')
 
 -- ---- from the place of a copy
 
@@ -88,30 +100,40 @@ waits_on copied R at first place old new same from w = record {
   met = ap (λ (x : Checking). x.is_met) same ∙ w.met;
 }
 
+-- the run has come to the copy's place: nothing was run
+pub come_here : (first at : Place) (number : ℕ) (sum : List ℕ) (place : Place) (before : List Entry) → at.id ≡ first.id → number ≡ at.number → at.sum ≡ sum
+    → IsAtCommand first place number sum before → at ≡ place_after first before
+come_here first at number sum place before same_id number_is sum_is it =
+    let here : at ≡ record { id = first.id; number = number; sum = sum } = λ i. record { id = same_id i; number = sym number_is i; sum = sum_is i } in
+    here ∙ sym it.here
+
+pub nothing_ran : (copied R : Register) (at first place : Place) (old mid : Checking) → mid ≡ record old { from = mid.from } → Waits copied at first place R old
+    → RanOver copied at place R mid []
+nothing_ran copied R at first place old mid mids w = record {
+  of = of_from place R old mid mids w.of;
+  ran = ran_none copied mid.desk.book.register R at place mid.last mid.count mid.is_met
+      (ap (λ (x : Checking). x.last) mids ∙ w.last) (ap (λ (x : Checking). x.desk.book.register) mids ∙ w.register)
+      (ap (λ (x : Checking). x.count) mids ∙ w.count) (ap (λ (x : Checking). x.is_met) mids ∙ w.met);
+}
+
 pub runs_from : (copied R : Register) (at first place : Place) (number : ℕ) (old mid new : Checking) (before : List Entry) → mid ≡ record old { from = mid.from }
     → mid.from ≡ None → number ≡ at.number → at.sum ≡ old.walk.end.sum
     → (number ≡ mid.place.number → mid.place.sum ≡ mid.walk.end.sum) → new ≡ record mid { is_met = new.is_met } → MetAt number mid new.is_met
+    → UnmetAt number mid new.is_met → (mid.is_met ≡ true → new.is_met ≡ true)
     → IsAtCommand first place number old.walk.end.sum before → Waits copied at first place R old → RunsFrom copied at first place R new before []
-runs_from copied R at first place number old mid new before mids none number_is sum_is expected same now it w =
+runs_from copied R at first place number old mid new before mids none number_is sum_is expected same now unmet stays it w =
     let of : IsOf place R mid = of_from place R old mid mids w.of in
-    let here : at ≡ record { id = first.id; number = number; sum = old.walk.end.sum } =
-    λ i. record { id = w.same_id i; number = sym number_is i; sum = sum_is i } in
-    let is_at : at ≡ place_after first before = here ∙ sym it.here in
+    let is_at : at ≡ place_after first before = come_here first at number old.walk.end.sum place before w.same_id number_is sum_is it in
     let it' : IsAtCommand first place number mid.walk.end.sum before = subst (λ (sum : List ℕ). IsAtCommand first place number sum before) (same_sum old mid mids) it in
     let there : number ≡ place.number → place ≡ at = λ e.
     place_there first place number mid.walk.end.sum before it' (expected_of place R mid number of expected) e ∙ sym is_at in
-    let over : RanOver copied at place R mid [] = record {
-      of = of;
-      ran = ran_none copied mid.desk.book.register R at place mid.last mid.count mid.is_met
-          (ap (λ (x : Checking). x.last) mids ∙ w.last) (ap (λ (x : Checking). x.desk.book.register) mids ∙ w.register)
-          (ap (λ (x : Checking). x.count) mids ∙ w.count) (ap (λ (x : Checking). x.is_met) mids ∙ w.met);
-    } in
     record {
       begun = ap (λ (x : Checking). x.from) same ∙ none;
       is_at = is_at;
       at_command = it.at_command;
       kept = refl;
-      ran = compared copied R at place number mid new there same now over;
+      ran = begun_runs copied R at place number new number_is (unmet_of place R mid number new.is_met of none unmet)
+          (compared copied R at place number mid new there same now stays (nothing_ran copied R at first place old mid mids w));
     }
 
 -- ---- what the copy's place is to a number
@@ -127,7 +149,8 @@ still_waits copied R at first place number old mid before mids some (inr met) w 
 pub comes : (copied R : Register) (at first place : Place) (number : ℕ) (old mid new : Checking) (before : List Entry) → mid ≡ record old { from = mid.from }
     → mid.from ≡ None → Waited at number old mid
     → (number ≡ mid.place.number → mid.place.sum ≡ mid.walk.end.sum) → new ≡ record mid { is_met = new.is_met } → MetAt number mid new.is_met
+    → UnmetAt number mid new.is_met → (mid.is_met ≡ true → new.is_met ≡ true)
     → IsAtCommand first place number old.walk.end.sum before → Waits copied at first place R old → ComesFrom copied at first place R new before []
-comes copied R at first place number old mid new before mids none (inl still) expected same now it w = absurd (cc (sym still ∙ none))
-comes copied R at first place number old mid new before mids none (inr met) expected same now it w =
-    inr (runs_from copied R at first place number old mid new before mids none met.1 met.2 expected same now it w)
+comes copied R at first place number old mid new before mids none (inl still) expected same now unmet stays it w = absurd (cc (sym still ∙ none))
+comes copied R at first place number old mid new before mids none (inr met) expected same now unmet stays it w =
+    inr (runs_from copied R at first place number old mid new before mids none met.1 met.2 expected same now unmet stays it w)

@@ -4,6 +4,7 @@ pub mod Answering
 pub mod Ran
 pub mod Steps
 pub mod Coming
+pub mod Refused
 pub mod Chained
 pub mod Flat
 pub mod Runs

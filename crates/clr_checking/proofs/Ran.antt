@@ -1,5 +1,5 @@
 -- The lines that were run, and one more.
-use Rattle.std.proofs.Common.{◌≡◌, ◌≢◌, ◌⊎◌, ◌∙◌, ◌+◌, ℕ, suc, Bool, true, false, cond, List, [], ◌∷◌, ◌++◌, Option, None, Some, length, map, refl, ap, sym, subst, append_assoc, append-nil, length-append, arith}
+use Rattle.std.proofs.Common.{◌≡◌, ◌≢◌, ◌⊎◌, ◌∙◌, ◌+◌, ℕ, suc, Bool, true, false, cond, List, [], ◌∷◌, ◌++◌, Option, None, Some, length, map, refl, ap, sym, subst, append_assoc, append-nil, length-append}
 use Rattle.std.proofs.lemmas.Bool.{true≢false}
 use Rattle.serde_json.specs.Data.{Data}
 use Rattle.serde_json.specs.View.{view}
@@ -19,18 +19,18 @@ use Rattle.clr_journal.specs.declared.reading.Turn.{Turn}
 use Rattle.clr_chain.specs.First.{first_turn_at}
 use Rattle.clr_chain.specs.Level.{ends_with_command, place_after}
 use Rattle.clr_chain.specs.Sums.{sum_behind}
-use Rattle.clr_checking.specs.Checking.{AreAnswered, none, refused, gone, done, is_brief}
-use Rattle.clr_checking.specs.CheckingOn.{IsAfter, IsAtCommand, IsMet, IsOpenAt, Ran}
+use Rattle.clr_checking.specs.Checking.{AreAnswered, Meets, NoneHas, none, refused, gone, done, is_brief}
+use Rattle.clr_checking.specs.CheckingOn.{IsAfter, IsMet, IsOpenAt, Ran}
 use Rattle.clr_verify.specs.Replay.{open_entries}
 use Rattle.clr_verify.specs.Replies.{IsReply}
 use Rattle.clr_checking.proofs.Answering.{answered_then}
-use Rattle.clr_checking.proofs.Places.{ends_so, kept_more, turn_more}
+use Rattle.clr_checking.proofs.Places.{ends_so, kept_more, none_more, turn_more}
 
 -- ---- the place of the register
 
-met_more : (began R : Register) (first place : Place) (entries : List Entry) (entry : Entry) → (place ≡ place_after first entries → withdraws (entry ∷ []) ≡ false)
-    → IsMet began first entries place R → IsMet began first (entries ++ entry ∷ []) place R
-met_more began R first place entries entry stays it = record {
+pub met_more : (began : Register) (first place : Place) (entries : List Entry) (entry : Entry) (Is : Register → Type 0) → (place ≡ place_after first entries → withdraws (entry ∷ []) ≡ false)
+    → Meets began first entries place Is → Meets began first (entries ++ entry ∷ []) place Is
+met_more began first place entries entry Is stays it = record {
   had = it.had;
   more = it.more ++ entry ∷ [];
   all = ap (λ es. es ++ entry ∷ []) it.all ∙ append_assoc it.had it.more (entry ∷ []);
@@ -40,12 +40,12 @@ met_more began R first place entries entry stays it = record {
       (λ before_it. stays (it.is_at ∙ ap (place_after first) (sym (it.all ∙ ap (λ more. it.had ++ more) before_it ∙ append-nil it.had))));
   register = it.register;
   answered = it.answered;
-  tables = it.tables;
+  is = it.is;
 }
 
-met_here : (began S R : Register) (first place : Place) (entries : List Entry) → place ≡ place_after first entries → ends_with_command entries ≡ true
-    → AreAnswered began entries S → tables_of R ≡ tables_of S → IsMet began first entries place R
-met_here began S R first place entries is_at at_command answered tables = record {
+pub met_here : (began S : Register) (first place : Place) (entries : List Entry) (Is : Register → Type 0) → place ≡ place_after first entries → ends_with_command entries ≡ true
+    → AreAnswered began entries S → Is S → Meets began first entries place Is
+met_here began S first place entries Is is_at at_command answered is = record {
   had = entries;
   more = [];
   all = sym (append-nil entries);
@@ -54,13 +54,22 @@ met_here began S R first place entries is_at at_command answered tables = record
   kept = refl;
   register = S;
   answered = answered;
-  tables = tables;
+  is = is;
 }
 
 -- it was met before, or is met now
 met_by : (M : Type 0) (met met' : Bool) → (met ≡ true → M) → (met' ≡ true → met ≡ false → M) → met' ≡ true → M
 met_by M true met' was newly sure = was refl
 met_by M false met' was newly sure = newly sure refl
+
+-- it was not met before, where it is not now
+pub not_before : (met met' : Bool) → (met ≡ true → met' ≡ true) → met' ≡ false → met ≡ false
+not_before true met' stays unmet = absurd (true≢false (sym (stays refl) ∙ unmet))
+not_before false met' stays unmet = refl
+
+-- the same, for the register's tables
+abbrev Same : Register → Register → Type 0
+Same R S = tables_of R ≡ tables_of S
 
 -- ---- how many commands were carried out
 
@@ -99,26 +108,41 @@ place_here first place entries receipt q reply sum is expected at =
     λ i. record { id = is.same_id i; number = number i; sum = sums i }
 
 -- the open command is carried out
-pub closes : (began S T R : Register) (first place : Place) (one : Carried) (count next : ℕ) (met met' : Bool) (entries : List Entry)
-    → is_accepted (view one.reply) ≡ true → IsReply (view one.reply) (Answer.reply (answer S one.command)) → T ≡ after S one.command → next ≡ count + 1
-    → (met' ≡ true → met ≡ false → (one.receipt.number ≡ place.number) × (tables_of R ≡ tables_of T))
-    → Ran began first place R (Some one) S count met entries → Ran began first place R None T next met' entries
-closes began S T R first place one count next met met' entries accepted own after_is next_is now ran =
+pub closed_answers : (began S T R : Register) (first place : Place) (one : Carried) (count : ℕ) (met : Bool) (entries : List Entry)
+    → is_accepted (view one.reply) ≡ true → IsReply (view one.reply) (Answer.reply (answer S one.command)) → T ≡ after S one.command
+    → (ran : Ran began first place R (Some one) S count met entries) → AreAnswered began (ran.done ++ carried one.receipt one.command (view one.reply) ∷ []) T
+closed_answers began S T R first place one count met entries accepted own after_is ran =
     let entry : Entry = carried one.receipt one.command (view one.reply) in
     let line : AreAnswered S (entry ∷ []) T =
     subst (λ (X : Register). AreAnswered S (entry ∷ []) X) (sym after_is)
     (done S (after S one.command) one.receipt one.command (view one.reply) [] accepted refl own (none (after S one.command))) in
-    let answered : AreAnswered began (ran.done ++ entry ∷ []) T = answered_then (entry ∷ []) T refl ran.answered line in
+    answered_then (entry ∷ []) T refl ran.answered line
+
+-- so the register's place is met, if it is there
+pub closed_meets : (began S T R : Register) (first place : Place) (one : Carried) (count : ℕ) (met : Bool) (entries : List Entry) (Is : Register → Type 0)
+    → is_accepted (view one.reply) ≡ true → IsReply (view one.reply) (Answer.reply (answer S one.command)) → T ≡ after S one.command
+    → Ran began first place R (Some one) S count met entries → one.receipt.number ≡ place.number → Is T → Meets began first entries place Is
+closed_meets began S T R first place one count met entries Is accepted own after_is ran here is =
+    met_here began T first place entries Is (ran.open_at here)
+    (subst (λ (es : List Entry). ends_with_command es ≡ true) (sym ran.entries_are) (ends_so ran.done (carried one.receipt one.command (view one.reply)) refl))
+    (subst (λ (es : List Entry). AreAnswered began es T) (sym ran.entries_are) (closed_answers began S T R first place one count met entries accepted own after_is ran)) is
+
+pub closes : (began S T R : Register) (first place : Place) (one : Carried) (count next : ℕ) (met met' : Bool) (entries : List Entry)
+    → is_accepted (view one.reply) ≡ true → IsReply (view one.reply) (Answer.reply (answer S one.command)) → T ≡ after S one.command → next ≡ count + 1
+    → (met' ≡ true → met ≡ false → (one.receipt.number ≡ place.number) × (tables_of R ≡ tables_of T))
+    → (met ≡ true → met' ≡ true) → (met' ≡ false → one.receipt.number ≢ place.number)
+    → Ran began first place R (Some one) S count met entries → Ran began first place R None T next met' entries
+closes began S T R first place one count next met met' entries accepted own after_is next_is now stays other ran =
+    let entry : Entry = carried one.receipt one.command (view one.reply) in
     record {
       done = ran.done ++ entry ∷ [];
       entries_are = ran.entries_are ∙ sym (append-nil (ran.done ++ entry ∷ []));
-      answered = answered;
+      answered = closed_answers began S T R first place one count met entries accepted own after_is ran;
       count_is = next_is ∙ ap (λ (n : ℕ). n + 1) ran.count_is ∙ sym (counted ran.done one.receipt one.command (view one.reply) accepted);
       open_at = tt;
       met = met_by (IsMet began first entries place R) met met' ran.met (λ sure before_it.
-          met_here began T R first place entries (ran.open_at (now sure before_it).0)
-          (subst (λ (es : List Entry). ends_with_command es ≡ true) (sym ran.entries_are) (ends_so ran.done entry refl))
-          (subst (λ (es : List Entry). AreAnswered began es T) (sym ran.entries_are) answered) (now sure before_it).1);
+          closed_meets began S T R first place one count met entries (Same R) accepted own after_is ran (now sure before_it).0 (now sure before_it).1);
+      unmet = λ unmet. none_more place.number ran.done entry (ran.unmet (not_before met met' stays unmet)) (other unmet, tt);
     }
 
 -- the open command is withdrawn
@@ -128,6 +152,8 @@ pub withdraws_one : (began S R : Register) (first place : Place) (one : Carried)
 withdraws_one began S R first place one count n met entries accepted other last ran =
     let entry : Entry = carried one.receipt one.command (view one.reply) in
     let lines : List Entry = entry ∷ withdrawn n ∷ [] in
+    let here : n ≡ one.receipt.number =
+    last ∙ ap (λ (es : List Entry). (place_after first es).number) ran.entries_are ∙ ap (λ (t : Turn). t.last) (turn_more (first_turn_at first) ran.done entry) in
     record {
       done = ran.done ++ lines;
       entries_are = ap (λ (es : List Entry). es ++ withdrawn n ∷ []) ran.entries_are ∙ append_assoc ran.done (entry ∷ []) (withdrawn n ∷ [])
@@ -135,7 +161,10 @@ withdraws_one began S R first place one count n met entries accepted other last 
       answered = answered_then lines S refl ran.answered (gone S S one.receipt one.command (view one.reply) n [] accepted (none S));
       count_is = ran.count_is ∙ ap length (sym (gone_not_counted ran.done one.receipt one.command (view one.reply) n));
       open_at = tt;
-      met = λ sure. met_more began R first place entries (withdrawn n) (λ at. absurd (other (last ∙ ap (λ (p : Place). p.number) (sym at)))) (ran.met sure);
+      met = λ sure. met_more began first place entries (withdrawn n) (Same R) (λ at. absurd (other (last ∙ ap (λ (p : Place). p.number) (sym at)))) (ran.met sure);
+      unmet = λ unmet.
+          subst (λ (es : List Entry). NoneHas place.number es) (append_assoc ran.done (entry ∷ []) (withdrawn n ∷ []))
+          (none_more place.number (ran.done ++ entry ∷ []) (withdrawn n) (none_more place.number ran.done entry (ran.unmet unmet) (λ is. other (here ∙ is), tt)) tt);
     }
 
 -- a command that was accepted is the open one
@@ -151,29 +180,39 @@ takes_accepted began S R first place one count met entries here ran =
       answered = ran.answered;
       count_is = ran.count_is;
       open_at = here;
-      met = λ sure. met_more began R first place entries entry (λ at. refl) (ran.met sure);
+      met = λ sure. met_more began first place entries entry (Same R) (λ at. refl) (ran.met sure);
+      unmet = ran.unmet;
     }
 
 -- one that was refused is passed over
+pub refused_answers : (began S R : Register) (first place : Place) (receipt : Receipt) (q : Command) (reply : Data) (count : ℕ) (met : Bool) (entries : List Entry)
+    → is_accepted reply ≡ false → (is_brief q.kind ≡ true) ⊎ IsReply reply (Answer.reply (answer S q))
+    → Ran began first place R None S count met entries → AreAnswered began (entries ++ carried receipt q reply ∷ []) S
+refused_answers began S R first place receipt q reply count met entries not own ran =
+    let entry : Entry = carried receipt q reply in
+    subst (λ (es : List Entry). AreAnswered began (es ++ entry ∷ []) S) (sym (ran.entries_are ∙ append-nil ran.done))
+    (answered_then (entry ∷ []) S refl ran.answered (refused S S receipt q reply [] not own (none S)))
+
 pub takes_refused : (began S R : Register) (first place : Place) (receipt : Receipt) (q : Command) (reply : Data) (count : ℕ) (met met' : Bool) (entries : List Entry)
     → is_accepted reply ≡ false → (is_brief q.kind ≡ true) ⊎ IsReply reply (Answer.reply (answer S q))
     → (receipt.number ≡ place.number → place ≡ place_after first (entries ++ carried receipt q reply ∷ []))
     → (met' ≡ true → met ≡ false → (receipt.number ≡ place.number) × (tables_of R ≡ tables_of S))
+    → (met ≡ true → met' ≡ true) → (met' ≡ false → receipt.number ≢ place.number)
     → Ran began first place R None S count met entries → Ran began first place R None S count met' (entries ++ carried receipt q reply ∷ [])
-takes_refused began S R first place receipt q reply count met met' entries not own here now ran =
+takes_refused began S R first place receipt q reply count met met' entries not own here now stays other ran =
     let entry : Entry = carried receipt q reply in
     let all : entries ++ entry ∷ [] ≡ ran.done ++ entry ∷ [] = ap (λ (es : List Entry). es ++ entry ∷ []) (ran.entries_are ∙ append-nil ran.done) in
-    let answered : AreAnswered began (ran.done ++ entry ∷ []) S =
-    answered_then (entry ∷ []) S refl ran.answered (refused S S receipt q reply [] not own (none S)) in
+    let answered : AreAnswered began (entries ++ entry ∷ []) S = refused_answers began S R first place receipt q reply count met entries not own ran in
     record {
       done = ran.done ++ entry ∷ [];
       entries_are = all ∙ sym (append-nil (ran.done ++ entry ∷ []));
-      answered = answered;
+      answered = subst (λ (es : List Entry). AreAnswered began es S) all answered;
       count_is = ran.count_is ∙ ap length (sym (not_counted ran.done receipt q reply not));
       open_at = tt;
-      met = met_by (IsMet began first (entries ++ entry ∷ []) place R) met met' (λ sure. met_more began R first place entries entry (λ at. refl) (ran.met sure)) (λ sure before_it.
-          met_here began S R first place (entries ++ entry ∷ []) (here (now sure before_it).0) (ends_so entries entry refl)
-          (subst (λ (es : List Entry). AreAnswered began es S) (sym all) answered) (now sure before_it).1);
+      met = met_by (IsMet began first (entries ++ entry ∷ []) place R) met met' (λ sure. met_more began first place entries entry (Same R) (λ at. refl) (ran.met sure))
+          (λ sure before_it.
+          met_here began S first place (entries ++ entry ∷ []) (Same R) (here (now sure before_it).0) (ends_so entries entry refl) answered (now sure before_it).1);
+      unmet = λ unmet. none_more place.number ran.done entry (ran.unmet (not_before met met' stays unmet)) (other unmet, tt);
     }
 
 -- ---- before the first line that is run
@@ -182,19 +221,23 @@ nothing_done : (lines more : List Entry) → [] ≡ lines ++ more → (lines ≡
 nothing_done [] more is = (refl, sym is)
 nothing_done (entry ∷ lines) more is = absurd (cc is)
 
+pub nothing_answers : (began S R : Register) (first place : Place) (last : Option Carried) (count : ℕ) (met : Bool) → Ran began first place R last S count met [] → AreAnswered began [] S
+nothing_answers began S R first place last count met ran =
+    subst (λ (es : List Entry). AreAnswered began es S) (nothing_done ran.done (open_entries last) ran.entries_are).0 ran.answered
+
 -- the place of the register may be the one that the lines begin at
 pub begins : (began S R : Register) (first place : Place) (last : Option Carried) (count : ℕ) (met met' : Bool)
-    → (met' ≡ true → met ≡ false → (place ≡ first) × (tables_of R ≡ tables_of S))
+    → (met' ≡ true → met ≡ false → (place ≡ first) × (tables_of R ≡ tables_of S)) → (met ≡ true → met' ≡ true)
     → Ran began first place R last S count met [] → Ran began first place R last S count met' []
-begins began S R first place last count met met' now ran = record {
+begins began S R first place last count met met' now stays ran = record {
   done = ran.done;
   entries_are = ran.entries_are;
   answered = ran.answered;
   count_is = ran.count_is;
   open_at = ran.open_at;
   met = met_by (IsMet began first [] place R) met met' ran.met (λ sure before_it.
-      met_here began S R first place [] (now sure before_it).0 refl
-      (subst (λ (es : List Entry). AreAnswered began es S) (nothing_done ran.done (open_entries last) ran.entries_are).0 ran.answered) (now sure before_it).1);
+      met_here began S first place [] (Same R) (now sure before_it).0 refl (nothing_answers began S R first place last count met ran) (now sure before_it).1);
+  unmet = λ unmet. ran.unmet (not_before met met' stays unmet);
 }
 
 -- no command is open where no line was run
@@ -212,4 +255,5 @@ ran_none copied S R at place last count met last_is is count_is met_is = record 
   count_is = count_is;
   open_at = subst (λ (o : Option Carried). IsOpenAt at place [] o) (sym last_is) tt;
   met = λ sure. absurd (true≢false (sym sure ∙ met_is));
+  unmet = λ unmet. tt;
 }

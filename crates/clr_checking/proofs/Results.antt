@@ -1,5 +1,6 @@
 -- What holds of a result.
-use Rattle.std.proofs.Common.{IfErr, IfOk, OnOk, Result, Ok, Err}
+use Rattle.std.proofs.Common.{◌≡◌, IfErr, IfOk, OnOk, Result, Ok, Err, subst, sym}
+use Rattle.std.specs.Prelude.{IsErrAnd}
 
 pub on_ok : {A E : Type 0} (result : Result A E) {P Q : Type 0} → (P → Q) → OnOk result P → OnOk result Q
 on_ok (Ok value) then holds = then holds
@@ -17,10 +18,19 @@ pub if_err : {A E : Type 0} (result : Result A E) {P Q : E → Type 0} → ((fau
 if_err (Ok value) then holds = tt
 if_err (Err fault) then holds = then fault holds
 
-pub on_three : {A E : Type 0} (result : Result A E) {P Q S T : Type 0} → (P → Q → S → T) → OnOk result P → OnOk result Q → OnOk result S → OnOk result T
-on_three (Ok value) then one two three = then one two three
-on_three (Err fault) then one two three = tt
+pub on_four : {A E : Type 0} (result : Result A E) {P Q S T U : Type 0} → (P → Q → S → T → U) → OnOk result P → OnOk result Q → OnOk result S → OnOk result T → OnOk result U
+on_four (Ok value) then one two three four = then one two three four
+on_four (Err fault) then one two three four = tt
+
+pub if_err_both : {A E : Type 0} (result : Result A E) {P Q S : E → Type 0} → ((fault : E) → P fault → Q fault → S fault) → IfErr result P → IfErr result Q → IfErr result S
+if_err_both (Ok value) then one other = tt
+if_err_both (Err fault) then one other = then fault one other
 
 pub if_ok : {A E : Type 0} (result : Result A E) {P Q : A → Type 0} → ((value : A) → P value → Q value) → IfOk result P → IfOk result Q
 if_ok (Ok value) then holds = then value holds
 if_ok (Err fault) then holds = tt
+
+-- what holds of a fault holds where it is passed on
+pub passed_on : {A E : Type 0} (result : Result A E) (found : E) (P : E → Type 0) → IsErrAnd result (λ cause. cause ≡ found) → P found → IfErr result P
+passed_on (Ok value) found P is holds = tt
+passed_on (Err cause) found P is holds = subst P (sym is) holds

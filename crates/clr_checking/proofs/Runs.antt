@@ -1,5 +1,5 @@
 -- Lines whose replies are those of a run are a run.
-use Rattle.std.proofs.Common.{◌≡◌, ◌∙◌, ◌==◌, ◌&&◌, ◌+◌, ℕ, Bool, true, false, not, cond, List, [], ◌∷◌, ◌++◌, Option, None, Some, map, refl, ap, ap₂, sym, subst}
+use Rattle.std.proofs.Common.{◌≡◌, ◌==◌, ◌&&◌, ◌+◌, ℕ, Bool, true, false, not, cond, List, [], ◌∷◌, ◌++◌, None, Some, refl, ap, ap₂, sym, subst}
 use Rattle.std.proofs.lemmas.Bool.{and_from, and_parts, true≢false}
 use Rattle.serde_json.specs.Data.{Data}
 use Rattle.clr_rules.specs.Answer.{Answer, answer}
@@ -9,11 +9,11 @@ use Rattle.clr_rules.specs.declared.command.Command.{Command}
 use Rattle.clr_text.specs.Replies.{reply_data}
 use Rattle.clr_journal.specs.Journals.{carried_out, in_turn, is_next, onto_some, own_pair, turn_after, withdraws}
 use Rattle.clr_journal.specs.Laws.{turn_behind}
-use Rattle.clr_journal.specs.Line.{Entry, carried, withdrawn, is_accepted}
+use Rattle.clr_journal.specs.Line.{Entry, carried, withdrawn}
 use Rattle.clr_journal.specs.declared.reading.Turn.{Turn}
 use Rattle.clr_place.specs.declared.place.Place.{Place}
-use Rattle.clr_chain.specs.First.{end_at, first_turn_at}
-use Rattle.clr_chain.specs.Level.{IsLevel, IsRunOf, ends_with_command, place_after}
+use Rattle.clr_chain.specs.First.{first_turn_at}
+use Rattle.clr_chain.specs.Level.{IsRunOf}
 use Rattle.clr_checking.specs.Checking.{AreAnswered, IsLevelByTables, none, refused, gone, done}
 use Rattle.clr_checking.specs.CheckingOn.{IsMet}
 use Rattle.clr_checking.proofs.Flat.{Each, IsFlat}
@@ -85,5 +85,5 @@ is_level began R first place entries turns flat it = record {
     kept = it.kept;
     run = is_run (each_front IsFlat it.had it.more (subst (λ (es : List Entry). Each IsFlat es) it.all flat)) it.answered;
   };
-  tables = it.tables;
+  tables = it.is;
 }

@@ -2,7 +2,7 @@
 -- that the journal began with, or over that of a copy; and where they come to the place of the
 -- register, its tables are compared.
 use Rattle.std.specs.Prelude.{◌≡◌, ◌⊎◌, ℕ, Bool, true, false, List, [], ◌∷◌, ◌++◌, length, ⊤}
-use Rattle.std.specs.Prelude.{None}
+use Rattle.std.specs.Prelude.{◌≢◌, None, Some}
 use Rattle.serde_json.specs.Data.{Data}
 use Rattle.clr_rules.specs.Answer.{Answer, answer}
 use Rattle.clr_rules.specs.Register.{Register}
@@ -12,6 +12,7 @@ use Rattle.clr_rules.specs.declared.command.Kind.{Kind}
 use Rattle.clr_rules.specs.declared.command.Kind.TheVariants as kinds
 use Rattle.clr_place.specs.declared.place.Place.{Place}
 use Rattle.clr_tables.specs.Tables.{tables_of}
+use Rattle.clr_text.specs.Replies.{reply_data}
 use Rattle.clr_journal.specs.Journals.{commands_of, next_place, withdraws}
 use Rattle.clr_journal.specs.Line.{Entry, carried, withdrawn, is_accepted}
 use Rattle.clr_journal.specs.declared.line.Receipt.{Receipt}
@@ -20,6 +21,7 @@ use Rattle.clr_chain.specs.First.{end_at}
 use Rattle.clr_chain.specs.Level.{IsLevel, ends_with_command, place_after}
 use Rattle.clr_chain.specs.Link.{next_link}
 use Rattle.clr_chain.specs.declared.chain_end.ChainEnd.{ChainEnd}
+use Rattle.clr_verify.specs.Registers.{IsFirstDifference}
 use Rattle.clr_verify.specs.Replies.{IsReply}
 use Rattle.clr_checking.specs.declared.fault.CheckFault.{CheckFault}
 use Rattle.clr_checking.specs.declared.fault.CheckFault.TheVariants.{BadLine, Differs, NoMemory}
@@ -97,6 +99,114 @@ pub record IsCheckedFrom (copied : Register) (at : Place) (first : Place)
 
 -- ---- why not
 
+-- A PLACE IS MET by the run of these lines: after the first of them, over which it leads to a
+-- register of which this holds
+pub record Meets (began : Register) (first : Place) (entries : List Entry) (place : Place)
+    (Is : Register → Type 0) : Type 0 where
+  pub had : List Entry
+  pub more : List Entry
+  pub all : entries ≡ had ++ more
+  pub is_at : place ≡ place_after first had
+  pub at_command : ends_with_command had ≡ true
+  pub kept : withdraws more ≡ false
+  pub register : Register
+  pub answered : AreAnswered began had register
+  pub is : Is register
+
+-- A COMMAND HAS ANOTHER REPLY: the lines before it lead to a register that answers it otherwise than
+-- its line says. It was accepted and is not withdrawn; or it was refused, and its line is not in
+-- brief
+pub record RepliesElse (began : Register) (entries : List Entry) (number : ℕ) : Type 0 where
+  pub had : List Entry
+  pub receipt : Receipt
+  pub q : Command
+  pub reply : Data
+  pub more : List Entry
+  pub all : entries ≡ had ++ carried receipt q reply ∷ more
+  pub number_is : number ≡ receipt.number
+  pub kept : withdraws more ≡ false
+  pub whole : is_accepted reply ≡ false → is_brief q.kind ≡ false
+  pub register : Register
+  pub answered : AreAnswered began had register
+  pub other : reply ≢ reply_data (Answer.reply (answer register q))
+
+-- AT THE NUMBER OF A PLACE THE SUM IS ANOTHER
+pub record HasOtherSum (first : Place) (entries : List Entry) (place : Place) (number : ℕ)
+    : Type 0 where
+  pub had : List Entry
+  pub more : List Entry
+  pub all : entries ≡ had ++ more
+  pub at_command : ends_with_command had ≡ true
+  pub number_is : number ≡ place.number
+  pub there : (place_after first had).number ≡ number
+  pub other : place.sum ≢ (place_after first had).sum
+
+-- THE COMMAND AT A PLACE IS WITHDRAWN: that of the register's, or that after which the run begins
+pub record IsWithdrawn (entries : List Entry) (place : Place) (number : ℕ) : Type 0 where
+  pub had : List Entry
+  pub more : List Entry
+  pub all : entries ≡ had ++ withdrawn number ∷ more
+  pub which : (had ≡ []) ⊎ (number ≡ place.number)
+
+-- NO LINE OF A COMMAND HAS THIS NUMBER
+abbrev pub NoneHas : ℕ → List Entry → Type 0
+NoneHas number [] = ⊤
+NoneHas number (carried receipt q reply ∷ rest) =
+    (receipt.number ≢ number) × NoneHas number rest
+NoneHas number (withdrawn n ∷ rest) = NoneHas number rest
+
+-- A PLACE IS NOT THERE: its number is that of no command, and not that of the first line
+abbrev pub IsNotThere : Place → List Entry → Place → Type 0
+IsNotThere first entries place =
+    (first.number ≢ place.number) × NoneHas place.number entries
+
+-- WHY A RUN OF THESE LINES IS REFUSED for a register at this place
+abbrev pub RefusesRun : Register → Place → List Entry → Place → Register → CheckFault → Type 0
+RefusesRun began first entries place R OtherRegister = place.id ≢ first.id
+RefusesRun began first entries place R (BadLine n) = ⊥
+RefusesRun began first entries place R (Reply n) = RepliesElse began entries n
+RefusesRun began first entries place R (Differs n) =
+    HasOtherSum first entries place n ⊎ IsWithdrawn entries place n
+RefusesRun began first entries place R (Tables found) =
+    Meets began first entries place (λ S. IsFirstDifference R S (Some found))
+RefusesRun began first entries place R TooShort = ⊥
+RefusesRun began first entries place R NoMemory = ⊤
+
+-- why these lines do not come to the place of a copy
+abbrev pub RefusesCopy : Place → List Entry → Place → Place → CheckFault → Type 0
+RefusesCopy first entries at place OtherRegister = (at.id ≢ first.id) ⊎ (place.id ≢ first.id)
+RefusesCopy first entries at place (BadLine n) = ⊥
+RefusesCopy first entries at place (Reply n) = ⊥
+RefusesCopy first entries at place (Differs n) = HasOtherSum first entries at n
+RefusesCopy first entries at place (Tables found) = ⊥
+RefusesCopy first entries at place TooShort = ⊥
+RefusesCopy first entries at place NoMemory = ⊤
+
+-- WHY THESE LINES ARE REFUSED from a copy: they do not come to its place; or the run of those after
+-- it is refused
+abbrev pub RefusesFrom : Register → Place → Place → List Entry → List Entry → Place → Register
+    → CheckFault → Type 0
+RefusesFrom copied at first before entries place R fault =
+    RefusesCopy first (before ++ entries) at place fault
+    ⊎ ((at ≡ place_after first before) × RefusesRun copied at entries place R fault)
+
+-- WHY THERE IS NO YES OF THESE TEXTS: their run is refused, or the place is not there
+pub record IsRefused (began : Register) (first : Place) (texts : List (List ℕ)) (place : Place)
+    (R : Register) (fault : CheckFault) : Type 0 where
+  pub entries : List Entry
+  pub lines : AreLines first texts entries
+  pub cause : RefusesRun began first entries place R fault
+      ⊎ ((fault ≡ TooShort) × IsNotThere first entries place)
+
+pub record IsRefusedFrom (copied : Register) (at first : Place) (texts : List (List ℕ))
+    (place : Place) (R : Register) (fault : CheckFault) : Type 0 where
+  pub before : List Entry
+  pub entries : List Entry
+  pub lines : AreLines first texts (before ++ entries)
+  pub cause : RefusesFrom copied at first before entries place R fault
+      ⊎ ((fault ≡ TooShort) × (IsNotThere first (before ++ entries) at
+      ⊎ ((at ≡ place_after first before) × IsNotThere at entries place)))
+
 -- a walk ends where these lines do; after the first line of a further part no command is open
 pub record EndsAt (walked read : ChainEnd) : Type 0 where
   pub number : walked.turn.last ≡ read.turn.last
@@ -114,14 +224,23 @@ pub record IsBadAfter (first : Place) (texts : List (List ℕ)) (text : List ℕ
   pub bad : next_link end text ≡ None
   pub number : n ≡ next_place end.turn.last
 
--- the first in the order of the lines: one does not hold its sum; a command has another reply; at a
--- place the journal has another sum, or withdraws its command; the tables differ; or the journal
--- does not have the place
-abbrev pub Refuses : Place → List (List ℕ) → List ℕ → CheckFault → Type 0
-Refuses first texts text (BadLine n) = IsBadAfter first texts text n
-Refuses first texts text (Reply n) = ⊤
-Refuses first texts text (Differs n) = ⊤
-Refuses first texts text (Tables found) = ⊤
-Refuses first texts text TooShort = ⊥
-Refuses first texts text OtherRegister = ⊥
-Refuses first texts text NoMemory = ⊤
+-- WHY A LINE IS REFUSED, after these: it does not hold its sum; or with it there is no yes
+abbrev pub RefusesLine : Place → List (List ℕ) → List ℕ → (CheckFault → Type 0) → CheckFault
+    → Type 0
+RefusesLine first texts text Is (BadLine n) = IsBadAfter first texts text n
+RefusesLine first texts text Is OtherRegister = Is OtherRegister
+RefusesLine first texts text Is (Reply n) = Is (Reply n)
+RefusesLine first texts text Is (Differs n) = Is (Differs n)
+RefusesLine first texts text Is (Tables found) = Is (Tables found)
+RefusesLine first texts text Is TooShort = ⊥
+RefusesLine first texts text Is NoMemory = ⊤
+
+abbrev pub Refuses : Register → Place → List (List ℕ) → List ℕ → Place → Register → CheckFault
+    → Type 0
+Refuses began first texts text place R =
+    RefusesLine first texts text (IsRefused began first (texts ++ text ∷ []) place R)
+
+abbrev pub RefusesOfCopy : Register → Place → Place → List (List ℕ) → List ℕ → Place → Register
+    → CheckFault → Type 0
+RefusesOfCopy copied at first texts text place R =
+    RefusesLine first texts text (IsRefusedFrom copied at first (texts ++ text ∷ []) place R)

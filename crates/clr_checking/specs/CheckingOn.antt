@@ -1,18 +1,23 @@
 -- HOW FAR A REGISTER WAS CHECKED against its journal.
-use Rattle.std.specs.Prelude.{◌≡◌, ◌⊎◌, ℕ, Bool, true, false, List, [], ◌∷◌, ◌++◌, IfSome, None}
-use Rattle.std.specs.Prelude.{Option, Some, length, ⊤}
+use Rattle.std.specs.Prelude.{◌≡◌, ◌≢◌, ◌⊎◌, ℕ, Bool, true, false, List, [], ◌∷◌, ◌++◌, IfSome}
+use Rattle.std.specs.Prelude.{None, Option, Some, length, ⊤}
+use Rattle.serde_json.specs.View.{view}
+use Rattle.clr_rules.specs.Answer.{Answer, answer}
 use Rattle.clr_rules.specs.Good.{IsGood}
 use Rattle.clr_rules.specs.Register.{Register}
 use Rattle.clr_place.specs.declared.place.Place.{Place}
 use Rattle.clr_tables.specs.Tables.{tables_of}
+use Rattle.clr_text.specs.Replies.{reply_data}
 use Rattle.clr_journal.specs.Journals.{commands_of, withdraws}
+use Rattle.clr_journal.specs.Laws.{turn_behind}
 use Rattle.clr_journal.specs.Line.{Entry, carried, withdrawn}
 use Rattle.clr_journal.specs.declared.line.Carried.{Carried}
 use Rattle.clr_chain.specs.Chain.{read_on}
-use Rattle.clr_chain.specs.First.{end_at}
+use Rattle.clr_chain.specs.First.{end_at, first_turn_at}
 use Rattle.clr_chain.specs.Level.{ends_with_command, place_after}
 use Rattle.clr_chain.specs.Sums.{sum_behind}
-use Rattle.clr_checking.specs.Checking.{AreAnswered, AreLines, EndsAt}
+use Rattle.clr_checking.specs.Checking.{AreAnswered, AreLines, EndsAt, IsNotThere, Meets, NoneHas}
+use Rattle.clr_verify.specs.Registers.{IsFirstDifference}
 use Rattle.clr_verify.specs.Replay.{IsAccepted, open_entries}
 use Rattle.clr_checking.specs.declared.fault.CheckFault.{CheckFault}
 use Rattle.clr_checking.specs.declared.fault.CheckFault.TheVariants.{BadLine, Differs, NoMemory}
@@ -32,19 +37,10 @@ pub record IsOf (place : Place) (R : Register) (it : Checking) : Type 0 where
 
 -- ---- the lines that were run
 
--- THE REGISTER'S PLACE WAS MET: after the first of these lines, over which the run has the tables
--- of the register
-pub record IsMet (began : Register) (first : Place) (entries : List Entry) (place : Place)
-    (R : Register) : Type 0 where
-  pub had : List Entry
-  pub more : List Entry
-  pub all : entries ≡ had ++ more
-  pub is_at : place ≡ place_after first had
-  pub at_command : ends_with_command had ≡ true
-  pub kept : withdraws more ≡ false
-  pub register : Register
-  pub answered : AreAnswered began had register
-  pub tables : tables_of R ≡ tables_of register
+-- THE REGISTER'S PLACE WAS MET: there the run has the tables of the register
+abbrev pub IsMet : Register → Place → List Entry → Place → Register → Type 0
+IsMet began first entries place R =
+    Meets began first entries place (λ S. tables_of R ≡ tables_of S)
 
 -- at the number of the register's place the open command is that of the place
 abbrev pub IsOpenAt : Place → Place → List Entry → Option Carried → Type 0
@@ -62,12 +58,21 @@ pub record Ran (began : Register) (first place : Place) (R : Register) (last : O
   pub count_is : count ≡ length (commands_of done)
   pub open_at : IsOpenAt first place entries last
   pub met : is_met ≡ true → IsMet began first entries place R
+  pub unmet : is_met ≡ false → NoneHas place.number done
 
 -- the same, over the register that they began with
 pub record RanOver (began : Register) (first place : Place) (R : Register) (it : Checking)
     (entries : List Entry) : Type 0 where
   pub of : IsOf place R it
   pub ran : Ran began first place R it.last it.desk.book.register it.count it.is_met entries
+
+-- between two lines: no command is open where the last line has none that was accepted; and where
+-- the place is not met, it is not that which the run began after
+pub record RunsOn (began : Register) (first place : Place) (R : Register) (it : Checking)
+    (entries : List Entry) : Type 0 where
+  pub over : RanOver began first place R it entries
+  pub shut : it.last ≡ None → (turn_behind (first_turn_at first) entries).is_open ≡ false
+  pub later : it.is_met ≡ false → first.number ≢ place.number
 
 -- ---- the lines before the place of a copy
 
@@ -89,7 +94,7 @@ pub record RunsFrom (copied : Register) (at first place : Place) (R : Register) 
   pub is_at : at ≡ place_after first before
   pub at_command : ends_with_command before ≡ true
   pub kept : withdraws entries ≡ false
-  pub ran : RanOver copied at place R it entries
+  pub ran : RunsOn copied at place R it entries
 
 -- one or the other
 abbrev pub ComesFrom : Register → Place → Place → Place → Register → Checking → List Entry
@@ -114,7 +119,7 @@ pub record CheckedTo (began : Register) (first place : Place) (R : Register) (it
   pub entries : List Entry
   pub over : GoesOver first place it texts entries
   pub begun : it.from ≡ None
-  pub ran : RanOver began first place R it entries
+  pub ran : RunsOn began first place R it entries
 
 -- FROM A COPY: its place was not met yet, and nothing was run; or it was, and the lines after it
 -- were run
@@ -124,6 +129,7 @@ pub record CheckedToFrom (copied : Register) (at first place : Place) (R : Regis
   pub entries : List Entry
   pub over : GoesOver first place it texts (before ++ entries)
   pub come : ComesFrom copied at first place R it before entries
+  pub sought : it.from ≡ Some at → IsNotThere first before at
 
 -- ---- a line more
 
@@ -132,10 +138,18 @@ abbrev pub IsOfLast : Entry → ℕ → Type 0
 IsOfLast (carried receipt q reply) number = ⊤
 IsOfLast (withdrawn n) number = n ≡ number
 
+-- the lines before it, if there are any, leave its command open
+abbrev pub IsOfOpen : Entry → Place → List Entry → Type 0
+IsOfOpen (carried receipt q reply) first entries = ⊤
+IsOfOpen (withdrawn n) first [] = ⊤
+IsOfOpen (withdrawn n) first (entry ∷ entries) =
+    (turn_behind (first_turn_at first) (entry ∷ entries)).is_open ≡ true
+
 -- a line comes after these, and the chain has come to it
 pub record IsAfter (first place : Place) (sum : List ℕ) (entry : Entry) (entries : List Entry)
     : Type 0 where
   pub last : IsOfLast entry (place_after first entries).number
+  pub opens : IsOfOpen entry first entries
   pub sum_is : sum ≡ sum_behind first.sum (entries ++ entry ∷ [])
   pub same_id : place.id ≡ first.id
 
@@ -146,12 +160,26 @@ pub record IsAtCommand (first place : Place) (number : ℕ) (sum : List ℕ) (en
   pub at_command : ends_with_command entries ≡ true
   pub same_id : place.id ≡ first.id
 
--- each fault but that of a line that does not hold its sum
-abbrev pub IsOfRun : CheckFault → Type 0
-IsOfRun (BadLine n) = ⊥
-IsOfRun (Reply n) = ⊤
-IsOfRun (Differs n) = ⊤
-IsOfRun (Tables found) = ⊤
-IsOfRun TooShort = ⊥
-IsOfRun OtherRegister = ⊥
-IsOfRun NoMemory = ⊤
+-- ---- why not
+
+-- A REGISTER ANSWERS A COMMAND OTHERWISE than its line says
+abbrev pub AnswersElse : Register → Carried → CheckFault → Type 0
+AnswersElse R one OtherRegister = ⊥
+AnswersElse R one (BadLine n) = ⊥
+AnswersElse R one (Reply n) = (n ≡ one.receipt.number)
+    × (view one.reply ≢ reply_data (Answer.reply (answer R one.command)))
+AnswersElse R one (Differs n) = ⊥
+AnswersElse R one (Tables found) = ⊥
+AnswersElse R one TooShort = ⊥
+AnswersElse R one NoMemory = ⊤
+
+-- the tables differ at this number, which is that of the register's place
+abbrev pub ComparesElse : Checking → ℕ → CheckFault → Type 0
+ComparesElse it number OtherRegister = ⊥
+ComparesElse it number (BadLine n) = ⊥
+ComparesElse it number (Reply n) = ⊥
+ComparesElse it number (Differs n) = ⊥
+ComparesElse it number (Tables found) = (number ≡ it.place.number) × (it.from ≡ None)
+    × IsFirstDifference it.book.now.register it.desk.book.register (Some found)
+ComparesElse it number TooShort = ⊥
+ComparesElse it number NoMemory = ⊤

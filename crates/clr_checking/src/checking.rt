@@ -1,6 +1,6 @@
 //! A register is checked against its journal, whose lines are run again one by one.
 ghost use Rattle.std.specs.Prelude.{◌≡◌, ◌≢◌, ◌⊎◌, ◌+◌, ◌∷◌, ◌++◌, [], ℕ, IfErr, IfOk, IsSome};
-ghost use Rattle.std.specs.Prelude.{List, None, OnOk, Some, false, true};
+ghost use Rattle.std.specs.Prelude.{List, None, OnErr, OnOk, Some, false, true};
 ghost use Rattle.serde_json.specs.View.{view};
 ghost use Rattle.clr_rules.specs.Answer.{Answer, answer};
 ghost use Rattle.clr_rules.specs.Good.{IsGood};
@@ -9,12 +9,15 @@ ghost use Rattle.clr_rules.specs.Run.{after};
 ghost use Rattle.clr_place.specs.declared.place.Place.{Place as AnyPlace};
 ghost use Rattle.clr_tables.specs.Tables.{tables_of};
 ghost use Rattle.clr_journal.specs.Journals.{withdraws};
-ghost use Rattle.clr_journal.specs.Line.{Entry, carried, entry_of};
+ghost use Rattle.clr_journal.specs.Line.{Entry, carried, entry_of, is_accepted};
 ghost use Rattle.clr_chain.specs.First.{end_at, read_first};
 ghost use Rattle.clr_chain.specs.Walking.{part_of, step_of};
-ghost use Rattle.clr_checking.specs.Checking.{IsChecked, IsCheckedFrom, Refuses, is_brief};
-ghost use Rattle.clr_checking.specs.CheckingOn.{CheckedTo, CheckedToFrom, ComesFrom, IsAfter};
-ghost use Rattle.clr_checking.specs.CheckingOn.{IsAtCommand, IsOfRun, IsReady, RanOver, Waits};
+ghost use Rattle.clr_checking.specs.Checking.{IsChecked, IsCheckedFrom, IsRefused, IsRefusedFrom};
+ghost use Rattle.clr_checking.specs.Checking.{NoneHas, Refuses, RefusesFrom, RefusesOfCopy};
+ghost use Rattle.clr_checking.specs.Checking.{RefusesRun, is_brief};
+ghost use Rattle.clr_checking.specs.CheckingOn.{AnswersElse, CheckedTo, CheckedToFrom, ComesFrom};
+ghost use Rattle.clr_checking.specs.CheckingOn.{ComparesElse, IsAfter, IsAtCommand, IsReady, RanOver};
+ghost use Rattle.clr_checking.specs.CheckingOn.{RunsOn, Waits};
 ghost use Rattle.clr_verify.specs.Replies.{IsReply};
 
 use crate::fault::CheckFault;
@@ -58,6 +61,8 @@ impl<'a> Checking<'a> {
         ensures same_id { OnOk result (place.id ≡ first.id) }
         ensures begun { IfOk result (λ checking. CheckedTo desk.book.register first place
             book.entry.now.register checking []) }
+        ensures refused { IfErr result (RefusesRun desk.book.register first [] place
+            book.entry.now.register) }
     {
         let checking = Checking {
             desk,
@@ -86,6 +91,8 @@ impl<'a> Checking<'a> {
         ensures same_id { OnOk result (place.id ≡ first.id) }
         ensures begun { IfOk result (λ checking. CheckedToFrom desk.book.register from first place
             book.entry.now.register checking []) }
+        ensures refused { IfErr result (RefusesFrom desk.book.register from first [] [] place
+            book.entry.now.register) }
     {
         let checking = Checking {
             desk,
@@ -114,6 +121,16 @@ impl<'a> Checking<'a> {
             → self.entry.from ≡ Some at
             → (at.id ≡ first.id → Waits copied at first place R self.entry)
             → CheckedToFrom copied at first place R met []) }
+        ensures refused { IfErr result (λ fault. (began : Register) (first place : AnyPlace)
+            (R : Register) → self.entry.walk.id ≡ first.id → self.entry.walk.end ≡ end_at first
+            → self.entry.from ≡ None → RanOver began first place R self.entry []
+            → RefusesRun began first [] place R fault) }
+        ensures refused_from { IfErr result (λ fault. (copied : Register)
+            (at first place : AnyPlace) (R : Register) → self.entry.walk.id ≡ first.id
+            → self.entry.walk.end ≡ end_at first → self.entry.from ≡ Some at
+            → self.entry.place ≡ place
+            → (at.id ≡ first.id → Waits copied at first place R self.entry)
+            → RefusesFrom copied at first [] [] place R fault) }
     {
         if !self.is_of_journal() {
             return Err(CheckFault::OtherRegister);
@@ -140,11 +157,11 @@ impl<'a> Checking<'a> {
         ensures id { self.new.walk.id ≡ self.old.walk.id }
         ensures refused { IfErr result (λ fault. (began : Register) (first place : AnyPlace)
             (R : Register) (texts : List (List ℕ)) → CheckedTo began first place R self.old texts
-            → Refuses first texts text.now fault) }
+            → Refuses began first texts text.now place R fault) }
         ensures refused_from { IfErr result (λ fault. (copied : Register)
             (at first place : AnyPlace) (R : Register) (texts : List (List ℕ))
             → CheckedToFrom copied at first place R self.old texts
-            → Refuses first texts text.now fault) }
+            → RefusesOfCopy copied at first texts text.now place R fault) }
     {
         let seen = self.walk.step(alloc, text)?;
         match seen {
@@ -190,6 +207,13 @@ impl<'a> Checking<'a> {
             (R : Register) (texts : List (List ℕ))
             → CheckedToFrom copied at first place R self.entry texts
             → IsCheckedFrom copied at first texts place R count) }
+        ensures refused { IfErr result (λ fault. (began : Register) (first place : AnyPlace)
+            (R : Register) (texts : List (List ℕ)) → CheckedTo began first place R self.entry texts
+            → IsRefused began first texts place R fault) }
+        ensures refused_from { IfErr result (λ fault. (copied : Register)
+            (at first place : AnyPlace) (R : Register) (texts : List (List ℕ))
+            → CheckedToFrom copied at first place R self.entry texts
+            → IsRefusedFrom copied at first texts place R fault) }
     {
         let mut checking = self;
         checking.close(alloc)?;
@@ -205,17 +229,28 @@ impl<'a> Checking<'a> {
     /// A line that holds its sum.
     fn next(&mut self, alloc: Global, line: Line) -> Result<(), CheckFault>
         requires { IsReady self.old }
-        ensures fault { IfErr result IsOfRun }
+        ensures refused { IfErr result (λ fault. (began : Register) (first place : AnyPlace)
+            (R : Register) (entries : List Entry) → self.old.from ≡ None
+            → IsAfter first place self.old.walk.end.sum (entry_of line) entries
+            → RunsOn began first place R self.old entries
+            → RefusesRun began first (entries ++ entry_of line ∷ []) place R fault) }
+        ensures refused_from { IfErr result (λ fault. (copied : Register)
+            (at first place : AnyPlace) (R : Register) (before : List Entry)
+            → IsAfter first place self.old.walk.end.sum (entry_of line) before
+            → Waits copied at first place R self.old
+            → RefusesFrom copied at first (before ++ entry_of line ∷ []) [] place R fault) }
+        ensures passed { OnOk result ((at : AnyPlace) → self.new.from ≡ Some at
+            → NoneHas at.number (entry_of line ∷ [])) }
         ensures ready { OnOk result (IsReady self.new) }
         ensures walk { self.new.walk ≡ self.old.walk }
         ensures begun { self.old.from ≡ None → self.new.from ≡ None }
         ensures went { OnOk result ((began : Register) (first place : AnyPlace) (R : Register)
             (entries : List Entry) → self.old.from ≡ None
             → IsAfter first place self.old.walk.end.sum (entry_of line) entries
-            → RanOver began first place R self.old entries
-            → RanOver began first place R self.new (entries ++ entry_of line ∷ [])) }
+            → RunsOn began first place R self.old entries
+            → RunsOn began first place R self.new (entries ++ entry_of line ∷ [])) }
         ensures kept { OnOk result ((began : Register) (first place : AnyPlace) (R : Register)
-            → self.old.from ≡ None → RanOver began first place R self.old []
+            → self.old.from ≡ None → RunsOn began first place R self.old []
             → withdraws (entry_of line ∷ []) ≡ false) }
         ensures waited { OnOk result ((copied : Register) (at first place : AnyPlace)
             (R : Register) (before : List Entry)
@@ -232,7 +267,13 @@ impl<'a> Checking<'a> {
     /// A line up to the place of a copy. Nothing is run.
     fn wait(&mut self, alloc: Global, line: Line) -> Result<(), CheckFault>
         requires { IsReady self.old }
-        ensures fault { IfErr result IsOfRun }
+        ensures refused { IfErr result (λ fault. (copied : Register)
+            (at first place : AnyPlace) (R : Register) (before : List Entry)
+            → IsAfter first place self.old.walk.end.sum (entry_of line) before
+            → Waits copied at first place R self.old
+            → RefusesFrom copied at first (before ++ entry_of line ∷ []) [] place R fault) }
+        ensures passed { OnOk result ((at : AnyPlace) → self.new.from ≡ Some at
+            → NoneHas at.number (entry_of line ∷ [])) }
         ensures ready { OnOk result (IsReady self.new) }
         ensures walk { self.new.walk ≡ self.old.walk }
         ensures waited { OnOk result ((copied : Register) (at first place : AnyPlace)
@@ -249,18 +290,23 @@ impl<'a> Checking<'a> {
 
     /// A line that is run.
     fn run(&mut self, alloc: Global, line: Line) -> Result<(), CheckFault>
-        requires { IsReady self.old }
-        ensures fault { IfErr result IsOfRun }
+        requires ready { IsReady self.old }
+        requires begun { self.old.from ≡ None }
+        ensures refused { IfErr result (λ fault. (began : Register) (first place : AnyPlace)
+            (R : Register) (entries : List Entry)
+            → IsAfter first place self.old.walk.end.sum (entry_of line) entries
+            → RunsOn began first place R self.old entries
+            → RefusesRun began first (entries ++ entry_of line ∷ []) place R fault) }
         ensures ready { OnOk result (IsReady self.new) }
         ensures walk { self.new.walk ≡ self.old.walk }
         ensures begun { self.old.from ≡ None → self.new.from ≡ None }
         ensures went { OnOk result ((began : Register) (first place : AnyPlace) (R : Register)
             (entries : List Entry)
             → IsAfter first place self.old.walk.end.sum (entry_of line) entries
-            → RanOver began first place R self.old entries
-            → RanOver began first place R self.new (entries ++ entry_of line ∷ [])) }
+            → RunsOn began first place R self.old entries
+            → RunsOn began first place R self.new (entries ++ entry_of line ∷ [])) }
         ensures kept { OnOk result ((began : Register) (first place : AnyPlace) (R : Register)
-            → RanOver began first place R self.old [] → withdraws (entry_of line ∷ []) ≡ false) }
+            → RunsOn began first place R self.old [] → withdraws (entry_of line ∷ []) ≡ false) }
     {
         match line {
             Line::Withdrawn(number) => self.withdraw(number),
@@ -276,10 +322,19 @@ impl<'a> Checking<'a> {
     fn take_command(&mut self, alloc: Global, one: Carried) -> Result<(), CheckFault>
         requires ready { IsReady self.old }
         requires closed { self.old.last ≡ None }
-        ensures fault { IfErr result IsOfRun }
+        requires begun { self.old.from ≡ None }
+        ensures refused { IfErr result (λ fault. (began : Register) (first place : AnyPlace)
+            (R : Register) (entries : List Entry)
+            → IsAfter first place self.old.walk.end.sum
+            (carried one.receipt one.command (view one.reply)) entries
+            → RanOver began first place R self.old entries
+            → RefusesRun began first (entries
+            ++ carried one.receipt one.command (view one.reply) ∷ []) place R fault) }
         ensures ready { OnOk result (IsReady self.new) }
         ensures walk { self.new.walk ≡ self.old.walk }
         ensures from { self.new.from ≡ self.old.from }
+        ensures stays { self.old.is_met ≡ true → self.new.is_met ≡ true }
+        ensures shut { OnOk result (self.new.last ≡ None → is_accepted (view one.reply) ≡ false) }
         ensures went { OnOk result ((began : Register) (first place : AnyPlace) (R : Register)
             (entries : List Entry)
             → IsAfter first place self.old.walk.end.sum
@@ -303,7 +358,8 @@ impl<'a> Checking<'a> {
     /// A line that withdraws the command of a number. That of a place is none; where no command is
     /// open, it is that of the copy's place.
     fn withdraw(&mut self, number: u64) -> Result<(), CheckFault>
-        ensures fault { IfErr result IsOfRun }
+        ensures fault { IfErr result (λ fault. (fault ≡ CheckFault.Differs number)
+            × ((self.old.last ≡ None) ⊎ (number ≡ self.old.place.number))) }
         ensures others { self.new ≡ record self.old { last = self.new.last } }
         ensures gone { OnOk result (self.new.last ≡ None) }
         ensures other { OnOk result
@@ -319,7 +375,17 @@ impl<'a> Checking<'a> {
     /// At a number before which nothing is run: where the lines come to the copy's place, or begin,
     /// the register's place may be the same.
     fn begin_at(&mut self, alloc: Global, number: u64) -> Result<(), CheckFault>
-        ensures fault { IfErr result IsOfRun }
+        ensures refused { IfErr result (λ fault. (began : Register) (first place : AnyPlace)
+            (R : Register) → IsAtCommand first place number self.old.walk.end.sum []
+            → self.old.from ≡ None → RanOver began first place R self.old []
+            → RefusesRun began first [] place R fault) }
+        ensures refused_from { IfErr result (λ fault. (copied : Register)
+            (at first place : AnyPlace) (R : Register) (before : List Entry)
+            → IsAtCommand first place number self.old.walk.end.sum before
+            → Waits copied at first place R self.old
+            → RefusesFrom copied at first before [] place R fault) }
+        ensures passed { OnOk result ((at : AnyPlace) → self.new.from ≡ Some at
+            → number ≢ at.number) }
         ensures begun { self.old.from ≡ None → self.new.from ≡ None }
         ensures others { self.new ≡ record self.old {
           from = self.new.from;
@@ -328,7 +394,7 @@ impl<'a> Checking<'a> {
         ensures went { OnOk result ((began : Register) (first place : AnyPlace) (R : Register)
             → IsAtCommand first place number self.old.walk.end.sum []
             → self.old.from ≡ None → RanOver began first place R self.old []
-            → RanOver began first place R self.new []) }
+            → RunsOn began first place R self.new []) }
         ensures waited { OnOk result ((copied : Register) (at first place : AnyPlace)
             (R : Register) (before : List Entry)
             → IsAtCommand first place number self.old.walk.end.sum before
@@ -351,11 +417,17 @@ impl<'a> Checking<'a> {
     /// tables, if it is that of the register's place.
     fn close(&mut self, alloc: Global) -> Result<(), CheckFault>
         requires { IsReady self.old }
-        ensures fault { IfErr result IsOfRun }
+        ensures refused { IfErr result (λ fault. (began : Register) (first place : AnyPlace)
+            (R : Register) (entries : List Entry) → self.old.from ≡ None
+            → RanOver began first place R self.old entries
+            → RefusesRun began first entries place R fault) }
+        ensures some { OnErr result (IsSome self.old.last) }
+        ensures stays { self.old.is_met ≡ true → self.new.is_met ≡ true }
         ensures ready { OnOk result (IsReady self.new) }
         ensures closed { self.new.last ≡ None }
         ensures went { OnOk result ((began : Register) (first place : AnyPlace) (R : Register)
-            (entries : List Entry) → RanOver began first place R self.old entries
+            (entries : List Entry) → self.old.from ≡ None
+            → RanOver began first place R self.old entries
             → RanOver began first place R self.new entries) }
         ensures walk { self.new.walk ≡ self.old.walk }
         ensures from { self.new.from ≡ self.old.from }
@@ -373,7 +445,7 @@ impl<'a> Checking<'a> {
     /// Carries out a command, and looks at its reply.
     fn carry_out(&mut self, alloc: Global, one: Carried) -> Result<(), CheckFault>
         requires { IsGood self.old.desk.book.register }
-        ensures fault { IfErr result IsOfRun }
+        ensures fault { IfErr result (AnswersElse self.old.desk.book.register one) }
         ensures good { OnOk result (IsGood self.new.desk.book.register) }
         ensures register { OnOk result (self.new.desk.book.register
             ≡ after self.old.desk.book.register one.command) }
@@ -408,7 +480,8 @@ impl<'a> Checking<'a> {
     /// its number.
     fn refuse(&self, alloc: Global, one: Carried) -> Result<u64, CheckFault>
         requires { IsGood self.now.desk.book.register }
-        ensures fault { IfErr result IsOfRun }
+        ensures fault { IfErr result (AnswersElse self.now.desk.book.register one) }
+        ensures whole { OnErr result (is_brief one.command.kind ≡ false) }
         ensures number { IfOk result (λ number. number ≡ one.receipt.number) }
         ensures reply { OnOk result ((is_brief one.command.kind ≡ true) ⊎ IsReply (view one.reply)
             (Answer.reply (answer self.now.desk.book.register one.command))) }
@@ -431,6 +504,11 @@ impl<'a> Checking<'a> {
         ensures waited { result ≡ true → (at : AnyPlace) → self.old.from ≡ Some at
             → (self.new.from ≡ Some at) ⊎ ((self.new.from ≡ None)
             × (number ≡ at.number) × (at.sum ≡ self.old.walk.end.sum)) }
+        ensures passed { result ≡ true → (at : AnyPlace) → self.new.from ≡ Some at
+            → number ≢ at.number }
+        ensures other { result ≡ false → (at : AnyPlace) → self.old.from ≡ Some at
+            → (number ≡ at.number) × (at.sum ≢ self.old.walk.end.sum) }
+        ensures some { result ≡ false → IsSome self.old.from }
         ensures others { self.new ≡ record self.old { from = self.new.from } }
     {
         let Some(from) = &self.from else {
@@ -451,6 +529,8 @@ impl<'a> Checking<'a> {
         ensures place { result ≡ true → self.now.place.id ≡ self.now.walk.id }
         ensures from { result ≡ true → (at : AnyPlace) → self.now.from ≡ Some at
             → at.id ≡ self.now.walk.id }
+        ensures other { result ≡ false → (self.now.place.id ≢ self.now.walk.id)
+            ⊎ ((at : AnyPlace) × (self.now.from ≡ Some at) × (at.id ≢ self.now.walk.id)) }
     {
         let id = self.walk.id.as_str();
         if let Some(from) = &self.from {
@@ -463,15 +543,19 @@ impl<'a> Checking<'a> {
 
     /// Whether the sum is the register's, if the number is that of its place.
     fn is_expected(&self, number: u64) -> bool
-        ensures { result ≡ true → number ≡ self.now.place.number
+        ensures sum { result ≡ true → number ≡ self.now.place.number
             → self.now.place.sum ≡ self.now.walk.end.sum }
+        ensures other { result ≡ false → (number ≡ self.now.place.number)
+            × (self.now.place.sum ≢ self.now.walk.end.sum) }
     {
         number != self.place.number || self.place.sum.as_str() == self.walk.end.sum.as_str()
     }
 
     /// Where the number is that of the register's place, compares the tables.
     fn compare_at(&mut self, alloc: Global, number: u64) -> Result<(), CheckFault>
-        ensures fault { IfErr result IsOfRun }
+        ensures fault { IfErr result (ComparesElse self.old number) }
+        ensures unmet { OnOk result (self.new.is_met ≡ false → self.old.from ≡ None
+            → number ≢ self.old.place.number) }
         ensures met { OnOk result (self.new.is_met ≡ true → self.old.is_met ≡ false
             → (number ≡ self.old.place.number) × (self.old.from ≡ None)
             × (tables_of self.old.book.now.register

@@ -1,5 +1,4 @@
 use Rattle.clr_journal.specs.Line.{carried}
-use Rattle.clr_chain.specs.Chain.{read_on}
 use Rattle.clr_checking.proofs.Flat.{link_is_flat, read_are_flat}
 use Rattle.clr_checking.proofs.Runs.{is_run}
 use Rattle.clr_checking.proofs.laws.replies_are_exact.Goals as goal

@@ -1,6 +1,8 @@
-use Rattle.std.proofs.Common.{◌≡◌, rules, true}
-use Rattle.clr_checking.proofs.Results.{on_ok}
-use Rattle.clr_checking.proofs.Coming.{comes, ran_begun, still_waits}
+use Rattle.std.proofs.Common.{◌≡◌, ◌∙◌, ap, false, rules, sym, true}
+use Rattle.clr_checking.specs.declared.checking.Checking.{Checking}
+use Rattle.clr_checking.proofs.Results.{if_err, on_any, on_both}
+use Rattle.clr_checking.proofs.Coming.{comes, ran_begun, ran_from, still_waits}
+use Rattle.clr_checking.proofs.Refused.{begun_sum_else, begun_tables, coming_sum, coming_tables, copy_sum_else, none_coming}
 use Rattle.clr_checking.proofs.checking.Checking.begin_at.Goals as goal
 
 pub returns-then-is_some-clause-waited : goal.returns-then-is_some-clause-waited
@@ -9,17 +11,72 @@ returns-then-is_some-clause-waited c = λ copied at first place R before it w.
     still_waits copied R at first place c.args.number c.args.self.now c.come_to.new.self before c.come_to.ensures.others (search rules)
     (c.come_to.ensures.waited came at w.from) w
 
+pub returns-then-is_some-clause-passed : goal.returns-then-is_some-clause-passed
+returns-then-is_some-clause-passed c =
+    let came : c.come_to.result ≡ true = search rules in
+    c.come_to.ensures.passed came
+
 pub returns-clause-went : goal.returns-clause-went
 returns-clause-went c =
     let sure : c.is_expected.result ≡ true = search rules in
-    on_ok c.compare_at.result (λ now began first place R it none over.
-    ran_begun began R first place c.args.number c.args.self.now c.come_to.new.self c.compare_at.new.self c.come_to.ensures.others
-    (c.is_expected.ensures sure) c.compare_at.ensures.others now it over) c.compare_at.ensures.met
+    on_both c.compare_at.result (λ now unmet began first place R it none over.
+    ran_begun began R first place c.args.number c.args.self.now c.come_to.new.self c.compare_at.new.self c.come_to.ensures.others (c.come_to.ensures.begun none)
+    (c.is_expected.ensures.sum sure) c.compare_at.ensures.others now unmet c.compare_at.ensures.stays it over) c.compare_at.ensures.met c.compare_at.ensures.unmet
 
 pub returns-clause-waited : goal.returns-clause-waited
 returns-clause-waited c =
     let came : c.come_to.result ≡ true = search rules in
     let sure : c.is_expected.result ≡ true = search rules in
-    on_ok c.compare_at.result (λ now copied at first place R before it w.
+    on_both c.compare_at.result (λ now unmet copied at first place R before it w.
     comes copied R at first place c.args.number c.args.self.now c.come_to.new.self c.compare_at.new.self before c.come_to.ensures.others (search rules)
-    (c.come_to.ensures.waited came at w.from) (c.is_expected.ensures sure) c.compare_at.ensures.others now it w) c.compare_at.ensures.met
+    (c.come_to.ensures.waited came at w.from) (c.is_expected.ensures.sum sure) c.compare_at.ensures.others now unmet c.compare_at.ensures.stays it w)
+    c.compare_at.ensures.met c.compare_at.ensures.unmet
+
+pub returns-clause-passed : goal.returns-clause-passed
+returns-clause-passed c =
+    let came : c.come_to.result ≡ true = search rules in
+    let from : c.compare_at.new.self.from ≡ c.come_to.new.self.from = ap (λ (x : Checking). x.from) c.compare_at.ensures.others in
+    on_any c.compare_at.result (λ at some. c.come_to.ensures.passed came at (sym from ∙ some))
+
+-- another sum at the place of the copy
+pub returns-then-not-come_to-clause-refused : goal.returns-then-not-come_to-clause-refused
+returns-then-not-come_to-clause-refused c = λ began first place R it none over.
+    let no : c.come_to.result ≡ false = search rules in
+    absurd (none_coming c.args.self.now c.come_to.result c.come_to.ensures.some no none)
+
+pub returns-then-not-come_to-clause-refused_from : goal.returns-then-not-come_to-clause-refused_from
+returns-then-not-come_to-clause-refused_from c = λ copied at first place R before it w.
+    let no : c.come_to.result ≡ false = search rules in
+    let why = c.come_to.ensures.other no at w.from in
+    copy_sum_else copied R at first place c.args.self.now c.args.number before why.0 why.1 it w
+
+-- or at that of the register
+pub returns-then-not-is_expected-clause-refused : goal.returns-then-not-is_expected-clause-refused
+returns-then-not-is_expected-clause-refused c = λ began first place R it none over.
+    let no : c.is_expected.result ≡ false = search rules in
+    let why = c.is_expected.ensures.other no in
+    begun_sum_else began R first place c.args.self.now c.come_to.new.self c.args.number c.come_to.ensures.others why.0 why.1 it over
+
+pub returns-then-not-is_expected-clause-refused_from : goal.returns-then-not-is_expected-clause-refused_from
+returns-then-not-is_expected-clause-refused_from c = λ copied at first place R before it w.
+    let came : c.come_to.result ≡ true = search rules in
+    let no : c.is_expected.result ≡ false = search rules in
+    let why = c.is_expected.ensures.other no in
+    coming_sum copied R at first place c.args.self.now c.come_to.new.self c.args.number before c.come_to.ensures.others (search rules)
+    (c.come_to.ensures.waited came at w.from) why.0 why.1 it w
+
+-- other tables
+pub returns-clause-refused : goal.returns-clause-refused
+returns-clause-refused c =
+    let sure : c.is_expected.result ≡ true = search rules in
+    if_err c.compare_at.result (λ fault else began first place R it none over.
+    begun_tables began R first place c.args.self.now c.come_to.new.self c.args.number fault c.come_to.ensures.others (c.is_expected.ensures.sum sure) else it
+    (ran_from began R first place c.args.self.now c.come_to.new.self c.come_to.ensures.others over)) c.compare_at.ensures.fault
+
+pub returns-clause-refused_from : goal.returns-clause-refused_from
+returns-clause-refused_from c =
+    let came : c.come_to.result ≡ true = search rules in
+    let sure : c.is_expected.result ≡ true = search rules in
+    if_err c.compare_at.result (λ fault else copied at first place R before it w.
+    coming_tables copied R at first place c.args.self.now c.come_to.new.self c.args.number before fault c.come_to.ensures.others (search rules)
+    (c.come_to.ensures.waited came at w.from) (c.is_expected.ensures.sum sure) else it w) c.compare_at.ensures.fault

@@ -1,13 +1,43 @@
 use Rattle.std.proofs.Common.{◌∙◌, rules, sym}
-use Rattle.clr_checking.proofs.Checked.{all_checked, all_checked_from}
+use Rattle.clr_checking.proofs.Checked.{all_checked, all_checked_from, end_else, end_else_from, end_sought, end_unmet, end_unmet_from}
+use Rattle.clr_checking.proofs.Results.{passed_on}
 use Rattle.clr_checking.proofs.checking.Checking.end.Goals as goal
 
 pub returns-in-None-clause-yes : goal.returns-in-None-clause-yes
 returns-in-None-clause-yes c = λ began first place R texts to.
     all_checked began R first place texts c.args.self c.close.new.self c.close.ensures.closed (search rules)
-    (λ entries over. c.in_ok-close.ensures.went began first place R entries over) to
+    (λ begun entries over. c.in_ok-close.ensures.went began first place R entries begun over) to
 
 pub returns-in-None-clause-yes_from : goal.returns-in-None-clause-yes_from
 returns-in-None-clause-yes_from c = λ copied at first place R texts to.
+    let begun = sym c.close.ensures.from ∙ c.in-None.is in
     all_checked_from copied R at first place texts c.args.self c.close.new.self c.close.ensures.closed (search rules)
-    (sym c.close.ensures.from ∙ c.in-None.is) (λ entries over. c.in_ok-close.ensures.went copied at place R entries over) to
+    begun (λ entries over. c.in_ok-close.ensures.went copied at place R entries begun over) to
+
+-- the place was not met
+pub returns-then-not-checking-clause-refused : goal.returns-then-not-checking-clause-refused
+returns-then-not-checking-clause-refused c = λ began first place R texts to.
+    end_unmet began R first place texts c.args.self c.close.new.self c.close.ensures.closed c.close.ensures.stays (search rules)
+    (λ begun entries over. c.in_ok-close.ensures.went began first place R entries begun over) to
+
+pub returns-then-not-checking-clause-refused_from : goal.returns-then-not-checking-clause-refused_from
+returns-then-not-checking-clause-refused_from c = λ copied at first place R texts to.
+    end_unmet_from copied R at first place texts c.args.self c.close.new.self c.close.ensures.closed c.close.ensures.stays (search rules)
+    (λ begun entries over. c.in_ok-close.ensures.went copied at place R entries begun over) to
+
+-- that of the copy is still sought
+pub returns-clause-refused_from : goal.returns-clause-refused_from
+returns-clause-refused_from c = λ copied at first place R texts to.
+    end_sought copied R at first place texts c.args.self (search rules) to
+
+-- the last command
+pub returns-in_err-close-clause-refused : goal.returns-in_err-close-clause-refused
+returns-in_err-close-clause-refused c =
+    passed_on _ _ _ c.from_residual.ensures.1 (λ began first place R texts to.
+    end_else began R first place texts c.args.self _ (λ begun entries over. c.in_err-close.ensures.refused began first place R entries begun over) to)
+
+pub returns-in_err-close-clause-refused_from : goal.returns-in_err-close-clause-refused_from
+returns-in_err-close-clause-refused_from c =
+    passed_on _ _ _ c.from_residual.ensures.1 (λ copied at first place R texts to.
+    end_else_from copied R at first place texts c.args.self _ c.in_err-close.ensures.some
+    (λ begun entries over. c.in_err-close.ensures.refused copied at place R entries begun over) to)

@@ -5,8 +5,8 @@ use Rattle.clr_chain.specs.Walking.{Step as Seen}
 use Rattle.clr_chain.specs.declared.chain_end.ChainEnd.{ChainEnd}
 use Rattle.clr_chain.specs.declared.walk.Step.{Step as SeenStep}
 use Rattle.clr_chain.specs.declared.walk.Walk.{Walk}
-use Rattle.clr_checking.proofs.Results.{if_err, on_any, on_ok, on_three}
-use Rattle.clr_checking.proofs.Checked.{bad_over, line_checked, line_checked_from, of_run}
+use Rattle.clr_checking.proofs.Results.{if_err, if_err_both, on_any, on_four, on_ok}
+use Rattle.clr_checking.proofs.Checked.{bad_over, line_checked, line_checked_from, line_refused, line_refused_from}
 use Rattle.clr_checking.proofs.checking.Checking.line.Goals as goal
 
 pub returns-in-Holds-clause-went : goal.returns-in-Holds-clause-went
@@ -25,17 +25,28 @@ returns-in-Holds-clause-went_from c =
     let walk = c.step.new.self in
     let step : (holds (entry_of c.in-Holds.line), walk.end) ≡ step_of old.walk.end c.args.text.now =
     ap (λ (s : SeenStep). (seen_step s, walk.end)) (sym c.in-Holds.is) ∙ c.in_ok-seen.ensures.step in
-    on_three c.next.result (λ goes stays waited copied at first place R texts to.
+    on_four c.next.result (λ goes stays waited passed copied at first place R texts to.
     line_checked_from copied R at first place texts c.args.text.now (entry_of c.in-Holds.line) old c.next.new.self walk step c.step.ensures.id
-    c.next.ensures.walk c.next.ensures.begun goes stays waited to) c.next.ensures.went c.next.ensures.kept c.next.ensures.waited
+    c.next.ensures.walk c.next.ensures.begun goes stays waited passed to) c.next.ensures.went c.next.ensures.kept c.next.ensures.waited c.next.ensures.passed
 
 pub returns-in-Holds-clause-refused : goal.returns-in-Holds-clause-refused
 returns-in-Holds-clause-refused c =
-    if_err c.next.result (λ fault is began first place R texts to. of_run first texts c.args.text.now fault is) c.next.ensures.fault
+    let old = c.args.self.now in
+    let walk = c.step.new.self in
+    let step : (holds (entry_of c.in-Holds.line), walk.end) ≡ step_of old.walk.end c.args.text.now =
+    ap (λ (s : SeenStep). (seen_step s, walk.end)) (sym c.in-Holds.is) ∙ c.in_ok-seen.ensures.step in
+    if_err c.next.result (λ fault refuses began first place R texts to.
+    line_refused began R first place texts c.args.text.now (entry_of c.in-Holds.line) old walk fault step refuses to) c.next.ensures.refused
 
 pub returns-in-Holds-clause-refused_from : goal.returns-in-Holds-clause-refused_from
 returns-in-Holds-clause-refused_from c =
-    if_err c.next.result (λ fault is copied at first place R texts to. of_run first texts c.args.text.now fault is) c.next.ensures.fault
+    let old = c.args.self.now in
+    let walk = c.step.new.self in
+    let step : (holds (entry_of c.in-Holds.line), walk.end) ≡ step_of old.walk.end c.args.text.now =
+    ap (λ (s : SeenStep). (seen_step s, walk.end)) (sym c.in-Holds.is) ∙ c.in_ok-seen.ensures.step in
+    if_err_both c.next.result (λ fault refuses waits copied at first place R texts to.
+    line_refused_from copied R at first place texts c.args.text.now (entry_of c.in-Holds.line) old walk fault step refuses waits to)
+    c.next.ensures.refused c.next.ensures.refused_from
 
 pub returns-in-Bad-clause-refused : goal.returns-in-Bad-clause-refused
 returns-in-Bad-clause-refused c = λ began first place R texts to.

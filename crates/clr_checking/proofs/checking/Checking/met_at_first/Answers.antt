@@ -1,6 +1,9 @@
-use Rattle.std.proofs.Common.{◌≡◌, [], ap, rules, true}
+use Rattle.std.proofs.Common.{◌≡◌, ◌∙◌, [], ap, false, rules, sym, true}
+use Rattle.clr_place.specs.declared.place.Place.{Place}
+use Rattle.clr_checking.proofs.Results.{passed_on}
 use Rattle.clr_checking.specs.declared.checking.Checking.{Checking}
-use Rattle.clr_checking.proofs.Checked.{begun_checked, begun_checked_from}
+use Rattle.clr_checking.proofs.Checked.{at_first, begun_checked, begun_checked_from}
+use Rattle.clr_checking.proofs.Refused.{other_copy, other_else}
 use Rattle.clr_checking.proofs.checking.Checking.met_at_first.Goals as goal
 
 pub returns-clause-went : goal.returns-clause-went
@@ -15,4 +18,31 @@ returns-clause-went_from c = λ copied at first place R ids ends some waits.
     let sure : c.is_of_journal.result ≡ true = search rules in
     begun_checked_from copied R at first place c.args.self c.begin_at.new.self ids ends (c.is_of_journal.ensures.place sure)
     (c.is_of_journal.ensures.from sure at some) (ap (λ (x : Checking). x.walk) c.begin_at.ensures.others)
-    (λ it w. c.in_ok-begin_at.ensures.waited copied at first place R [] it w) waits
+    (λ it w. c.in_ok-begin_at.ensures.waited copied at first place R [] it w) (c.in_ok-begin_at.ensures.passed at) waits
+
+-- the journal is another register's
+pub returns-then-not-is_of_journal-clause-refused : goal.returns-then-not-is_of_journal-clause-refused
+returns-then-not-is_of_journal-clause-refused c = λ began first place R ids ends none over.
+    let not : c.is_of_journal.result ≡ false = search rules in
+    other_else began R first place c.args.self ids none (c.is_of_journal.ensures.other not) over
+
+pub returns-then-not-is_of_journal-clause-refused_from : goal.returns-then-not-is_of_journal-clause-refused_from
+returns-then-not-is_of_journal-clause-refused_from c = λ copied at first place R ids ends some here waits.
+    let not : c.is_of_journal.result ≡ false = search rules in
+    other_copy copied R at first place c.args.self ids some here (c.is_of_journal.ensures.other not)
+
+-- or the first line is at a place, and differs
+pub returns-in_err-begin_at-clause-refused : goal.returns-in_err-begin_at-clause-refused
+returns-in_err-begin_at-clause-refused c =
+    let sure : c.is_of_journal.result ≡ true = search rules in
+    passed_on _ _ _ c.from_residual.ensures.1 (λ began first place R ids ends none over.
+    c.in_err-begin_at.ensures.refused began first place R
+    (at_first first place c.args.self ends (ap (λ (p : Place). p.id) (sym over.of.place_is) ∙ c.is_of_journal.ensures.place sure ∙ ids)) none over)
+
+pub returns-in_err-begin_at-clause-refused_from : goal.returns-in_err-begin_at-clause-refused_from
+returns-in_err-begin_at-clause-refused_from c =
+    let sure : c.is_of_journal.result ≡ true = search rules in
+    passed_on _ _ _ c.from_residual.ensures.1 (λ copied at first place R ids ends some here waits.
+    let w = waits (c.is_of_journal.ensures.from sure at some ∙ ids) in
+    c.in_err-begin_at.ensures.refused_from copied at first place R []
+    (at_first first place c.args.self ends (ap (λ (p : Place). p.id) (sym w.of.place_is) ∙ c.is_of_journal.ensures.place sure ∙ ids)) w)

@@ -1,5 +1,5 @@
 use Rattle.std.proofs.Common.{◌∙◌, sym}
-use Rattle.clr_checking.proofs.Results.{on_any, on_ok}
+use Rattle.clr_checking.proofs.Results.{if_err, on_any, on_ok}
 use Rattle.clr_checking.proofs.checking.Checking.next.Goals as goal
 
 pub returns-in-Some-clause-went : goal.returns-in-Some-clause-went
@@ -16,3 +16,18 @@ returns-in-None-clause-kept c = on_ok c.run.result (λ kept began first place R 
 
 pub returns-in-None-clause-waited : goal.returns-in-None-clause-waited
 returns-in-None-clause-waited c = on_any c.run.result (λ copied at first place R before is w. absurd (cc (sym w.from ∙ c.in-None.is)))
+
+pub returns-in-Some-clause-refused : goal.returns-in-Some-clause-refused
+returns-in-Some-clause-refused c =
+    if_err c.wait.result (λ fault refuses began first place R entries none is runs. absurd (cc (sym none ∙ c.in-Some.is))) c.wait.ensures.refused
+
+pub returns-in-None-clause-refused : goal.returns-in-None-clause-refused
+returns-in-None-clause-refused c =
+    if_err c.run.result (λ fault refuses began first place R entries none is runs. refuses began first place R entries is runs) c.run.ensures.refused
+
+pub returns-in-None-clause-refused_from : goal.returns-in-None-clause-refused_from
+returns-in-None-clause-refused_from c =
+    if_err c.run.result (λ fault refuses copied at first place R before is w. absurd (cc (sym w.from ∙ c.in-None.is))) c.run.ensures.refused
+
+pub returns-in-None-clause-passed : goal.returns-in-None-clause-passed
+returns-in-None-clause-passed c = on_any c.run.result (λ at some. absurd (cc (sym (c.run.ensures.begun c.in-None.is) ∙ some)))
