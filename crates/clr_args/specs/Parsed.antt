@@ -132,21 +132,23 @@ pub record AsksJournal (rows : List Row) (args : JournalArgs) : Type 0 where
   pub offset : args.offset.minutes ≡ offset_in (first_of (codes "offset") rows)
   pub commands : args.commands ≡ flag_in (first_of (codes "commands") rows)
 
--- the next part of a journal is asked for, with these paths
-pub record IsNextPart (rows : List Row) (database next : Text) (args : NextPartArgs) : Type 0 where
-  pub path : args.path.now ≡ word_in rows (codes "FILE")
-  pub database_is : args.database.now ≡ database
-  pub next_is : args.next.now ≡ next
-
-abbrev pub AsksNextPart : List Row → Text → Text → Asked → Type 0
-AsksNextPart rows database next (asked.NextPart args) = IsNextPart rows database next args
-AsksNextPart rows database next what = ⊥
-
 -- more is asked for beside a next part, all of which is for printing: a clearance, an offset, or the
 -- commands
 abbrev pub IsMoreThanNext : Option Text → Option Text → Bool → Type 0
 IsMoreThanNext None None false = ⊥
 IsMoreThanNext clearance offset commands = Unit {0}
+
+-- the next part of a journal is asked for, with these paths, and nothing beside it
+pub record IsNextPart (rows : List Row) (database next : Text) (args : NextPartArgs) : Type 0 where
+  pub path : args.path.now ≡ word_in rows (codes "FILE")
+  pub database_is : args.database.now ≡ database
+  pub next_is : args.next.now ≡ next
+  pub alone : IsMoreThanNext (first_of (codes "CLEARANCE") rows) (first_of (codes "offset") rows)
+      (flag_in (first_of (codes "commands") rows)) → ⊥
+
+abbrev pub AsksNextPart : List Row → Text → Text → Asked → Type 0
+AsksNextPart rows database next (asked.NextPart args) = IsNextPart rows database next args
+AsksNextPart rows database next what = ⊥
 
 -- a journal is to be printed, where neither a next part nor a database is named; or its next part is
 -- to be begun, where both are, and no further parts
