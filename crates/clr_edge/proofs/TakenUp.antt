@@ -159,6 +159,7 @@ module _ {T : Type 0} (g : Ghosts T) (before desk : Held T) (R : Register) (is :
           cause = stopped.cause;
           fault_is = stopped.fault_is;
           stops = stopped.stops;
+          unchanged = stopped.unchanged;
         })
 
 -- ---- a desk over a register that was read

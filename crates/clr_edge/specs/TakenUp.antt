@@ -146,7 +146,8 @@ abbrev pub MissesOne : {T : Type 0} → Ghosts T → Held T → Fault → Held T
 MissesOne g desk fault after = LacksPlace g desk fault after
     ⊎ ((fault ≡ Journal why.Missing) × (place : Place) × HasPlace g desk after (Some place))
 
--- lines after the place stopped: at one that differs, or where a command was not carried out
+-- lines after the place stopped: at one that differs, which changes nothing, or where a command was
+-- not carried out
 pub record StopsForward {T : Type 0} (g : Ghosts T) (desk : Held T) (R : Register) (place : Place)
     (lines : List Entry) (fault : Fault) (after : Held T) : Type 0 where
   pub cause : OpeningFault
@@ -155,6 +156,8 @@ pub record StopsForward {T : Type 0} (g : Ghosts T) (desk : Held T) (R : Registe
   pub kept : Keeps (state g desk) R (state g after) register
   pub stops : withdraws lines ≡ false → AreShallow lines → IsAt store_place (state g desk) place
       → StopsAt store_place R place lines cause register (state g after)
+  pub unchanged : (n : ℕ) → cause ≡ opening.Differs n
+      → (register ≡ R) × (state g after ≡ state g desk)
 
 -- A DESK WAS GIVEN THE JOURNAL AT A PATH, at the place that its register has
 pub record IsGiven {M J C T : Type 0} (g : Ghosts T) (logs : Logs M J C) (path : List ℕ)
@@ -230,8 +233,8 @@ pub record IsUnplaced {T : Type 0} (g : Ghosts T) (before : Held T) (fault : Fau
   pub lacks : LacksPlace g before fault after
 
 -- ITS JOURNAL WAS OPENED, AND DOES NOT GO TOGETHER WITH IT: a line after the place has another reply
--- than the register gives, or a command was not carried out. What was carried out before that is
--- kept, with its place. The journal is let go as it was opened
+-- than the register gives, which changes nothing; or a command was not carried out, and what was
+-- carried out before that is kept, with its place. The journal is let go as it was opened
 pub record IsRefusedItsJournal {M J C T : Type 0} (g : Ghosts T) (logs : Logs M J C)
     (path : List ℕ) (old new : M) (before : Held T) (fault : Fault) (after : Held T)
     : Type 0 where
@@ -250,6 +253,8 @@ pub record IsRefusedItsJournal {M J C T : Type 0} (g : Ghosts T) (logs : Logs M 
       → IsAt store_place (state g (IsKept.opened kept)) place
       → StopsAt store_place (IsKept.first kept) place (entries_of ahead) cause register
       (state g after)
+  pub unchanged : (n : ℕ) → cause ≡ opening.Differs n
+      → (register ≡ IsKept.first kept) × (state g after ≡ state g (IsKept.opened kept))
 
 -- IT WAS NOT TAKEN UP. Its database was refused, its place not read, or it has no journal: then it is
 -- as it was, and no journal was opened. Or the journal was not opened at its place, and the database

@@ -1,7 +1,8 @@
-use Rattle.std.proofs.Common.{◌≡◌, ◌∙◌, subst, sym}
+use Rattle.std.proofs.Common.{◌≡◌, ◌∙◌, ap, subst, sym}
 use Rattle.sqlite.specs.Held.{Held, state}
 use Rattle.clr_book.specs.Book.{Shelved}
 use Rattle.clr_desk.specs.Kept.{Keeps}
+use Rattle.clr_desk.specs.declared.desk.Desk.{Desk}
 use Rattle.clr_level.specs.Forward.{CanBeOpened, StopsAt}
 use Rattle.clr_level.specs.Journaling.{HasText}
 use Rattle.clr_edge.specs.TakenUp.{entries_of, store_place}
@@ -43,4 +44,9 @@ returns-clause-stops g c good =
       stops = λ begins shallow at.
           subst (λ h. StopsAt store_place R c.args.place (entries_of c.args.opened.ahead) c.in-Err.fault S (state g.S.Store h)) (sym same)
           (c.in-Err.ensures.stops good begins shallow at);
+      unchanged = λ n is.
+          let back = c.in-Err.ensures.unchanged n is in (
+            ap (λ (d : Desk (Held g.row.S.Denot)). d.book.register) back,
+            ap (state g.S.Store) (same ∙ ap (λ (d : Desk (Held g.row.S.Denot)). d.store) back),
+          );
     }
