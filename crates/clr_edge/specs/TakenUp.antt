@@ -157,7 +157,7 @@ pub record StopsForward {T : Type 0} (g : Ghosts T) (desk : Held T) (R : Registe
   pub stops : withdraws lines ≡ false → AreShallow lines → IsAt store_place (state g desk) place
       → StopsAt store_place R place lines cause register (state g after)
   pub unchanged : (n : ℕ) → cause ≡ opening.Differs n
-      → (register ≡ R) × (state g after ≡ state g desk)
+      → (register ≡ R) × (after ≡ desk)
 
 -- A DESK WAS GIVEN THE JOURNAL AT A PATH, at the place that its register has
 pub record IsGiven {M J C T : Type 0} (g : Ghosts T) (logs : Logs M J C) (path : List ℕ)
@@ -254,7 +254,7 @@ pub record IsRefusedItsJournal {M J C T : Type 0} (g : Ghosts T) (logs : Logs M 
       → StopsAt store_place (IsKept.first kept) place (entries_of ahead) cause register
       (state g after)
   pub unchanged : (n : ℕ) → cause ≡ opening.Differs n
-      → (register ≡ IsKept.first kept) × (state g after ≡ state g (IsKept.opened kept))
+      → (register ≡ IsKept.first kept) × (after ≡ IsKept.opened kept)
 
 -- IT WAS NOT TAKEN UP. Its database was refused, its place not read, or it has no journal: then it is
 -- as it was, and no journal was opened. Or the journal was not opened at its place, and the database

@@ -47,6 +47,6 @@ returns-clause-stops g c good =
       unchanged = λ n is.
           let back = c.in-Err.ensures.unchanged n is in (
             ap (λ (d : Desk (Held g.row.S.Denot)). d.book.register) back,
-            ap (state g.S.Store) (same ∙ ap (λ (d : Desk (Held g.row.S.Denot)). d.store) back),
+            same ∙ ap (λ (d : Desk (Held g.row.S.Denot)). d.store) back,
           );
     }
