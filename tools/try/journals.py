@@ -492,6 +492,9 @@ def forged(folder):
     reply = entries[20]["reply"] | {"card": entries[20]["reply"]["card"] | {"done": 99}}
     chained({21: entries[20] | {"reply": reply}})
     is_refused("another reply after the place", copy, "journal Differs 21", "verify Reply 21")
+    later = next(entry for entry in entries[21:] if "card" in entry["reply"])
+    chained({later["number"]: later | {"reply": later["reply"] | {"card": later["reply"]["card"] | {"done": 99}}}})
+    is_refused("another reply, with commands before it", copy, f"journal Differs {later['number']}", f"verify Reply {later['number']}")
     chained({5: entries[4] | {"received": 1}})
     is_refused("another line before the place", path, "journal Differs 25", "journal Differs 25")
     chained({5: entries[4] | {"login": "OPS"}})
