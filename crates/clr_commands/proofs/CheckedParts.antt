@@ -1,5 +1,5 @@
 -- A register is checked against a journal part by part.
-use Rattle.std.proofs.Common.{◌≡◌, ◌∙◌, ap, refl, subst, sym, ℕ, Bool, false, true, List, [], ◌∷◌, ◌++◌, append_assoc, append-nil, Result, Ok, Err}
+use Rattle.std.proofs.Common.{◌≡◌, ◌∙◌, ap, inl, inr, refl, subst, sym, ℕ, Bool, false, true, List, [], ◌∷◌, ◌++◌, append_assoc, append-nil, Result, Ok, Err}
 use Rattle.std.specs.Prelude.{IfErr, IfOk, IfSome, IsErrAnd, None, Option, Some, String, Vec, string_bytes}
 use Rattle.std.specs.declared.alloc.Global.{Global}
 use Rattle.clr_append.specs.Lines.{ended_lines}
@@ -18,7 +18,7 @@ use Rattle.clr_checking.specs.declared.checking.Checking.{Checking}
 use Rattle.clr_checking.specs.declared.fault.CheckFault.{CheckFault}
 use Rattle.clr_commands.specs.Journal.{all_known}
 use Rattle.clr_commands.specs.Parts.{FirstIs, ReadsLine, walked}
-use Rattle.clr_commands.specs.Verify.{Checks, ChecksAll, ChecksFrom, ChecksOn, GoOn, HasLines, IsOfCheck, IsOfFiles, verified_text}
+use Rattle.clr_commands.specs.Verify.{BeginOn, Checks, ChecksAll, ChecksFrom, ChecksOn, GoOn, HasLines, IsOfCheck, IsOfFiles, verified_text}
 use Rattle.clr_commands.proofs.PartLines.{AreBefore, before-all, before-more, before-none, known-next, walked-end, walked-same}
 
 -- ---- the lines of a part
@@ -94,19 +94,21 @@ pub record CheckedParts (first : Option (List ℕ)) (all left : Option (List (Li
   pub id : it.walk.id ≡ old.walk.id
   pub known : IfSome first (λ bytes. IfSome all (λ parts. (rest more : List (List ℕ)) × (left ≡ Some rest)
       × ((after : List (List ℕ)) → GoOn old.walk.id it.walk.end rest after → GoOn old.walk.id (walked old.walk.end (ended_lines bytes)).1 parts (more ++ after))
+      × ((front : List (List ℕ)) → BeginOn old.walk.id it.walk.end rest front → BeginOn old.walk.id (walked old.walk.end (ended_lines bytes)).1 parts (more ++ front))
       × ((began : Register) (first place : Place) (R : Register) → CheckedTo began first place R old []
       → CheckedTo began first place R it (ended_lines bytes ++ more))
       × ((copied : Register) (at first place : Place) (R : Register) → CheckedToFrom copied at first place R old []
       → CheckedToFrom copied at first place R it (ended_lines bytes ++ more))))
 
 -- what is known of them, where all bytes are
-abbrev Known : List (List ℕ) → List (List ℕ) → Option (List (List ℕ)) → Checking → Checking → Type 0
+abbrev pub Known : List (List ℕ) → List (List ℕ) → Option (List (List ℕ)) → Checking → Checking → Type 0
 Known lines parts left old it = (rest more : List (List ℕ)) × (left ≡ Some rest)
     × ((after : List (List ℕ)) → GoOn old.walk.id it.walk.end rest after → GoOn old.walk.id (walked old.walk.end lines).1 parts (more ++ after))
+    × ((front : List (List ℕ)) → BeginOn old.walk.id it.walk.end rest front → BeginOn old.walk.id (walked old.walk.end lines).1 parts (more ++ front))
     × ((began : Register) (first place : Place) (R : Register) → CheckedTo began first place R old [] → CheckedTo began first place R it (lines ++ more))
     × ((copied : Register) (at first place : Place) (R : Register) → CheckedToFrom copied at first place R old [] → CheckedToFrom copied at first place R it (lines ++ more))
 
-go_on-none : (id : List ℕ) (end : ChainEnd) → GoOn id end [] []
+pub go_on-none : (id : List ℕ) (end : ChainEnd) → GoOn id end [] []
 unfolding GoOn
 go_on-none id end = refl
 
@@ -114,6 +116,23 @@ go_on-more : (id : List ℕ) (end next : ChainEnd) (one text : List ℕ) (rest l
     → part_of id end (read_first text) ≡ (true, next) → GoOn id (walked next lines).1 rest more → GoOn id end (one ∷ rest) (lines ++ more)
 unfolding GoOn
 go_on-more id end next one text rest lines more is part goes = (text, lines, more, next, is, part, refl, goes)
+
+-- a front of them, as far as they were read
+pub begin_on-none : (id : List ℕ) (end : ChainEnd) (rest : List (List ℕ)) → BeginOn id end rest []
+unfolding BeginOn
+begin_on-none id end [] = refl
+begin_on-none id end (one ∷ rest) = inl refl
+
+pub begin_on-more : (id : List ℕ) (end next : ChainEnd) (one text : List ℕ) (rest lines more : List (List ℕ)) → ended_lines one ≡ text ∷ lines
+    → part_of id end (read_first text) ≡ (true, next) → BeginOn id (walked next lines).1 rest more → BeginOn id end (one ∷ rest) (lines ++ more)
+unfolding BeginOn
+begin_on-more id end next one text rest lines more is part begins =
+    inr (text, lines, [], more, next, is ∙ ap (λ (l : List (List ℕ)). text ∷ l) (sym (append-nil lines)), part, refl, inr (refl, begins))
+
+pub begin_on-part : (id : List ℕ) (end next : ChainEnd) (one text : List ℕ) (rest lines after : List (List ℕ)) → ended_lines one ≡ text ∷ (lines ++ after)
+    → part_of id end (read_first text) ≡ (true, next) → BeginOn id end (one ∷ rest) lines
+unfolding BeginOn
+begin_on-part id end next one text rest lines after is part = inr (text, lines, after, [], next, is, part, sym (append-nil lines), inl refl)
 
 -- the first part was checked
 pub parts_none : (first : Option (List ℕ)) (all : Option (List (List ℕ))) (old it : Checking) → IsReady it → it.walk.id ≡ old.walk.id
@@ -129,6 +148,7 @@ parts_none first all old it ready id checked = record { ready = ready; id = id; 
       [],
       refl,
       λ after goes. subst (λ (e : ChainEnd). GoOn old.walk.id e parts after) is.end goes,
+      λ front begins. subst (λ (e : ChainEnd). BeginOn old.walk.id e parts front) is.end begins,
       λ began place R S to.
           subst (λ (l : List (List ℕ)). CheckedTo began place R S it l) (sym (append-nil (ended_lines bytes))) (is.went began place R S [] to),
       λ copied at place R S to.
@@ -158,7 +178,7 @@ module _ (first : Option (List ℕ)) (all left : Option (List (List ℕ))) (old 
           → IfSome file (λ known. IfSome found (λ parts. Known (ended_lines known) parts (all_known others) old new))
       by None found is = tt
       by (Some file) None is = tt
-      by (Some file) (Some parts) (rest, more, is_rest, go, to, to_from) =
+      by (Some file) (Some parts) (rest, more, is_rest, go, begin, to, to_from) =
           let (one, after, has, is_after, next) = known-next bytes others rest (sym is_left ∙ is_rest) in
           let read : ReadsLine (Some line) now one = subst (λ (b : Option (List ℕ)). IfSome b (ReadsLine (Some line) now)) has reads in
           let (lines, lines_are, is) = goes one now read checked in (
@@ -170,6 +190,11 @@ module _ (first : Option (List ℕ)) (all left : Option (List (List ℕ))) (old 
                 (go (lines ++ last) (subst (λ (l : List (List ℕ)). GoOn old.walk.id it.walk.end l (lines ++ last)) (sym next)
                 (go_on-more old.walk.id it.walk.end begun.walk.end one line.items after lines last lines_are part_is
                 (subst (λ (e : ChainEnd). GoOn old.walk.id e after last) is.end goes_last)))),
+            λ front begins.
+                subst (λ (l : List (List ℕ)). BeginOn old.walk.id (walked old.walk.end (ended_lines file)).1 parts l) (sym (append_assoc more lines front))
+                (begin (lines ++ front) (subst (λ (l : List (List ℕ)). BeginOn old.walk.id it.walk.end l (lines ++ front)) (sym next)
+                (begin_on-more old.walk.id it.walk.end begun.walk.end one line.items after lines front lines_are part_is
+                (subst (λ (e : ChainEnd). BeginOn old.walk.id e after front) is.end begins)))),
             λ began place R S was.
                 subst (λ (l : List (List ℕ)). CheckedTo began place R S new l) (append_assoc (ended_lines file) more lines)
                 (is.went began place R S (ended_lines file ++ more) (went began place R S (ended_lines file ++ more) (to began place R S was))),
@@ -189,7 +214,7 @@ module _ (first : Option (List ℕ)) (all left : Option (List (List ℕ))) (old 
           → IfSome file (λ known. IfSome found (λ parts. ChecksAll old (ended_lines known) parts text))
       by None found known = tt
       by (Some file) None known = tt
-      by (Some file) (Some parts) (rest, more, is_rest, go, to, to_from) =
+      by (Some file) (Some parts) (rest, more, is_rest, go, begin, to, to_from) =
           let empty : rest ≡ [] = cc (sym none ∙ is_rest) in
           record {
             more = more;
@@ -225,7 +250,7 @@ is_closed : (b : Bool) → (b ≡ true → false ≡ true) → b ≡ false
 is_closed true opens = absurd (cc (opens refl))
 is_closed false opens = refl
 
-begins_at : (first : Place) (end : ChainEnd) → EndsAt end (read_on (end_at first) []).end → end ≡ end_at first
+pub begins_at : (first : Place) (end : ChainEnd) → EndsAt end (read_on (end_at first) []).end → end ≡ end_at first
 unfolding read_on
 begins_at first end is =
     let shut = is_closed end.turn.is_open is.closed in
@@ -287,36 +312,7 @@ checks_yes_from copied R at (Some one) (Some after) (Some parts) first place it 
   text_is = checks.text_is;
 }
 
--- a fault
-pub checks_fault : (files : Files) (began R : Register) (one : Option (List ℕ)) (all : Option (List (List ℕ))) (place : Place) (result : Result (String Global) Fault) (fault : Fault)
-    → result ≡ Err fault → IsOfCheck fault → IfSome one (λ bytes. IfSome all (λ known. Checks files began bytes known place R result))
-checks_fault files began R None all place result fault is of = tt
-checks_fault files began R (Some one) None place result fault is of = tt
-checks_fault files began R (Some one) (Some parts) place result fault is of =
-    subst (λ (it : Result (String Global) Fault). Checks files began one parts place R it) (sym is) of
-
-pub checks_fault_from : (copied R : Register) (at : Place) (one : Option (List ℕ)) (all : Option (List (List ℕ))) (place : Place) (result : Result (String Global) Fault) (fault : Fault)
-    → result ≡ Err fault → IsOfCheck fault → IfSome one (λ bytes. IfSome all (λ known. ChecksFrom copied at bytes known place R result))
-checks_fault_from copied R at None all place result fault is of = tt
-checks_fault_from copied R at (Some one) None place result fault is of = tt
-checks_fault_from copied R at (Some one) (Some parts) place result fault is of =
-    subst (λ (it : Result (String Global) Fault). ChecksFrom copied at one parts place R it) (sym is) of
-
--- what comes of all lines
-pub checks_over : (files : Files) (began R : Register) (one now : Option (List ℕ)) (all : Option (List (List ℕ))) (first place : Place) (it : Checking) (result : Result (String Global) Fault)
-    → IfSome one (FirstIs first now) → IsOfFiles files first → CheckedTo began first place R it []
-    → IfOk result (λ text. IfSome now (λ bytes. IfSome all (λ known. ChecksAll it (ended_lines bytes) known (string_bytes text)))) → IfErr result IsOfCheck
-    → IfSome one (λ bytes. IfSome all (λ known. Checks files began bytes known place R result))
-checks_over files began R one now all first place it (Ok text) begins of to checks fault = checks_yes files began R one now all first place it text begins of to checks
-checks_over files began R one now all first place it (Err cause) begins of to checks fault = checks_fault files began R one all place (Err cause) cause refl fault
-
-pub checks_over_copy : (copied R : Register) (at : Place) (one now : Option (List ℕ)) (all : Option (List (List ℕ))) (first place : Place) (it : Checking)
-    (result : Result (String Global) Fault) → IfSome one (FirstIs first now) → CheckedToFrom copied at first place R it []
-    → IfOk result (λ text. IfSome now (λ bytes. IfSome all (λ known. ChecksAll it (ended_lines bytes) known (string_bytes text)))) → IfErr result IsOfCheck
-    → IfSome one (λ bytes. IfSome all (λ known. ChecksFrom copied at bytes known place R result))
-checks_over_copy copied R at one now all first place it (Ok text) begins to checks fault = checks_yes_from copied R at one now all first place it text begins to checks
-checks_over_copy copied R at one now all first place it (Err cause) begins to checks fault = checks_fault_from copied R at one all place (Err cause) cause refl fault
-
+-- a fault that is passed on
 pub passed_check : {T : Type 0} (result : Result T Fault) (fault : Fault) → IsErrAnd result (λ cause. cause ≡ fault) → IsOfCheck fault → IfErr result IsOfCheck
 passed_check (Ok value) fault is of = tt
 passed_check (Err cause) fault is of = subst (λ (f : Fault). IsOfCheck f) (sym is) of

@@ -26,6 +26,7 @@ pub mod StepTexts
 pub mod SentTexts
 pub mod PrintedParts
 pub mod CheckedParts
+pub mod RefusedParts
 pub mod PrintedJournal
 pub mod PlacedRead
 pub mod VerifiedFiles

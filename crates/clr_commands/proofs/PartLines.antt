@@ -94,6 +94,13 @@ later-part remaining failures bytes source fault (before, is_of, count) later wh
     let (after, rose) = later which in
     (before, after, is_of, subst (λ (n : ℕ). Rose n (failures after)) (sym count) rose)
 
+-- of a source that has counted the same
+pub later_from : {F : Type 0} (failures : F → ℕ) (source begun : F) (fault : Fault) → failures source ≡ failures begun → FailsLater failures source fault
+    → FailsLater failures begun fault
+later_from failures source begun fault same later which =
+    let (after, rose) = later which in
+    (after, subst (λ (n : ℕ). Rose n (failures after)) same rose)
+
 -- one that is neither of opening nor of reading
 pub memory-later : {F : Type 0} (failures : F → ℕ) (source : F) (fault : Fault) → fault ≡ Memory → FailsLater failures source fault
 memory-later failures source fault is (inl opening) = absurd (cc)

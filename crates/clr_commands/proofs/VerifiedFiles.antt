@@ -1,7 +1,7 @@
 -- What `verify` answers of its files, of a database and of a journal.
 use Rattle.std.proofs.Common.{◌≡◌, ◌≢◌, ap, inl, inr, ℕ, List, map, Result, Ok, Err}
 use Rattle.std.specs.Borrow.{Bor}
-use Rattle.std.specs.Prelude.{IsErrAnd, String}
+use Rattle.std.specs.Prelude.{IfErr, IsErrAnd, String}
 use Rattle.std.specs.declared.alloc.Global.{Global}
 use Rattle.clr_rules.specs.Register.{Register}
 use Rattle.clr_args.specs.declared.asked.VerifyArgs.{VerifyArgs}
@@ -13,7 +13,7 @@ use Rattle.clr_commands.specs.Import.{AreKnown, AreReadAt, contents_of, lists_of
 use Rattle.clr_commands.specs.Journal.{all_known}
 use Rattle.clr_commands.specs.Paths.{AtPaths}
 use Rattle.clr_commands.specs.Run.{IsOpeningOf, rows_fault}
-use Rattle.clr_commands.specs.Verify.{Checks, ChecksFrom, Placed, VerifiesAt, VerifiesFromAt, WhereKnown}
+use Rattle.clr_commands.specs.Verify.{Checks, ChecksFrom, FailsSome, Placed, VerifiesAt, VerifiesFromAt, WhereKnown}
 use Rattle.clr_commands.specs.declared.import.Rows.{Rows}
 use Rattle.clr_commands.specs.declared.import.Texts.{Texts}
 
@@ -53,11 +53,12 @@ module _ {M : Type 0} (at : AtPaths) (args : VerifyArgs) (Reads : Result Placed 
     pub checked : (began : Register) (placed : Placed) → IsOpeningOf (lists_of rows) began → Reads (Ok placed) old new
         → WhereKnown (at.bytes args.journal.now) (all_known (map (λ (path : Bor (List ℕ)). at.bytes path.now) args.parts.items))
         (λ one parts. Checks (files_of (contents_of texts)) began one parts placed.1 placed.0.register result)
+        → IfErr result (FailsSome at args.journal args.parts.items)
         → VerifiesAt at args Reads result old new
-    checked began placed opens reads checks = record {
+    checked began placed opens reads checks cause = record {
       read = Ok (lists_of rows);
       are_read = are;
-      answer = (contents_of texts, gives, known, inr (record { began = began; is_opening = opens; read = Ok placed; reads = reads; answer = checks }));
+      answer = (contents_of texts, gives, known, inr (record { began = began; is_opening = opens; read = Ok placed; reads = reads; answer = (checks, cause) }));
       nothing = tt;
     }
 
@@ -80,6 +81,7 @@ module _ {M : Type 0} (at : AtPaths) (args : VerifyFromArgs) (CopyReads Reads : 
   pub checked_from : (from placed : Placed) → CopyReads (Ok from) old middle → Reads (Ok placed) middle new
       → WhereKnown (at.bytes args.journal.now) (all_known (map (λ (path : Bor (List ℕ)). at.bytes path.now) args.parts.items))
       (λ one parts. ChecksFrom from.0.register from.1 one parts placed.1 placed.0.register result)
+      → IfErr result (FailsSome at args.journal args.parts.items)
       → VerifiesFromAt at args CopyReads Reads result old new
-  checked_from from placed copied reads checks =
-      record { copy = Ok from; middle = middle; copied = copied; unread = tt; answer = (Ok placed, reads, checks) }
+  checked_from from placed copied reads checks cause =
+      record { copy = Ok from; middle = middle; copied = copied; unread = tt; answer = (Ok placed, reads, (checks, cause)) }

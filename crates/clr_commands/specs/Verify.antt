@@ -2,7 +2,9 @@
 -- of the files that the journal began with, or over that of a copy.
 use Rattle.std.specs.Prelude.{◌≡◌, ◌≢◌, ◌⊎◌, ℕ, true, List, [], ◌∷◌, ◌++◌, None, Option, Some}
 use Rattle.std.specs.Prelude.{Result, Ok, Err}
-use Rattle.std.specs.Prelude.{IfSome, OnErr, String, codes, decimal, map, string_bytes}
+use Rattle.std.specs.Prelude.{IfErr, IfSome, IsSomeAnd, OnErr, String, codes, decimal, map}
+use Rattle.std.specs.Prelude.{slice_get, string_bytes}
+use Rattle.std.specs.Borrow.{Bor}
 use Rattle.std.specs.declared.alloc.Global.{Global}
 use Rattle.sqlite.specs.Files.{over_files}
 use Rattle.sqlite.specs.Held.{Held, state}
@@ -27,15 +29,16 @@ use Rattle.clr_edge.specs.declared.fault.Fault.TheVariants.{Journal, Memory, Ver
 use Rattle.clr_edge.specs.declared.fault.JournalFault.TheVariants as why
 use Rattle.clr_edge.specs.declared.fault.VerifyFault.TheVariants.{Differs, Files as OtherFiles}
 use Rattle.clr_edge.specs.declared.fault.VerifyFault.TheVariants.{Reply}
-use Rattle.clr_checking.specs.Checking.{IsChecked, IsCheckedFrom}
+use Rattle.clr_checking.specs.Checking.{IsBadAfter, IsChecked, IsCheckedFrom, IsRefused}
+use Rattle.clr_checking.specs.Checking.{IsRefusedFrom}
 use Rattle.clr_checking.specs.CheckingOn.{CheckedTo, CheckedToFrom}
 use Rattle.clr_checking.specs.declared.checking.Checking.{Checking}
 use Rattle.clr_checking.specs.declared.fault.CheckFault.{CheckFault}
 use Rattle.clr_checking.specs.declared.fault.CheckFault.TheVariants as check
 use Rattle.clr_commands.specs.First.{files_of}
 use Rattle.clr_commands.specs.Import.{AnswersFiles, AreKnown, Contents, FileRows, rows_of}
-use Rattle.clr_commands.specs.Journal.{all_known}
-use Rattle.clr_commands.specs.Parts.{IsOfPart, walked}
+use Rattle.clr_commands.specs.Journal.{FailsAny, all_known}
+use Rattle.clr_commands.specs.Parts.{FailsLater, IsOfPart, walked}
 use Rattle.clr_commands.specs.Paths.{AtPaths}
 use Rattle.clr_commands.specs.Run.{IsOpeningOf, rows_fault}
 use Rattle.clr_commands.specs.Stored.{WhileOpen}
@@ -90,6 +93,28 @@ pub record HasLines (one : List ℕ) (parts : List (List ℕ)) (first : Place)
   pub go_on : GoOn first.id (walked (end_at first) lines).1 parts more
   pub texts_are : texts ≡ lines ++ more
 
+-- the lines of further parts, as far as they were read
+unfoldable pub BeginOn : List ℕ → ChainEnd → List (List ℕ) → List (List ℕ) → Type 0
+BeginOn id end [] texts = texts ≡ []
+BeginOn id end (bytes ∷ rest) texts = (texts ≡ []) ⊎ ((text : List ℕ)
+    × (lines after more : List (List ℕ)) × (next : ChainEnd)
+    × (ended_lines bytes ≡ text ∷ (lines ++ after))
+    × (part_of id end (read_first text) ≡ (true, next)) × (texts ≡ lines ++ more)
+    × ((more ≡ []) ⊎ ((after ≡ []) × BeginOn id (walked next lines).1 rest more)))
+
+-- THE FIRST LINE AND THE LINES AFTER IT, as far as they were read
+pub record BeginsWith (one : List ℕ) (parts : List (List ℕ)) (first : Place)
+    (texts : List (List ℕ)) : Type 0 where
+  pub text : List ℕ
+  pub lines : List (List ℕ)
+  pub after : List (List ℕ)
+  pub more : List (List ℕ)
+  pub lines_are : ended_lines one ≡ text ∷ (lines ++ after)
+  pub read : read_first text ≡ Some first
+  pub texts_are : texts ≡ lines ++ more
+  pub go_on : (more ≡ [])
+      ⊎ ((after ≡ []) × BeginOn first.id (walked (end_at first) lines).1 parts more)
+
 -- THE FIRST LINE IS OF THESE FILES: its number is 0, and its sum of the files and its id
 pub record IsOfFiles (files : Files) (first : Place) : Type 0 where
   pub number : first.number ≡ 0
@@ -113,6 +138,85 @@ of_check check.NoMemory = Memory
 abbrev pub IsOfCheck : Fault → Type 0
 IsOfCheck fault = IsOfPart fault ⊎ (fault ≡ Verify OtherFiles)
     ⊎ ((cause : CheckFault) × (fault ≡ of_check cause))
+
+-- why these lines are refused: the last of them does not hold its sum; or so says their run
+abbrev pub AreRefused : Place → List (List ℕ) → (CheckFault → Type 0) → CheckFault → Type 0
+AreRefused first texts Is cause = Is cause ⊎ ((had : List (List ℕ)) × (text : List ℕ) × (n : ℕ)
+    × (texts ≡ had ++ text ∷ []) × (cause ≡ check.BadLine n) × IsBadAfter first had text n)
+
+-- WHY THERE IS NO YES of a journal: of its lines as far as they were read; of all of them, where one
+-- has no place
+pub record IsNo (one : List ℕ) (parts : List (List ℕ))
+    (Is : Place → List (List ℕ) → CheckFault → Type 0) (fault : Fault) : Type 0 where
+  pub first : Place
+  pub texts : List (List ℕ)
+  pub begins : BeginsWith one parts first texts
+  pub cause : CheckFault
+  pub fault_is : fault ≡ of_check cause
+  pub refused : AreRefused first texts (Is first texts) cause
+  pub whole : cause ≡ check.TooShort → HasLines one parts first texts
+
+-- its first line is not of these files
+pub record IsOfOthers (files : Files) (one : List ℕ) (fault : Fault) : Type 0 where
+  pub first : Place
+  pub text : List ℕ
+  pub lines : List (List ℕ)
+  pub lines_are : ended_lines one ≡ text ∷ lines
+  pub read : read_first text ≡ Some first
+  pub not : IsOfFiles files first → ⊥
+  pub fault_is : fault ≡ Verify OtherFiles
+
+-- THE LINES OF A PART ARE REFUSED, as far as they were read, whatever was checked before them
+pub record RefusesPart (it : Checking) (bytes : List ℕ) (fault : Fault) : Type 0 where
+  pub lines : List (List ℕ)
+  pub after : List (List ℕ)
+  pub all : ended_lines bytes ≡ lines ++ after
+  pub cause : CheckFault
+  pub fault_is : fault ≡ of_check cause
+  pub why : (began : Register) (first place : Place) (R : Register) (texts : List (List ℕ))
+      → CheckedTo began first place R it texts → (cause ≢ check.TooShort)
+      × AreRefused first (texts ++ lines) (IsRefused began first (texts ++ lines) place R) cause
+  pub why_from : (copied : Register) (at first place : Place) (R : Register)
+      (texts : List (List ℕ)) → CheckedToFrom copied at first place R it texts
+      → (cause ≢ check.TooShort) × AreRefused first (texts ++ lines)
+      (IsRefusedFrom copied at first (texts ++ lines) place R) cause
+
+-- they are all lines
+abbrev pub IsWhole : Checking → List (List ℕ) → List (List ℕ) → List (List ℕ) → List (List ℕ)
+    → Type 0
+IsWhole it had after more parts =
+    (after ≡ []) × GoOn it.walk.id (walked it.walk.end had).1 parts more
+
+-- THE LINES OF ALL PARTS ARE REFUSED, as far as they were read
+pub record RefusesAll (it : Checking) (lines parts : List (List ℕ)) (fault : Fault) : Type 0 where
+  pub had : List (List ℕ)
+  pub after : List (List ℕ)
+  pub more : List (List ℕ)
+  pub lines_are : lines ≡ had ++ after
+  pub go_on : (more ≡ []) ⊎ ((after ≡ []) × BeginOn it.walk.id (walked it.walk.end had).1 parts more)
+  pub cause : CheckFault
+  pub fault_is : fault ≡ of_check cause
+  pub why : (began : Register) (first place : Place) (R : Register)
+      → CheckedTo began first place R it [] → (cause ≡ check.TooShort → IsWhole it had after more parts)
+      × AreRefused first (had ++ more) (IsRefused began first (had ++ more) place R) cause
+  pub why_from : (copied : Register) (at first place : Place) (R : Register)
+      → CheckedToFrom copied at first place R it []
+      → (cause ≡ check.TooShort → IsWhole it had after more parts) × AreRefused first (had ++ more)
+      (IsRefusedFrom copied at first (had ++ more) place R) cause
+
+-- why a part, and all parts, were not checked: one was not opened or read, or does not go on; or
+-- their lines are refused
+abbrev pub IsRefusedIn : Checking → Option (List ℕ) → Fault → Type 0
+IsRefusedIn it left fault = IsOfPart fault ⊎ IfSome left (λ bytes. RefusesPart it bytes fault)
+
+abbrev pub IsRefusedBy : Checking → Option (List ℕ) → Option (List (List ℕ)) → Fault → Type 0
+IsRefusedBy it left parts fault = IsOfPart fault
+    ⊎ IfSome left (λ bytes. IfSome parts (λ known. RefusesAll it (ended_lines bytes) known fault))
+
+-- the first line is not of these files, unless memory ran out
+abbrev pub AreOthers : Files → Place → Fault → Type 0
+AreOthers files first fault = (fault ≡ Memory)
+    ⊎ ((fault ≡ Verify OtherFiles) × (IsOfFiles files first → ⊥))
 
 -- ONE STATE OF A CHECK LEADS TO ANOTHER by these lines, whatever was checked before them
 pub record ChecksOn (old new : Checking) (lines : List (List ℕ)) : Type 0 where
@@ -153,7 +257,9 @@ abbrev pub Checks : Files → Register → List ℕ → List (List ℕ) → Plac
     → Result (String Global) Fault → Type 0
 Checks files began one parts place R (Ok text) =
     IsYes files began one parts place R (string_bytes text)
-Checks files began one parts place R (Err fault) = IsOfCheck fault
+Checks files began one parts place R (Err fault) = IsOfPart fault
+    ⊎ IsOfOthers files one fault
+    ⊎ IsNo one parts (λ first texts. IsRefused began first texts place R) fault
 
 -- from a copy, which is at a place too
 pub record IsYesFrom (copied : Register) (at : Place) (one : List ℕ) (parts : List (List ℕ))
@@ -169,7 +275,20 @@ abbrev pub ChecksFrom : Register → Place → List ℕ → List (List ℕ) → 
     → Result (String Global) Fault → Type 0
 ChecksFrom copied at one parts place R (Ok text) =
     IsYesFrom copied at one parts place R (string_bytes text)
-ChecksFrom copied at one parts place R (Err fault) = IsOfCheck fault
+ChecksFrom copied at one parts place R (Err fault) = IsOfPart fault
+    ⊎ IsNo one parts (λ first texts. IsRefusedFrom copied at first texts place R) fault
+
+-- ---- a part that went unread
+
+-- of a fault that says so, the first part or a further one could not be opened, or a read of it
+-- failed
+abbrev pub FailsSome : AtPaths → Bor (List ℕ) → List (Bor (List ℕ)) → Fault → Type 0
+FailsSome at path parts fault = (fault ≡ Journal why.OpenFailed) ⊎ (fault ≡ Journal why.ReadFailed)
+    → at.fails path.now ⊎ ((place : ℕ) × IsSomeAnd (slice_get parts place) (λ it. at.fails it.now))
+
+-- the same of a first part that was opened
+abbrev pub FailsFrom : {F : Type 0} → (F → ℕ) → F → AtPaths → List (Bor (List ℕ)) → Fault → Type 0
+FailsFrom failures source at parts fault = FailsLater failures source fault ⊎ FailsAny at parts fault
 
 -- ---- the subcommand
 
@@ -189,7 +308,8 @@ pub record VerifiesRows {M : Type 0} (at : AtPaths) (args : VerifyArgs) (rows : 
   pub reads : Reads read old new
   pub answer : After read (λ placed told. WhereKnown (at.bytes args.journal.now)
       (all_known (map (λ path. at.bytes path.now) args.parts.items)) (λ one parts.
-      Checks (files_of texts) began one parts placed.1 placed.0.register told)) result
+      Checks (files_of texts) began one parts placed.1 placed.0.register told)
+      × IfErr told (FailsSome at args.journal args.parts.items)) result
 
 abbrev pub VerifiesAt : {M : Type 0} → AtPaths → VerifyArgs
     → (Result Placed Fault → M → M → Type 0) → Result (String Global) Fault → M → M → Type 0
@@ -212,7 +332,8 @@ pub record VerifiesFromAt {M : Type 0} (at : AtPaths) (args : VerifyFromArgs)
   pub answer : After copy (λ from told. (read : Result Placed Fault) × Reads read middle new
       × After read (λ placed said. WhereKnown (at.bytes args.journal.now)
       (all_known (map (λ path. at.bytes path.now) args.parts.items)) (λ one parts.
-      ChecksFrom from.0.register from.1 one parts placed.1 placed.0.register said)) told) result
+      ChecksFrom from.0.register from.1 one parts placed.1 placed.0.register said)
+      × IfErr said (FailsSome at args.journal args.parts.items)) told) result
 
 -- ---- what its yes says
 

@@ -1,5 +1,5 @@
 //! The subcommand `verify`: whether a register is level with its journal.
-ghost use Rattle.std.specs.Prelude.{◌≡◌, ℕ, IfErr, IfOk, IfSome, Ok, OnOk, false, map};
+ghost use Rattle.std.specs.Prelude.{◌≡◌, ◌⊎◌, ℕ, Err, IfErr, IfOk, IfSome, Ok, OnOk, false, map};
 ghost use Rattle.std.specs.Prelude.{string_bytes};
 ghost use Rattle.clr_append.specs.Lines.{ended_lines};
 ghost use Rattle.clr_rules.specs.Good.{IsGood};
@@ -7,14 +7,17 @@ ghost use Rattle.clr_commands.specs.Faults.{IsOfSubcommand};
 ghost use Rattle.clr_commands.specs.First.{files_of};
 ghost use Rattle.clr_commands.specs.Import.{contents_of};
 ghost use Rattle.clr_commands.specs.Journal.{all_known};
-ghost use Rattle.clr_commands.specs.Parts.{left_in};
+ghost use Rattle.clr_commands.specs.Parts.{FailsLater, left_in};
 ghost use Rattle.clr_commands.specs.Paths.{at_paths};
-ghost use Rattle.clr_commands.specs.Verify.{Checks, ChecksAll, ChecksFrom, ChecksOn, IsOfCheck};
-ghost use Rattle.clr_commands.specs.Verify.{IsOfFiles, IsPlacedRead, ReadsPlaced, VerifiesAt};
+ghost use Rattle.clr_commands.specs.Verify.{AreOthers, Checks, ChecksAll, ChecksFrom, ChecksOn};
+ghost use Rattle.clr_commands.specs.Verify.{FailsFrom, FailsSome};
+ghost use Rattle.clr_commands.specs.Verify.{IsOfCheck, IsOfFiles, IsPlacedRead, IsRefusedBy};
+ghost use Rattle.clr_commands.specs.Verify.{IsRefusedIn, ReadsPlaced, VerifiesAt};
 ghost use Rattle.clr_commands.specs.Verify.{VerifiesFromAt, of_check, verified_text};
 ghost use Rattle.clr_edge.specs.TakenUp.{IsOfTakingUp};
 ghost use Rattle.clr_edge.specs.Visit.{Comes};
 ghost use Rattle.clr_checking.specs.CheckingOn.{IsReady};
+ghost use Rattle.clr_checking.specs.declared.fault.CheckFault.{CheckFault as AnyFault};
 
 use crate::import::{Texts, rows_and_texts_at};
 use crate::parts::{Part, first_part, opened_part};
@@ -152,6 +155,9 @@ fn check_over<'a, O: Opens<'a>>(
         IfSome (all_known (map (λ path. O.bytes_at paths.now path.now) parts.now)) (λ more.
         Checks (files_of (contents_of texts.now)) began.book.register one more place
         book.now.register result)) }
+    ensures unread { IfErr result (FailsSome
+        (at_paths O.File.remaining O.File.failure_count (O.bytes_at paths.now)) path.entry
+        parts.now) }
     ensures fault { IfErr result IsOfCheck }
 {
     let (part, first) = first_part(alloc, paths, path)?;
@@ -177,6 +183,9 @@ fn check_from<'a, O: Opens<'a>>(
     ensures checked { IfSome (O.bytes_at paths.now path.entry.now) (λ one.
         IfSome (all_known (map (λ path. O.bytes_at paths.now path.now) parts.now)) (λ more.
         ChecksFrom began.book.register from one more place book.now.register result)) }
+    ensures unread { IfErr result (FailsSome
+        (at_paths O.File.remaining O.File.failure_count (O.bytes_at paths.now)) path.entry
+        parts.now) }
     ensures fault { IfErr result IsOfCheck }
 {
     let (part, first) = first_part(alloc, paths, path)?;
@@ -189,6 +198,7 @@ fn check_from<'a, O: Opens<'a>>(
 /// Refuses a first line that is not of these files.
 fn expect_files(alloc: Global, texts: &Texts, first: &Place) -> Result<(), Fault>
     ensures of_files { OnOk result (IsOfFiles (files_of (contents_of texts.now)) first.now) }
+    ensures others { IfErr result (AreOthers (files_of (contents_of texts.now)) first.now) }
     ensures fault { IfErr result IsOfCheck }
 {
     let sum = first_sum(
@@ -217,6 +227,10 @@ fn check_all<'a, O: Opens<'a>>(
     ensures checked { IfOk result (λ text. IfSome (left_in O.File.remaining part) (λ bytes.
         IfSome (all_known (map (λ path. O.bytes_at paths.now path.now) parts.now)) (λ known.
         ChecksAll checking.entry (ended_lines bytes) known (string_bytes text)))) }
+    ensures refused { IfErr result (IsRefusedBy checking.entry (left_in O.File.remaining part)
+        (all_known (map (λ path. O.bytes_at paths.now path.now) parts.now))) }
+    ensures unread { IfErr result (FailsFrom O.File.failure_count part.source
+        (at_paths O.File.remaining O.File.failure_count (O.bytes_at paths.now)) parts.now) }
     ensures fault { IfErr result IsOfCheck }
 {
     let mut checking = check_part(alloc, checking, part)?;
@@ -241,6 +255,8 @@ fn check_part<'b, S: Source + Drop>(
     ensures id { IfOk result (λ checked. checked.walk.id ≡ checking.entry.walk.id) }
     ensures checked { IfOk result (λ checked. IfSome (left_in S.remaining part) (λ bytes.
         ChecksOn checking.entry checked (ended_lines bytes))) }
+    ensures refused { IfErr result (IsRefusedIn checking.entry (left_in S.remaining part)) }
+    ensures unread { IfErr result (FailsLater S.failure_count part.source) }
     ensures fault { IfErr result IsOfCheck }
 {
     let mut checking = checking;
@@ -260,6 +276,8 @@ fn check_part<'b, S: Source + Drop>(
 fn said(alloc: Global, checked: Result<usize, CheckFault>) -> Result<String, Fault>
     ensures yes { IfOk result (λ text. (count : ℕ) × (checked ≡ Ok count)
         × (string_bytes text ≡ verified_text count)) }
+    ensures no { IfErr result (λ fault. (fault ≡ Fault.Memory)
+        ⊎ ((cause : AnyFault) × (checked ≡ Err cause) × (fault ≡ of_check cause))) }
     ensures fault { IfErr result IsOfCheck }
 {
     match checked {

@@ -1,12 +1,18 @@
-use Rattle.std.proofs.Common.{inl, inr, refl, subst, ℕ}
+use Rattle.std.proofs.Common.{◌∙◌, inl, inr, refl, subst, sym, ℕ}
 use Rattle.std.specs.Prelude.{IfSome, None, Option, Some, Vec}
 use Rattle.std.specs.declared.alloc.Global.{Global}
-use Rattle.clr_commands.specs.Parts.{ReadsLine, left_in}
+use Rattle.clr_edge.specs.declared.fault.Fault.{Fault}
+use Rattle.clr_edge.specs.declared.fault.Fault.TheVariants.{Journal}
+use Rattle.clr_edge.specs.declared.fault.JournalFault.TheVariants.{TooLong}
+use Rattle.clr_commands.specs.Parts.{FailsLater, ReadsLine, left_in}
+use Rattle.clr_commands.specs.Verify.{IsRefusedIn}
+use Rattle.clr_commands.proofs.PartLines.{later_from, long-later, passed_on}
+use Rattle.clr_commands.proofs.RefusedParts.{check_read, line_refused}
 use Rattle.clr_commands.proofs.CheckedParts.{lines_all, lines_none, lines_seen, passed_check}
 use Rattle.clr_commands.proofs.verify.check_part.Goals as goal
 
 pub lines-init : goal.lines-init
-lines-init g c = lines_none (left_in g.S.Read.remaining c.args.part) c.args.checking c.requires
+lines-init g c = (lines_none (left_in g.S.Read.remaining c.args.part) c.args.checking c.requires, refl)
 
 -- one more was checked
 pub lines-preserved : goal.lines-preserved
@@ -15,23 +21,25 @@ lines-preserved g c =
     let next = left_in g.S.Read.remaining c.line.new.self in
     let reads : IfSome left (ReadsLine (Some c.in-Some.line) next) =
     subst (λ (o : Option (Vec ℕ Global)). IfSome left (ReadsLine o next)) c.in-Some.is c.in_ok-line.ensures.line in
-    let seen = c.in_default-line in
-    lines_seen (left_in g.S.Read.remaining c.args.part) left next c.args.checking c.lines.checking c.line-in-lines.new.self c.in-Some.line c.deref.result.now
-    c.deref.ensures.value c.lines.invariant reads seen.ensures.ready seen.ensures.went seen.ensures.went_from seen.ensures.end c.line-in-lines.ensures.id
+    let seen = c.in_default-line in (
+      lines_seen (left_in g.S.Read.remaining c.args.part) left next c.args.checking c.lines.checking c.line-in-lines.new.self c.in-Some.line c.deref.result.now
+          c.deref.ensures.value c.lines.invariant.0 reads seen.ensures.ready seen.ensures.went seen.ensures.went_from seen.ensures.end c.line-in-lines.ensures.id,
+      c.in_ok-line.ensures.kept ∙ c.lines.invariant.1,
+    )
 
 -- none is left
 pub returns-in_default-clause-ready : goal.returns-in_default-clause-ready
-returns-in_default-clause-ready g c = c.lines.invariant.ready
+returns-in_default-clause-ready g c = c.lines.invariant.0.ready
 
 pub returns-in_default-clause-id : goal.returns-in_default-clause-id
-returns-in_default-clause-id g c = c.lines.invariant.id
+returns-in_default-clause-id g c = c.lines.invariant.0.id
 
 pub returns-in_default-clause-checked : goal.returns-in_default-clause-checked
 returns-in_default-clause-checked g c =
     let left = left_in g.S.Read.remaining c.lines.part in
     let next = left_in g.S.Read.remaining c.line.new.self in
     let reads : IfSome left (ReadsLine None next) = subst (λ (o : Option (Vec ℕ Global)). IfSome left (ReadsLine o next)) c.in_default.is c.in_ok-line.ensures.line in
-    lines_all (left_in g.S.Read.remaining c.args.part) left next c.args.checking c.lines.checking c.lines.invariant reads
+    lines_all (left_in g.S.Read.remaining c.args.part) left next c.args.checking c.lines.checking c.lines.invariant.0 reads
 
 -- a line was not read, or did not hold
 pub returns-in_err-line-clause-fault : goal.returns-in_err-line-clause-fault
@@ -40,6 +48,36 @@ returns-in_err-line-clause-fault g c = passed_check _ _ c.from_residual.ensures.
 pub returns-in-Err-clause-fault : goal.returns-in-Err-clause-fault
 returns-in-Err-clause-fault g c = inr (inr (c.in-Err.fault, c.of_check.ensures))
 
+pub returns-in_err-line-clause-refused : goal.returns-in_err-line-clause-refused
+returns-in_err-line-clause-refused g c =
+    passed_on _ _ (IsRefusedIn c.args.checking (left_in g.S.Read.remaining c.args.part)) c.from_residual.ensures.1 (inl c.in_err-line.ensures.fault)
+
+pub returns-in-Err-clause-refused : goal.returns-in-Err-clause-refused
+returns-in-Err-clause-refused g c =
+    let all = left_in g.S.Read.remaining c.args.part in
+    let left = left_in g.S.Read.remaining c.lines.part in
+    let next = left_in g.S.Read.remaining c.line.new.self in
+    let reads : IfSome left (ReadsLine (Some c.in-Some.line) next) =
+    subst (λ (o : Option (Vec ℕ Global)). IfSome left (ReadsLine o next)) c.in-Some.is c.in_ok-line.ensures.line in
+    subst (λ (f : Fault). IsRefusedIn c.args.checking all f) (sym c.of_check.ensures)
+    (line_refused all left next c.args.checking c.lines.checking c.in-Some.line c.deref.result.now c.deref.ensures.value c.lines.invariant.0 reads c.in-Err.fault
+    c.in-Err.ensures.refused c.in-Err.ensures.refused_from)
+
 -- there are too many
+pub returns-clause-refused : goal.returns-clause-refused
+returns-clause-refused g c = inl (inr (inr (inr (inl refl))))
+
 pub returns-clause-fault : goal.returns-clause-fault
 returns-clause-fault g c = inl (inr (inr (inr (inl refl))))
+
+-- why it was not read
+pub returns-in_err-line-clause-unread : goal.returns-in_err-line-clause-unread
+returns-in_err-line-clause-unread g c =
+    passed_on _ _ (FailsLater g.S.CountedRead.failure_count c.args.part.source) c.from_residual.ensures.1
+    (later_from g.S.CountedRead.failure_count c.lines.part.source c.args.part.source _ c.lines.invariant.1 c.in_err-line.ensures.unread)
+
+pub returns-in-Err-clause-unread : goal.returns-in-Err-clause-unread
+returns-in-Err-clause-unread g c = check_read g.S.CountedRead.failure_count c.args.part.source c.in-Err.fault c.of_check.result c.of_check.ensures
+
+pub returns-clause-unread : goal.returns-clause-unread
+returns-clause-unread g c = long-later g.S.CountedRead.failure_count c.args.part.source (Journal TooLong) refl

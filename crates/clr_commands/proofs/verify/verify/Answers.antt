@@ -1,10 +1,12 @@
 use Rattle.std.proofs.Common.{◌≡◌, List, map, refl, rules, subst, ℕ}
 use Rattle.std.specs.Borrow.{Bor}
+use Rattle.std.specs.Prelude.{IfErr}
 use Rattle.clr_rules.proofs.keeps.EveryKind.{reached_are_good}
 use Rattle.clr_commands.specs.First.{files_of}
 use Rattle.clr_commands.specs.Import.{contents_of}
 use Rattle.clr_commands.specs.Journal.{all_known}
-use Rattle.clr_commands.specs.Verify.{Checks, IsOfCheck, WhereKnown}
+use Rattle.clr_commands.specs.Paths.{at_paths}
+use Rattle.clr_commands.specs.Verify.{Checks, FailsSome, IsOfCheck, WhereKnown}
 use Rattle.clr_commands.proofs.Faults.{any_file_plain, check_plain, each_plain, passed, taking_up_plain}
 use Rattle.clr_commands.proofs.VerifiedFiles.{checked, unmade, unplaced, unread}
 use Rattle.clr_commands.proofs.verify.verify.Goals as goal
@@ -22,6 +24,8 @@ returns-clause-visit g c =
     (λ (l : List (Bor (List ℕ))). WhereKnown (g.O.Opens.bytes_at c.args.paths.now c.args.args.now.journal.now) (all_known (map (λ (path : Bor (List ℕ)). g.O.Opens.bytes_at c.args.paths.now path.now) l))
     (λ one parts. Checks (files_of (contents_of c.in_ok-rows.texts)) c.in_ok-began.began.book.register one parts c.in_ok-book.place c.in_ok-book.book.register c.check_over.result))
     same c.check_over.ensures.checked)
+    (subst (λ (l : List (Bor (List ℕ))). IfErr c.check_over.result (FailsSome
+    (at_paths g.O.File.Read.remaining g.O.File.CountedRead.failure_count (g.O.Opens.bytes_at c.args.paths.now)) c.args.args.now.journal l)) same c.check_over.ensures.unread)
 
 pub returns-clause-faults : goal.returns-clause-faults
 returns-clause-faults g c = each_plain c.check_over.result (λ fault. IsOfCheck fault) check_plain c.check_over.ensures.fault

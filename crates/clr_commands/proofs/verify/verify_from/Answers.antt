@@ -1,10 +1,12 @@
 use Rattle.std.proofs.Common.{◌≡◌, ap, List, map, refl, rules, subst, sym, ℕ}
 use Rattle.std.specs.Borrow.{Bor}
+use Rattle.std.specs.Prelude.{IfErr}
 use Rattle.clr_book.specs.Book.{Shelved}
 use Rattle.clr_rules.specs.Good.{IsGood}
 use Rattle.clr_rules.specs.Register.{Register}
 use Rattle.clr_commands.specs.Journal.{all_known}
-use Rattle.clr_commands.specs.Verify.{ChecksFrom, IsOfCheck, WhereKnown}
+use Rattle.clr_commands.specs.Paths.{at_paths}
+use Rattle.clr_commands.specs.Verify.{ChecksFrom, FailsSome, IsOfCheck, WhereKnown}
 use Rattle.clr_commands.proofs.Faults.{check_plain, each_plain, passed, taking_up_plain}
 use Rattle.clr_commands.proofs.VerifiedFiles.{checked_from, uncopied, unplaced_from}
 use Rattle.clr_commands.proofs.verify.verify_from.Goals as goal
@@ -29,6 +31,8 @@ returns-clause-visit g c =
     (λ (l : List (Bor (List ℕ))). WhereKnown (g.O.Opens.bytes_at c.args.paths.now c.args.args.now.journal.now) (all_known (map (λ (path : Bor (List ℕ)). g.O.Opens.bytes_at c.args.paths.now path.now) l))
     (λ one parts. ChecksFrom c.of-began.result.book.register c.in_ok-copied.from one parts c.in_ok-book.place c.in_ok-book.book.register c.check_from.result))
     same c.check_from.ensures.checked))
+    (subst (λ (l : List (Bor (List ℕ))). IfErr c.check_from.result (FailsSome
+    (at_paths g.O.File.Read.remaining g.O.File.CountedRead.failure_count (g.O.Opens.bytes_at c.args.paths.now)) c.args.args.now.journal l)) same c.check_from.ensures.unread)
 
 pub returns-clause-faults : goal.returns-clause-faults
 returns-clause-faults g c = each_plain c.check_from.result (λ fault. IsOfCheck fault) check_plain c.check_from.ensures.fault

@@ -1,0 +1,513 @@
+-- Why a register was not found to be what its journal says, part by part.
+use Rattle.std.proofs.Common.{◌≡◌, ◌≢◌, ◌∙◌, ◌⊎◌, ap, inl, inr, refl, subst, sym, ℕ, true, List, [], ◌∷◌, ◌++◌, append_assoc, append-nil, Result, Ok, Err}
+use Rattle.std.specs.Borrow.{Bor}
+use Rattle.std.specs.Prelude.{IfErr, IfOk, IfSome, IsErrAnd, None, Option, Some, String, Vec, string_bytes}
+use Rattle.std.specs.declared.alloc.Global.{Global}
+use Rattle.clr_append.specs.Lines.{ended_lines}
+use Rattle.clr_rules.specs.Register.{Register}
+use Rattle.clr_chain.specs.Chain.{read_on}
+use Rattle.clr_chain.specs.First.{end_at, read_first}
+use Rattle.clr_chain.specs.Walking.{part_of}
+use Rattle.clr_chain.specs.Sums.{Files}
+use Rattle.clr_chain.specs.declared.chain_end.ChainEnd.{ChainEnd}
+use Rattle.clr_journal.specs.Line.{Entry}
+use Rattle.clr_place.specs.declared.place.Place.{Place}
+use Rattle.clr_edge.specs.declared.fault.Fault.{Fault}
+use Rattle.clr_edge.specs.declared.fault.Fault.TheVariants.{Journal, Memory, Verify}
+use Rattle.clr_edge.specs.declared.fault.JournalFault.TheVariants.{OpenFailed, ReadFailed}
+use Rattle.clr_edge.specs.declared.fault.VerifyFault.TheVariants.{Files as OtherFiles}
+use Rattle.clr_checking.specs.Checking.{AreLines, IsBadAfter, IsRefused, IsRefusedFrom, Refuses, RefusesCopy, RefusesFrom, RefusesLine, RefusesOfCopy, RefusesRun}
+use Rattle.clr_checking.specs.CheckingOn.{CheckedTo, CheckedToFrom, GoesOver}
+use Rattle.clr_checking.specs.declared.checking.Checking.{Checking}
+use Rattle.clr_checking.specs.declared.fault.CheckFault.{CheckFault}
+use Rattle.clr_checking.specs.declared.fault.CheckFault.TheVariants.{BadLine, Differs, NoMemory, OtherRegister, Reply, Tables, TooShort}
+use Rattle.clr_commands.specs.Journal.{FailsAny, all_known}
+use Rattle.clr_commands.specs.Parts.{FailsLater, FirstIs, IsOfPart, IsOpened, ReadsLine, walked}
+use Rattle.clr_commands.specs.Paths.{AtPaths, at_paths}
+use Rattle.clr_commands.specs.Verify.{AreOthers, AreRefused, BeginOn, BeginsWith, Checks, ChecksAll, ChecksFrom, FailsFrom, FailsSome, GoOn, HasLines, IsNo, IsOfFiles, IsRefusedBy, IsRefusedIn, IsWhole, RefusesAll, RefusesPart, of_check}
+use Rattle.clr_commands.proofs.CheckedParts.{CheckedLines, CheckedParts, Known, begin_on-none, begin_on-part, begins_at, checks_yes, checks_yes_from, go_on-none}
+use Rattle.clr_commands.proofs.PartLines.{before-more, before-some, known-next, later-part}
+
+-- ---- a line
+
+-- what a check says of a line that it refuses
+abbrev pub RefusesText : Checking → List ℕ → CheckFault → Type 0
+RefusesText it text cause = (began : Register) (first place : Place) (R : Register) (texts : List (List ℕ)) → CheckedTo began first place R it texts
+    → Refuses began first texts text place R cause
+
+abbrev pub RefusesTextFrom : Checking → List ℕ → CheckFault → Type 0
+RefusesTextFrom it text cause = (copied : Register) (at first place : Place) (R : Register) (texts : List (List ℕ))
+    → CheckedToFrom copied at first place R it texts → RefusesOfCopy copied at first texts text place R cause
+
+-- with that line they have no yes, where memory did not run out
+abbrev IsNotMemory : CheckFault → Type 0
+IsNotMemory cause = cause ≡ NoMemory → ⊥
+
+as_refused : (first : Place) (texts : List (List ℕ)) (text : List ℕ) (Is : CheckFault → Type 0) (cause : CheckFault) → IsNotMemory cause
+    → RefusesLine first texts text Is cause → (cause ≢ TooShort) × AreRefused first (texts ++ text ∷ []) Is cause
+as_refused first texts text Is OtherRegister other is = (λ same. cc same, inl is)
+as_refused first texts text Is (BadLine n) other is = (λ same. cc same, inr (texts, text, n, refl, refl, is))
+as_refused first texts text Is (Reply n) other is = (λ same. cc same, inl is)
+as_refused first texts text Is (Differs n) other is = (λ same. cc same, inl is)
+as_refused first texts text Is (Tables found) other is = (λ same. cc same, inl is)
+as_refused first texts text Is TooShort other is = absurd is
+as_refused first texts text Is NoMemory other is = absurd (other refl)
+
+module _ (left now next : Option (List ℕ)) (old it : Checking) (text : Vec ℕ Global) (seen : List ℕ) (same : seen ≡ text.items) (had : CheckedLines left now old it)
+    (reads : IfSome now (ReadsLine (Some text) next)) where
+  to_more : (Is : List (List ℕ) → CheckFault → Type 0) (first : Place) (texts : List (List ℕ)) (cause : CheckFault)
+      → (cause ≢ TooShort) × AreRefused first ((texts ++ had.lines) ++ seen ∷ []) (Is ((texts ++ had.lines) ++ seen ∷ [])) cause
+      → (cause ≢ TooShort) × AreRefused first (texts ++ (had.lines ++ text.items ∷ [])) (Is (texts ++ (had.lines ++ text.items ∷ []))) cause
+  to_more Is first texts cause is =
+      subst (λ (l : List (List ℕ)). (cause ≢ TooShort) × AreRefused first l (Is l) cause)
+      (ap (λ (t : List ℕ). (texts ++ had.lines) ++ t ∷ []) same ∙ append_assoc texts had.lines (text.items ∷ [])) is
+
+  line_kept : (cause : CheckFault) → IsNotMemory cause → RefusesText it seen cause → RefusesTextFrom it seen cause
+      → IfSome left (λ bytes. RefusesPart old bytes (of_check cause))
+  line_kept cause other why why_from = by left (before-some left next (had.lines ++ text.items ∷ []) (before-more left now next had.lines text had.before reads))
+    where
+      by : (file : Option (List ℕ)) → IfSome file (λ bytes. (rest : List (List ℕ)) × (ended_lines bytes ≡ (had.lines ++ text.items ∷ []) ++ rest))
+          → IfSome file (λ bytes. RefusesPart old bytes (of_check cause))
+      by None is = tt
+      by (Some bytes) (rest, is) = record {
+        lines = had.lines ++ text.items ∷ [];
+        after = rest;
+        all = is;
+        cause = cause;
+        fault_is = refl;
+        why = λ began first place R texts to.
+            to_more (λ l. IsRefused began first l place R) first texts cause
+            (as_refused first (texts ++ had.lines) seen (IsRefused began first ((texts ++ had.lines) ++ seen ∷ []) place R) cause other
+            (why began first place R (texts ++ had.lines) (had.checked.went began first place R texts to)));
+        why_from = λ copied at first place R texts to.
+            to_more (λ l. IsRefusedFrom copied at first l place R) first texts cause
+            (as_refused first (texts ++ had.lines) seen (IsRefusedFrom copied at first ((texts ++ had.lines) ++ seen ∷ []) place R) cause other
+            (why_from copied at first place R (texts ++ had.lines) (had.checked.went_from copied at first place R texts to)));
+      }
+
+  pub line_refused : (cause : CheckFault) → RefusesText it seen cause → RefusesTextFrom it seen cause
+      → IsOfPart (of_check cause) ⊎ IfSome left (λ bytes. RefusesPart old bytes (of_check cause))
+  line_refused OtherRegister why why_from = inr (line_kept OtherRegister (λ is. cc is) why why_from)
+  line_refused (BadLine n) why why_from = inr (line_kept (BadLine n) (λ is. cc is) why why_from)
+  line_refused (Reply n) why why_from = inr (line_kept (Reply n) (λ is. cc is) why why_from)
+  line_refused (Differs n) why why_from = inr (line_kept (Differs n) (λ is. cc is) why why_from)
+  line_refused (Tables found) why why_from = inr (line_kept (Tables found) (λ is. cc is) why why_from)
+  line_refused TooShort why why_from = inr (line_kept TooShort (λ is. cc is) why why_from)
+  line_refused NoMemory why why_from = inl (inl refl)
+
+-- ---- the first line of a further part
+
+pub part_stops : (cause : CheckFault) (number : ℕ) (B : Type 0) → (cause ≡ NoMemory) ⊎ ((cause ≡ BadLine number) × B) → IsOfPart (of_check cause)
+part_stops cause number B (inl is) = inl (ap of_check is)
+part_stops cause number B (inr is) = inr (inr (inr (inr (number, ap of_check is.0))))
+
+-- ---- all parts
+
+module _ (first : Option (List ℕ)) (all left : Option (List (List ℕ))) (old it : Checking) (had : CheckedParts first all left old it) where
+  -- a line of a further part is refused
+  pub part_refused : (bytes : Option (List ℕ)) (others : List (Option (List ℕ))) (line : Vec ℕ Global) (now : Option (List ℕ)) (begun : Checking) (fault : Fault)
+      → left ≡ all_known (bytes ∷ others) → IfSome bytes (ReadsLine (Some line) now)
+      → (true, begun.walk.end) ≡ part_of it.walk.id it.walk.end (read_first line.items)
+      → ((began : Register) (place : Place) (to : Place) (R : Register) (texts : List (List ℕ)) → CheckedTo began place to R it texts → CheckedTo began place to R begun texts)
+      → ((copied : Register) (at place to : Place) (R : Register) (texts : List (List ℕ)) → CheckedToFrom copied at place to R it texts → CheckedToFrom copied at place to R begun texts)
+      → IfSome now (λ known. RefusesPart begun known fault)
+      → IfSome first (λ known. IfSome all (λ parts. RefusesAll old (ended_lines known) parts fault))
+  part_refused bytes others line now begun fault is_left reads part went went_from refused = by first all had.known
+    where
+      goes : (one : List ℕ) (after : Option (List ℕ)) → ReadsLine (Some line) after one → IfSome after (λ known. RefusesPart begun known fault)
+          → (known : List ℕ) × (ended_lines one ≡ line.items ∷ ended_lines known) × RefusesPart begun known fault
+      goes one None read is = absurd read
+      goes one (Some after) read is = (after, read, is)
+
+      part_is : part_of old.walk.id it.walk.end (read_first line.items) ≡ (true, begun.walk.end)
+      part_is = sym (subst (λ (i : List ℕ). (true, begun.walk.end) ≡ part_of i it.walk.end (read_first line.items)) had.id part)
+
+      by : (file : Option (List ℕ)) (found : Option (List (List ℕ))) → IfSome file (λ known. IfSome found (λ parts. Known (ended_lines known) parts left old it))
+          → IfSome file (λ known. IfSome found (λ parts. RefusesAll old (ended_lines known) parts fault))
+      by None found is = tt
+      by (Some file) None is = tt
+      by (Some file) (Some parts) (rest, more, is_rest, go, begin, to, to_from) =
+          let (one, after, has, is_after, next) = known-next bytes others rest (sym is_left ∙ is_rest) in
+          let read : ReadsLine (Some line) now one = subst (λ (b : Option (List ℕ)). IfSome b (ReadsLine (Some line) now)) has reads in
+          let (known, lines_are, is) = goes one now read refused in
+          let front : BeginOn old.walk.id it.walk.end (one ∷ after) is.lines =
+          begin_on-part old.walk.id it.walk.end begun.walk.end one line.items after is.lines is.after
+          (lines_are ∙ ap (λ (l : List (List ℕ)). line.items ∷ l) is.all) part_is in
+          record {
+            had = ended_lines file;
+            after = [];
+            more = more ++ is.lines;
+            lines_are = sym (append-nil (ended_lines file));
+            go_on = inr (refl, begin is.lines (subst (λ (l : List (List ℕ)). BeginOn old.walk.id it.walk.end l is.lines) (sym next) front));
+            cause = is.cause;
+            fault_is = is.fault_is;
+            why = λ began place R S was.
+                let no = is.why began place R S (ended_lines file ++ more) (went began place R S (ended_lines file ++ more) (to began place R S was)) in (
+                  λ short. absurd (no.0 short),
+                  subst (λ (l : List (List ℕ)). AreRefused place l (IsRefused began place l R S) is.cause) (append_assoc (ended_lines file) more is.lines) no.1,
+                );
+            why_from = λ copied at place R S was.
+                let no = is.why_from copied at place R S (ended_lines file ++ more) (went_from copied at place R S (ended_lines file ++ more) (to_from copied at place R S was)) in (
+                  λ short. absurd (no.0 short),
+                  subst (λ (l : List (List ℕ)). AreRefused place l (IsRefusedFrom copied at place l R S) is.cause) (append_assoc (ended_lines file) more is.lines) no.1,
+                );
+          }
+
+  -- all were read, and there is no yes
+  end_refused : (cause : CheckFault) → IsNotMemory cause → left ≡ Some []
+      → ((began : Register) (place to : Place) (R : Register) (texts : List (List ℕ)) → CheckedTo began place to R it texts → IsRefused began place texts to R cause)
+      → ((copied : Register) (at place to : Place) (R : Register) (texts : List (List ℕ)) → CheckedToFrom copied at place to R it texts
+      → IsRefusedFrom copied at place texts to R cause)
+      → IfSome first (λ known. IfSome all (λ parts. RefusesAll old (ended_lines known) parts (of_check cause)))
+  end_refused cause other none why why_from = by first all had.known
+    where
+      by : (file : Option (List ℕ)) (found : Option (List (List ℕ))) → IfSome file (λ known. IfSome found (λ parts. Known (ended_lines known) parts left old it))
+          → IfSome file (λ known. IfSome found (λ parts. RefusesAll old (ended_lines known) parts (of_check cause)))
+      by None found known = tt
+      by (Some file) None known = tt
+      by (Some file) (Some parts) (rest, more, is_rest, go, begin, to, to_from) =
+          let empty : rest ≡ [] = cc (sym none ∙ is_rest) in
+          let all_read : IsWhole old (ended_lines file) [] more parts = (
+            refl,
+            subst (λ (l : List (List ℕ)). GoOn old.walk.id (walked old.walk.end (ended_lines file)).1 parts l) (append-nil more)
+                (go [] (subst (λ (l : List (List ℕ)). GoOn old.walk.id it.walk.end l []) (sym empty) (go_on-none old.walk.id it.walk.end))),
+          ) in
+          record {
+            had = ended_lines file;
+            after = [];
+            more = more;
+            lines_are = sym (append-nil (ended_lines file));
+            go_on = inr (
+              refl,
+              subst (λ (l : List (List ℕ)). BeginOn old.walk.id (walked old.walk.end (ended_lines file)).1 parts l) (append-nil more)
+                  (begin [] (begin_on-none old.walk.id it.walk.end rest)),
+            );
+            cause = cause;
+            fault_is = refl;
+            why = λ began place R S was. (λ short. all_read, inl (why began place R S (ended_lines file ++ more) (to began place R S was)));
+            why_from = λ copied at place R S was. (λ short. all_read, inl (why_from copied at place R S (ended_lines file ++ more) (to_from copied at place R S was)));
+          }
+
+  pub all_refused : (cause : CheckFault) → left ≡ Some []
+      → ((began : Register) (place to : Place) (R : Register) (texts : List (List ℕ)) → CheckedTo began place to R it texts → IsRefused began place texts to R cause)
+      → ((copied : Register) (at place to : Place) (R : Register) (texts : List (List ℕ)) → CheckedToFrom copied at place to R it texts
+      → IsRefusedFrom copied at place texts to R cause)
+      → IsOfPart (of_check cause) ⊎ IfSome first (λ known. IfSome all (λ parts. RefusesAll old (ended_lines known) parts (of_check cause)))
+  all_refused OtherRegister none why why_from = inr (end_refused OtherRegister (λ is. cc is) none why why_from)
+  all_refused (BadLine n) none why why_from = inr (end_refused (BadLine n) (λ is. cc is) none why why_from)
+  all_refused (Reply n) none why why_from = inr (end_refused (Reply n) (λ is. cc is) none why why_from)
+  all_refused (Differs n) none why why_from = inr (end_refused (Differs n) (λ is. cc is) none why why_from)
+  all_refused (Tables found) none why why_from = inr (end_refused (Tables found) (λ is. cc is) none why why_from)
+  all_refused TooShort none why why_from = inr (end_refused TooShort (λ is. cc is) none why why_from)
+  all_refused NoMemory none why why_from = inl (inl refl)
+
+  -- and that is said
+  pub said_refused : (checked : Result ℕ CheckFault) (fault : Fault) → left ≡ Some []
+      → (fault ≡ Memory) ⊎ ((cause : CheckFault) × (checked ≡ Err cause) × (fault ≡ of_check cause))
+      → IfErr checked (λ cause. (began : Register) (place to : Place) (R : Register) (texts : List (List ℕ)) → CheckedTo began place to R it texts
+      → IsRefused began place texts to R cause)
+      → IfErr checked (λ cause. (copied : Register) (at place to : Place) (R : Register) (texts : List (List ℕ)) → CheckedToFrom copied at place to R it texts
+      → IsRefusedFrom copied at place texts to R cause)
+      → IsRefusedBy old first all fault
+  said_refused checked fault none (inl memory) why why_from = inl (inl memory)
+  said_refused checked fault none (inr (cause, is, same)) why why_from =
+      subst (λ (f : Fault). IsRefusedBy old first all f) (sym same)
+      (all_refused cause none
+      (subst (λ (r : Result ℕ CheckFault). IfErr r (λ c. (began : Register) (place to : Place) (R : Register) (texts : List (List ℕ)) → CheckedTo began place to R it texts
+      → IsRefused began place texts to R c)) is why)
+      (subst (λ (r : Result ℕ CheckFault). IfErr r (λ c. (copied : Register) (at place to : Place) (R : Register) (texts : List (List ℕ)) → CheckedToFrom copied at place to R it texts
+      → IsRefusedFrom copied at place texts to R c)) is why_from))
+
+-- a line of the first part is refused
+pub first_refused : (first : Option (List ℕ)) (all : Option (List (List ℕ))) (it : Checking) (fault : Fault) → IfSome first (λ known. RefusesPart it known fault)
+    → IfSome first (λ known. IfSome all (λ parts. RefusesAll it (ended_lines known) parts fault))
+first_refused None all it fault is = tt
+first_refused (Some file) None it fault is = tt
+first_refused (Some file) (Some parts) it fault is = record {
+  had = is.lines;
+  after = is.after;
+  more = [];
+  lines_are = is.all;
+  go_on = inl refl;
+  cause = is.cause;
+  fault_is = is.fault_is;
+  why = λ began place R S was.
+      let no = is.why began place R S [] was in (
+        λ short. absurd (no.0 short),
+        subst (λ (l : List (List ℕ)). AreRefused place l (IsRefused began place l R S) is.cause) (sym (append-nil is.lines)) no.1,
+      );
+  why_from = λ copied at place R S was.
+      let no = is.why_from copied at place R S [] was in (
+        λ short. absurd (no.0 short),
+        subst (λ (l : List (List ℕ)). AreRefused place l (IsRefusedFrom copied at place l R S) is.cause) (sym (append-nil is.lines)) no.1,
+      );
+}
+
+-- what is passed on
+pub if_err : {T : Type 0} (result : Result T Fault) {P Q : Fault → Type 0} → ((fault : Fault) → P fault → Q fault) → IfErr result P → IfErr result Q
+if_err (Ok value) then holds = tt
+if_err (Err fault) then holds = then fault holds
+
+pub first_by : (first : Option (List ℕ)) (all : Option (List (List ℕ))) (it : Checking) (fault : Fault) → IsRefusedIn it first fault → IsRefusedBy it first all fault
+first_by first all it fault (inl of) = inl of
+first_by first all it fault (inr is) = inr (first_refused first all it fault is)
+
+pub part_by : (first : Option (List ℕ)) (all left : Option (List (List ℕ))) (old it : Checking) (had : CheckedParts first all left old it)
+    (bytes : Option (List ℕ)) (others : List (Option (List ℕ))) (line : Vec ℕ Global) (now : Option (List ℕ)) (begun : Checking) (fault : Fault)
+    → left ≡ all_known (bytes ∷ others) → IfSome bytes (ReadsLine (Some line) now)
+    → (true, begun.walk.end) ≡ part_of it.walk.id it.walk.end (read_first line.items)
+    → ((began : Register) (place : Place) (to : Place) (R : Register) (texts : List (List ℕ)) → CheckedTo began place to R it texts → CheckedTo began place to R begun texts)
+    → ((copied : Register) (at place to : Place) (R : Register) (texts : List (List ℕ)) → CheckedToFrom copied at place to R it texts → CheckedToFrom copied at place to R begun texts)
+    → IsRefusedIn begun now fault → IsRefusedBy old first all fault
+part_by first all left old it had bytes others line now begun fault is_left reads part went went_from (inl of) = inl of
+part_by first all left old it had bytes others line now begun fault is_left reads part went went_from (inr is) =
+    inr (part_refused first all left old it had bytes others line now begun fault is_left reads part went went_from is)
+
+-- no fault of a check is one of opening or reading
+never_read : (cause : CheckFault) → (of_check cause ≡ Journal OpenFailed) ⊎ (of_check cause ≡ Journal ReadFailed) → ⊥
+never_read OtherRegister (inl is) = cc is
+never_read OtherRegister (inr is) = cc is
+never_read (BadLine n) (inl is) = cc is
+never_read (BadLine n) (inr is) = cc is
+never_read (Reply n) (inl is) = cc is
+never_read (Reply n) (inr is) = cc is
+never_read (Differs n) (inl is) = cc is
+never_read (Differs n) (inr is) = cc is
+never_read (Tables found) (inl is) = cc is
+never_read (Tables found) (inr is) = cc is
+never_read TooShort (inl is) = cc is
+never_read TooShort (inr is) = cc is
+never_read NoMemory (inl is) = cc is
+never_read NoMemory (inr is) = cc is
+
+pub check_read : {F : Type 0} (failures : F → ℕ) (source : F) (cause : CheckFault) (fault : Fault) → fault ≡ of_check cause → FailsLater failures source fault
+check_read failures source cause fault is which =
+    absurd (never_read cause (subst (λ (f : Fault). (f ≡ Journal OpenFailed) ⊎ (f ≡ Journal ReadFailed)) is which))
+
+pub check_any : (at : AtPaths) (parts : List (Bor (List ℕ))) (cause : CheckFault) (fault : Fault) → fault ≡ of_check cause → FailsAny at parts fault
+check_any at parts cause fault is which =
+    absurd (never_read cause (subst (λ (f : Fault). (f ≡ Journal OpenFailed) ⊎ (f ≡ Journal ReadFailed)) is which))
+
+-- one of memory is none either
+pub memory_any : (at : AtPaths) (parts : List (Bor (List ℕ))) (fault : Fault) → fault ≡ Memory → FailsAny at parts fault
+memory_any at parts fault is (inl opening) = absurd (cc)
+memory_any at parts fault is (inr reading) = absurd (cc)
+
+pub said_any : (at : AtPaths) (parts : List (Bor (List ℕ))) (checked : Result ℕ CheckFault) (fault : Fault)
+    → (fault ≡ Memory) ⊎ ((cause : CheckFault) × (checked ≡ Err cause) × (fault ≡ of_check cause)) → FailsAny at parts fault
+said_any at parts checked fault (inl memory) = memory_any at parts fault memory
+said_any at parts checked fault (inr (cause, is, same)) = check_any at parts cause fault same
+
+-- of a first part that was opened
+pub fails_some : {F : Type 0} (remaining : F → Option (List ℕ)) (failures : F → ℕ) (bytes_at : List ℕ → Option (List ℕ)) (path : Bor (List ℕ)) (parts : List (Bor (List ℕ)))
+    (source : F) (fault : Fault) → IsOpened remaining failures (bytes_at path.now) (failures source)
+    → FailsFrom failures source (at_paths remaining failures bytes_at) parts fault → FailsSome (at_paths remaining failures bytes_at) path parts fault
+fails_some remaining failures bytes_at path parts source fault opened (inl later) =
+    λ which. inl (later-part remaining failures (bytes_at path.now) source fault opened later which)
+fails_some remaining failures bytes_at path parts source fault opened (inr any) = λ which. inr (any which)
+
+pub all_some : {F : Type 0} {T : Type 0} (result : Result T Fault) (remaining : F → Option (List ℕ)) (failures : F → ℕ) (bytes_at : List ℕ → Option (List ℕ)) (path : Bor (List ℕ))
+    (parts : List (Bor (List ℕ))) (source : F) → IsOpened remaining failures (bytes_at path.now) (failures source)
+    → IfErr result (FailsFrom failures source (at_paths remaining failures bytes_at) parts) → IfErr result (FailsSome (at_paths remaining failures bytes_at) path parts)
+all_some (Ok value) remaining failures bytes_at path parts source opened from = tt
+all_some (Err fault) remaining failures bytes_at path parts source opened from = fails_some remaining failures bytes_at path parts source fault opened from
+
+-- one that is neither of opening nor of reading
+some_other : (at : AtPaths) (path : Bor (List ℕ)) (parts : List (Bor (List ℕ))) (fault : Fault) → (fault ≡ Memory) ⊎ (fault ≡ Verify OtherFiles) → FailsSome at path parts fault
+some_other at path parts fault (inl memory) (inl opening) = absurd (cc)
+some_other at path parts fault (inl memory) (inr reading) = absurd (cc)
+some_other at path parts fault (inr others) (inl opening) = absurd (cc)
+some_other at path parts fault (inr others) (inr reading) = absurd (cc)
+
+pub some_others : (at : AtPaths) (path : Bor (List ℕ)) (parts : List (Bor (List ℕ))) (files : Files) (first : Place) (fault : Fault) → AreOthers files first fault
+    → FailsSome at path parts fault
+some_others at path parts files first fault (inl memory) = some_other at path parts fault (inl memory)
+some_others at path parts files first fault (inr others) = some_other at path parts fault (inr others.0)
+
+pub some_check : (at : AtPaths) (path : Bor (List ℕ)) (parts : List (Bor (List ℕ))) (cause : CheckFault) (fault : Fault) → fault ≡ of_check cause → FailsSome at path parts fault
+some_check at path parts cause fault is which =
+    absurd (never_read cause (subst (λ (f : Fault). (f ≡ Journal OpenFailed) ⊎ (f ≡ Journal ReadFailed)) is which))
+
+-- ---- the answer
+
+-- what a check refuses, of the bytes of a journal
+module _ (one after : List ℕ) (parts : List (List ℕ)) (first place : Place) (it : Checking) (entries : List Entry) (fault : Fault) (begins : FirstIs first (Some after) one)
+    (over : GoesOver first place it [] entries) (is : RefusesAll it (ended_lines after) parts fault) where
+  goes_over : (P : List ℕ → ChainEnd → Type 0) → P it.walk.id (walked it.walk.end is.had).1 → P first.id (walked (end_at first) is.had).1
+  goes_over P goes =
+      subst (λ (i : List ℕ). P i (walked (end_at first) is.had).1) over.id_is
+      (subst (λ (e : ChainEnd). P it.walk.id (walked e is.had).1) (begins_at first it.walk.end over.end_is) goes)
+
+  begins_with : BeginsWith one parts first (is.had ++ is.more)
+  begins_with = record {
+    text = begins.0;
+    lines = is.had;
+    after = is.after;
+    more = is.more;
+    lines_are = begins.1 ∙ ap (λ (l : List (List ℕ)). begins.0 ∷ l) is.lines_are;
+    read = begins.2;
+    texts_are = refl;
+    go_on = by is.go_on;
+  }
+    where
+      by : (is.more ≡ []) ⊎ ((is.after ≡ []) × BeginOn it.walk.id (walked it.walk.end is.had).1 parts is.more)
+          → (is.more ≡ []) ⊎ ((is.after ≡ []) × BeginOn first.id (walked (end_at first) is.had).1 parts is.more)
+      by (inl none) = inl none
+      by (inr (all, begin)) = inr (all, goes_over (λ i e. BeginOn i e parts is.more) begin)
+
+  has_all : IsWhole it is.had is.after is.more parts → HasLines one parts first (is.had ++ is.more)
+  has_all (none, go) =
+      record {
+        text = begins.0;
+        lines = is.had;
+        more = is.more;
+        lines_are = begins.1 ∙ ap (λ (l : List (List ℕ)). begins.0 ∷ l) (is.lines_are ∙ ap (λ (l : List (List ℕ)). is.had ++ l) none ∙ append-nil is.had);
+        read = begins.2;
+        go_on = goes_over (λ i e. GoOn i e parts is.more) go;
+        texts_are = refl;
+      }
+
+  no_of : (IsAt : Place → List (List ℕ) → CheckFault → Type 0) → (is.cause ≡ TooShort → IsWhole it is.had is.after is.more parts)
+      × AreRefused first (is.had ++ is.more) (IsAt first (is.had ++ is.more)) is.cause → IsNo one parts IsAt fault
+  no_of IsAt refused = record {
+    first = first;
+    texts = is.had ++ is.more;
+    begins = begins_with;
+    cause = is.cause;
+    fault_is = is.fault_is;
+    refused = refused.1;
+    whole = λ short. has_all (refused.0 short);
+  }
+
+  pub is_no : (began R : Register) → CheckedTo began first place R it [] → IsNo one parts (λ first texts. IsRefused began first texts place R) fault
+  is_no began R to = no_of (λ first texts. IsRefused began first texts place R) (is.why began first place R to)
+
+  pub is_no_from : (copied R : Register) (at : Place) → CheckedToFrom copied at first place R it []
+      → IsNo one parts (λ first texts. IsRefusedFrom copied at first texts place R) fault
+  is_no_from copied R at to = no_of (λ first texts. IsRefusedFrom copied at first texts place R) (is.why_from copied at first place R to)
+
+-- a fault of the first line, or of reading
+pub checks_part : (files : Files) (began R : Register) (one : Option (List ℕ)) (all : Option (List (List ℕ))) (place : Place) (result : Result (String Global) Fault) (fault : Fault)
+    → result ≡ Err fault → IsOfPart fault → IfSome one (λ bytes. IfSome all (λ known. Checks files began bytes known place R result))
+checks_part files began R None all place result fault is of = tt
+checks_part files began R (Some one) None place result fault is of = tt
+checks_part files began R (Some one) (Some parts) place result fault is of =
+    subst (λ (it : Result (String Global) Fault). Checks files began one parts place R it) (sym is) (inl of)
+
+pub checks_part_from : (copied R : Register) (at : Place) (one : Option (List ℕ)) (all : Option (List (List ℕ))) (place : Place) (result : Result (String Global) Fault) (fault : Fault)
+    → result ≡ Err fault → IsOfPart fault → IfSome one (λ bytes. IfSome all (λ known. ChecksFrom copied at bytes known place R result))
+checks_part_from copied R at None all place result fault is of = tt
+checks_part_from copied R at (Some one) None place result fault is of = tt
+checks_part_from copied R at (Some one) (Some parts) place result fault is of =
+    subst (λ (it : Result (String Global) Fault). ChecksFrom copied at one parts place R it) (sym is) (inl of)
+
+-- the first line is of other files
+pub checks_others : (files : Files) (began R : Register) (one now : Option (List ℕ)) (all : Option (List (List ℕ))) (first place : Place) (result : Result (String Global) Fault) (fault : Fault)
+    → result ≡ Err fault → IfSome one (FirstIs first now) → AreOthers files first fault
+    → IfSome one (λ bytes. IfSome all (λ known. Checks files began bytes known place R result))
+checks_others files began R None now all first place result fault is begins others = tt
+checks_others files began R (Some one) now None first place result fault is begins others = tt
+checks_others files began R (Some one) None (Some parts) first place result fault is begins others = absurd begins
+checks_others files began R (Some one) (Some after) (Some parts) first place result fault is begins others =
+    subst (λ (it : Result (String Global) Fault). Checks files began one parts place R it) (sym is) (by others)
+  where
+    by : AreOthers files first fault → Checks files began one parts place R (Err fault)
+    by (inl of) = inl (inl of)
+    by (inr (same, not)) = inr (inl (record {
+      first = first;
+      text = begins.0;
+      lines = ended_lines after;
+      lines_are = begins.1;
+      read = begins.2;
+      not = not;
+      fault_is = same;
+    }))
+
+-- no line was read, and the first is refused
+nothing_read : (first : Place) → AreLines first [] []
+unfolding read_on
+nothing_read first = record { read = refl; all = refl }
+
+first_front : (one after : List ℕ) (parts : List (List ℕ)) (first : Place) → FirstIs first (Some after) one → BeginsWith one parts first []
+first_front one after parts first begins = record {
+  text = begins.0;
+  lines = [];
+  after = ended_lines after;
+  more = [];
+  lines_are = begins.1;
+  read = begins.2;
+  texts_are = refl;
+  go_on = inl refl;
+}
+
+pub checks_first : (files : Files) (began R : Register) (one now : Option (List ℕ)) (all : Option (List (List ℕ))) (first place : Place) (result : Result (String Global) Fault)
+    (cause : CheckFault) → result ≡ Err (of_check cause) → IfSome one (FirstIs first now) → RefusesRun began first [] place R cause
+    → IfSome one (λ bytes. IfSome all (λ known. Checks files began bytes known place R result))
+checks_first files began R None now all first place result cause is begins why = tt
+checks_first files began R (Some one) now None first place result cause is begins why = tt
+checks_first files began R (Some one) None (Some parts) first place result cause is begins why = absurd begins
+checks_first files began R (Some one) (Some after) (Some parts) first place result cause is begins why =
+    subst (λ (it : Result (String Global) Fault). Checks files began one parts place R it) (sym is) (inr (inr (record {
+      first = first;
+      texts = [];
+      begins = first_front one after parts first begins;
+      cause = cause;
+      fault_is = refl;
+      refused = inl (record { entries = []; lines = nothing_read first; cause = inl why });
+      whole = λ short. absurd (subst (λ (f : CheckFault). RefusesRun began first [] place R f) short why);
+    })))
+
+never_short : (copied R : Register) (at first place : Place) (cause : CheckFault) → RefusesFrom copied at first [] [] place R cause → cause ≡ TooShort → ⊥
+never_short copied R at first place cause (inl is) short = subst (λ (f : CheckFault). RefusesCopy first [] at place f) short is
+never_short copied R at first place cause (inr is) short = subst (λ (f : CheckFault). RefusesRun copied at [] place R f) short is.1
+
+pub checks_first_from : (copied R : Register) (at : Place) (one now : Option (List ℕ)) (all : Option (List (List ℕ))) (first place : Place) (result : Result (String Global) Fault)
+    (cause : CheckFault) → result ≡ Err (of_check cause) → IfSome one (FirstIs first now) → RefusesFrom copied at first [] [] place R cause
+    → IfSome one (λ bytes. IfSome all (λ known. ChecksFrom copied at bytes known place R result))
+checks_first_from copied R at None now all first place result cause is begins why = tt
+checks_first_from copied R at (Some one) now None first place result cause is begins why = tt
+checks_first_from copied R at (Some one) None (Some parts) first place result cause is begins why = absurd begins
+checks_first_from copied R at (Some one) (Some after) (Some parts) first place result cause is begins why =
+    subst (λ (it : Result (String Global) Fault). ChecksFrom copied at one parts place R it) (sym is) (inr (record {
+      first = first;
+      texts = [];
+      begins = first_front one after parts first begins;
+      cause = cause;
+      fault_is = refl;
+      refused = inl (record { before = []; entries = []; lines = nothing_read first; cause = inl why });
+      whole = λ short. absurd (never_short copied R at first place cause why short);
+    }))
+
+-- what comes of all lines
+pub checks_over : (files : Files) (began R : Register) (one now : Option (List ℕ)) (all : Option (List (List ℕ))) (first place : Place) (it : Checking) (result : Result (String Global) Fault)
+    → IfSome one (FirstIs first now) → IsOfFiles files first → CheckedTo began first place R it []
+    → IfOk result (λ text. IfSome now (λ bytes. IfSome all (λ known. ChecksAll it (ended_lines bytes) known (string_bytes text)))) → IfErr result (IsRefusedBy it now all)
+    → IfSome one (λ bytes. IfSome all (λ known. Checks files began bytes known place R result))
+checks_over files began R one now all first place it (Ok text) begins of to checks refused = checks_yes files began R one now all first place it text begins of to checks
+checks_over files began R one now all first place it (Err fault) begins of to checks (inl part) = checks_part files began R one all place (Err fault) fault refl part
+checks_over files began R one now all first place it (Err fault) begins of to checks (inr refused) = by one now all begins refused
+  where
+    by : (file left : Option (List ℕ)) (found : Option (List (List ℕ))) → IfSome file (FirstIs first left)
+        → IfSome left (λ bytes. IfSome found (λ known. RefusesAll it (ended_lines bytes) known fault))
+        → IfSome file (λ bytes. IfSome found (λ known. Checks files began bytes known place R (Err fault)))
+    by None left found front is = tt
+    by (Some file) left None front is = tt
+    by (Some file) None (Some parts) front is = absurd front
+    by (Some file) (Some after) (Some parts) front is = inr (inr (is_no file after parts first place it to.entries fault front to.over is began R to))
+
+pub checks_over_copy : (copied R : Register) (at : Place) (one now : Option (List ℕ)) (all : Option (List (List ℕ))) (first place : Place) (it : Checking)
+    (result : Result (String Global) Fault) → IfSome one (FirstIs first now) → CheckedToFrom copied at first place R it []
+    → IfOk result (λ text. IfSome now (λ bytes. IfSome all (λ known. ChecksAll it (ended_lines bytes) known (string_bytes text)))) → IfErr result (IsRefusedBy it now all)
+    → IfSome one (λ bytes. IfSome all (λ known. ChecksFrom copied at bytes known place R result))
+checks_over_copy copied R at one now all first place it (Ok text) begins to checks refused = checks_yes_from copied R at one now all first place it text begins to checks
+checks_over_copy copied R at one now all first place it (Err fault) begins to checks (inl part) = checks_part_from copied R at one all place (Err fault) fault refl part
+checks_over_copy copied R at one now all first place it (Err fault) begins to checks (inr refused) = by one now all begins refused
+  where
+    by : (file left : Option (List ℕ)) (found : Option (List (List ℕ))) → IfSome file (FirstIs first left)
+        → IfSome left (λ bytes. IfSome found (λ known. RefusesAll it (ended_lines bytes) known fault))
+        → IfSome file (λ bytes. IfSome found (λ known. ChecksFrom copied at bytes known place R (Err fault)))
+    by None left found front is = tt
+    by (Some file) left None front is = tt
+    by (Some file) None (Some parts) front is = absurd front
+    by (Some file) (Some after) (Some parts) front is =
+        inr (is_no_from file after parts first place it (to.before ++ to.entries) fault front to.over is copied R at to)
