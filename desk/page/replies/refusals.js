@@ -34,6 +34,6 @@ export const REFUSALS = {
   NOT_ATTESTED: ["It is not attested that all employees are notified and clear: notified or clear is false.", "Notify all employees, see that all are clear, and state both."],
   POINT_EXISTS: ["The network has a point of this name.", "Give the jumper another name."],
   CROSSES_FENCE: ["Exactly one end lies in the fence of a clearance that is Ordered, Granted, Released or Restoring; a new section lies in none.", "It would be a way in that no step of that clearance guards. Lay it when that one is Closed, or between two sections of its fence."],
-  NETWORK_FULL: ["There would be over 10,000 points or 5,000 sections.", "Nothing is ever taken away: a larger network is a new register."],
+  NETWORK_FULL: ["There would be over 10,000 points or 5,000 sections.", "An update takes out what is no longer there. A network beyond the limits is two registers."],
   SAME_ENDS: ["Both ends, from and to, are one section.", "Name two sections."],
 };
