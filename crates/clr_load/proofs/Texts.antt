@@ -28,7 +28,7 @@ use Rattle.clr_tables.specs.declared.table_name.TableName.{TableName}
 use Rattle.clr_tables.specs.declared.table_name.TableName.TheVariants.{Meta, Section, Point, Staff, Clearance, Step, Hold, NetworkPoint, Journal}
 use Rattle.clr_load.specs.Layout.{AsMade, AsMadeLogged, AsMoved, AsMovedLogged, Layout, OfOne, has_table, is_two, names_before, place_in, tree_in}
 use Rattle.clr_load.specs.Schema.{behind_meta, no_schema, keys_in, columns_in, table_at, schema_of, schema_in}
-use Rattle.clr_load.specs.Sql.{create_sql, insert_sql, delete_sql, replace_sql, select_sql, set_position_sql, set_hand_sql, clear_place_sql, copy_sql, empty_sql}
+use Rattle.clr_load.specs.Sql.{create_sql, insert_sql, delete_sql, replace_sql, select_sql, set_position_sql, set_hand_sql, copy_sql, empty_sql}
 
 abbrev pub width_of : TableName → ℕ
 width_of name = length (columns_in name)
@@ -475,20 +475,6 @@ set_hand_reads AsMoved two = refl
 set_hand_reads AsMadeLogged two = refl
 set_hand_reads AsMovedLogged two = refl
 
--- ---- the place in the journal: all rows of its table, each as its number
-abbrev pub clearing : Layout → Command
-clearing l = Delete (place_in l Journal)
-    (record { lets = []; body = query_of (tree_in l Journal) [] (col 1 0 ∷ []) [] })
-
-clear_place_reads : (l : Layout) → has_table l Journal ≡ true
-    → Compiles (schema_in l) clear_place_sql 0 (clearing l)
-unfolding everything
-clear_place_reads OfOne has = absurd cc
-clear_place_reads AsMade has = absurd cc
-clear_place_reads AsMoved has = absurd cc
-clear_place_reads AsMadeLogged has = refl
-clear_place_reads AsMovedLogged has = refl
-
 -- ---- version 1 moved to version 2
 -- the rows of version 1, each with its own columns, and 0 after them
 abbrev pub copied : Query
@@ -563,10 +549,6 @@ set_position_is l two = read_as _ _ 2 _ (set_position_reads l two)
 pub set_hand_is : (l : Layout) → is_two l ≡ true
     → IsRead (schema_in l) set_hand_sql (updating l hand_terms)
 set_hand_is l two = read_as _ _ 3 _ (set_hand_reads l two)
-
-pub clear_place_is : (l : Layout) → has_table l Journal ≡ true
-    → IsRead (schema_in l) clear_place_sql (clearing l)
-clear_place_is l has = read_as _ _ 0 _ (clear_place_reads l has)
 
 pub copy_is : IsRead (schema_in AsMoved) copy_sql copying
 copy_is = read_as _ _ 0 _ copy_reads

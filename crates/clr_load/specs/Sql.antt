@@ -86,10 +86,6 @@ abbrev pub set_hand_sql : List ℕ
 set_hand_sql =
     codes "UPDATE network_point SET hand_requester = ?2, hand_number = ?3 WHERE name = ?1"
 
--- the place in the journal taken away, whatever it was
-abbrev pub clear_place_sql : List ℕ
-clear_place_sql = codes "DELETE FROM journal"
-
 -- each point of version 1 put among those of version 2, as no jumper
 abbrev pub copy_sql : List ℕ
 copy_sql = codes "INSERT INTO network_point SELECT name, from_end, to_end, lockable, remote, position, hand_requester, hand_number, 0 FROM point"

@@ -15,4 +15,5 @@ mod Rising
 pub mod TakenSteps
 pub mod Renewing
 pub mod Places
+pub mod Setting
 pub mod Beginning

@@ -1,6 +1,6 @@
 -- What statements make of the table of the journal, inside a transaction.
-use Rattle.std.proofs.Common.{◌≡◌, ◌∙◌, ◌&&◌, ℕ, List, [], ◌∷◌, Bool, true, false, not, None, Option, Some, Ok, Err, Result, ap, refl, subst, sym}
-use Rattle.std.specs.Prelude.{MatchResult, filter}
+use Rattle.std.proofs.Common.{◌≡◌, ◌∙◌, ◌&&◌, ℕ, List, [], ◌∷◌, Bool, true, false, None, Option, Some, Ok, Err, Result, ap, refl, subst, sym}
+use Rattle.std.specs.Prelude.{MatchResult}
 use Rattle.std.proofs.lemmas.Bool.{true≢false}
 use Rattle.sqlite.specs.Effect.{Database}
 use Rattle.sqlite.specs.Held.{Held, state}
@@ -20,7 +20,7 @@ use Rattle.clr_tables.specs.declared.table_name.TableName.TheVariants.{Meta, Sec
 use Rattle.clr_load.specs.Fault.{IsOfDatabase}
 use Rattle.clr_load.specs.Layout.{has_rows, has_table, is_of_register, is_two, tree_in}
 use Rattle.clr_load.specs.Schema.{columns_in, schema_in}
-use Rattle.clr_load.specs.Sql.{clear_place_sql, insert_sql}
+use Rattle.clr_load.specs.Sql.{insert_sql}
 use Rattle.clr_load.specs.Stored.{ArePlaced, HasPlaceIn, HasRows, HasTables, Holds, IsPlaced, bodies, fits_columns, rows_in}
 use Rattle.clr_load.specs.declared.fault.StoreFault.{StoreFault}
 use Rattle.clr_load.specs.declared.layout.Layout.{Layout}
@@ -29,9 +29,7 @@ use Rattle.clr_load.proofs.Columns.{both_true}
 use Rattle.clr_load.proofs.Inside.{then_runs}
 use Rattle.clr_load.proofs.Loading.{in_layout, then_kept}
 use Rattle.clr_load.proofs.Reopened.{left_of, placed_as}
-use Rattle.clr_load.proofs.Texts.{clear_place_is}
-use Rattle.clr_store.proofs.Creating.{empty_rows}
-use Rattle.clr_store.proofs.Effects.{Wrote, deleted, inserts, is_met}
+use Rattle.clr_store.proofs.Effects.{Wrote, inserts}
 use Rattle.clr_store.proofs.Inside.{crash_leaves, edited_tables, put_in}
 use Rattle.clr_store.proofs.Layouts.{apart}
 use Rattle.clr_store.specs.Change.{Changes, ChangesAt, ChangesPlace, Does, MakesAt, PutsPlace, is_same}
@@ -49,7 +47,7 @@ not_own Hold own = refl
 not_own NetworkPoint own = refl
 not_own Journal own = absurd cc
 
-stays_with : (l : Layout) (old new : State) (tree : List Row) (t : Tables) → has_table l Journal ≡ true → Wrote l old new Journal tree → Holds l old.now t → Holds l new.now t
+pub stays_with : (l : Layout) (old new : State) (tree : List Row) (t : Tables) → has_table l Journal ≡ true → Wrote l old new Journal tree → Holds l old.now t → Holds l new.now t
 stays_with l old new tree t journal did has = record {
   schema = did.schema;
   listed = did.listed;
@@ -69,19 +67,6 @@ puts_row old new row count fits ran = record {
       let did = inserts l old new Journal row count there has.schema fits ran.0 in
       let put = put_in (columns_in Journal) row (old.now.trees (tree_in l Journal)) rows fits did.1 placed in
       (stays_with l old new _ t there did.0 has, subst (λ tree. HasRows (columns_in Journal) tree (row ∷ rows)) (sym did.0.tree) put);
-}
-
-none_left : (tree : List Row) → filter (λ r. not (is_met [] [] r)) tree ≡ []
-none_left [] = refl
-none_left (r ∷ tree) = none_left tree
-
-pub clears : (old new : State) (count : ℕ) → ExecutesInside 0 clear_place_sql [] old new (Ok count) → ChangesPlace old new (λ _. [])
-clears old new count ran = record {
-  inside = ran.1.mode;
-  kept = record { was_open = λ _. ran.1.was_open; committed = λ _. ran.1.committed_is };
-  places = λ l two t has there rows placed.
-      let did = deleted l old new Journal clear_place_sql [] [] count there has.schema (clear_place_is l there) placed.numbered ran.0 in
-      (stays_with l old new _ t there did has, empty_rows (columns_in Journal) (new.now.trees (tree_in l Journal)) (did.tree ∙ none_left (old.now.trees (tree_in l Journal))));
 }
 
 -- ---- calls in turn

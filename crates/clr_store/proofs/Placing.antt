@@ -48,7 +48,7 @@ set_both_reads AsMoved two = refl
 set_both_reads AsMadeLogged two = refl
 set_both_reads AsMovedLogged two = refl
 
-understood_as : (schema : Schema) (sql : List ℕ) (c : Compiled) → compiled schema sql ≡ Ok c → understood schema sql ≡ Ok c
+pub understood_as : (schema : Schema) (sql : List ℕ) (c : Compiled) → compiled schema sql ≡ Ok c → understood schema sql ≡ Ok c
 unfolding understood
 understood_as schema sql c is = rw is refl
 

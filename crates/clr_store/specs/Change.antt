@@ -2,7 +2,7 @@
 use Rattle.std.specs.Prelude.{◌≡◌, ℕ, zero, suc, IsTrue, Bool, true, false, Result}
 use Rattle.std.specs.Prelude.{if◌then◌else◌, ◌==◌, List, [], take}
 use Rattle.std.specs.Prelude.{◌∷◌}
-use Rattle.std.specs.Prelude.{fold, map}
+use Rattle.std.specs.Prelude.{fold, map, replicate}
 use Rattle.std.specs.List.{AllByRecursion}
 use Rattle.sqlite.specs.Effect.{Database, IsDatabase}
 use Rattle.sqlite.specs.Order.{Row}
@@ -114,6 +114,14 @@ abbrev pub PutsPlace : {S X : Type 0} → Ghosts S → Transaction S → Transac
 PutsPlace g old new change result =
     RunsInside g old new IsOfDatabase
     (λ _. ChangesPlace (state g old.conn.now) (state g new.conn.now) change)
+    (λ _. KeepsCommit (state g old.conn.now) (state g new.conn.now)) result
+
+-- a call inside a transaction makes each of them this one and says how many there were, or fails
+abbrev pub SetsRows : {S : Type 0} → Ghosts S → Transaction S → Transaction S → Row
+    → Result ℕ StoreFault → Type 0
+SetsRows g old new row result =
+    RunsInside g old new IsOfDatabase
+    (λ n. ChangesPlace (state g old.conn.now) (state g new.conn.now) (λ _. replicate n row))
     (λ _. KeepsCommit (state g old.conn.now) (state g new.conn.now)) result
 
 -- the tables are changed inside the transaction, where there is a table of the journal, and that

@@ -16,11 +16,12 @@ ghost use Rattle.clr_load.specs.Schema.{columns_in};
 ghost use Rattle.clr_load.specs.Stored.{fits_columns};
 ghost use Rattle.clr_load.specs.declared.layout.Layout.TheVariants.{AsMade, AsMadeLogged};
 ghost use Rattle.clr_store.specs.Change.{HasEmpty, MakesAt, PutsJournal, PutsPlace, Reaches};
+ghost use Rattle.clr_store.specs.Change.{SetsRows};
 ghost use Rattle.clr_store.specs.Contract.{AreEditedAt, MakesEditsAt};
 
 use crate::edits::make_all;
-use crate::sql::{clear_sql, create_sql, insert_sql};
-use crate::values::{number_value, text_value};
+use crate::sql::{create_sql, insert_sql};
+use crate::values::place_values;
 use clr_load::StoreFault;
 use clr_place::Place;
 use clr_rules::{Change, Edit};
@@ -53,14 +54,6 @@ pub(crate) fn make_journal<S: Alter>(tx: &mut Transaction<'_, S>) -> Result<(), 
     Ok(())
 }
 
-/// Takes the place away.
-fn clear_place<S: Alter>(tx: &mut Transaction<'_, S>) -> Result<(), StoreFault>
-    ensures { PutsPlace S.Store tx.old tx.new (λ _. []) result }
-{
-    tx.execute(clear_sql(TableName::Journal), &[])?;
-    Ok(())
-}
-
 /// Inserts the row of a place.
 fn insert_place<S: Alter>(
     tx: &mut Transaction<'_, S>,
@@ -81,12 +74,33 @@ pub(crate) fn add_place<S: Alter>(
     requires { place.now.number < 2 ^ 63 }
     ensures { PutsPlace S.Store tx.old tx.new (λ rows. place_row place.now ∷ rows) result }
 {
-    let row = [
-        text_value(place.id.as_str()),
-        number_value(place.number),
-        text_value(place.sum.as_str()),
-    ];
+    let row = place_values(place);
     insert_place(tx, &row)
+}
+
+/// Makes each row this one, and says how many there were.
+fn set_rows<S: Alter>(
+    tx: &mut Transaction<'_, S>,
+    row: &[ValueRef<'_>],
+) -> Result<usize, StoreFault>
+    requires fits { fits_columns (columns_in Journal) (bound row.now) ≡ true }
+    ensures { SetsRows S.Store tx.old tx.new (bound row.now) result }
+{
+    Ok(tx.execute("UPDATE journal SET id = ?1, number = ?2, sum = ?3", row)?)
+}
+
+/// Puts a row in place of the one that is there. Where there is one, it takes one statement, which
+/// writes no page of the index while the id stays. A journal's table with more rows is not opened,
+/// so here they are a fault.
+fn put_one<S: Alter>(tx: &mut Transaction<'_, S>, row: &[ValueRef<'_>]) -> Result<(), StoreFault>
+    requires fits { fits_columns (columns_in Journal) (bound row.now) ≡ true }
+    ensures { PutsPlace S.Store tx.old tx.new (λ _. bound row.now ∷ []) result }
+{
+    match set_rows(tx, row)? {
+        0 => insert_place(tx, row),
+        1 => Ok(()),
+        _ => Err(StoreFault::Sql),
+    }
 }
 
 /// Puts a place in place of the one that is there.
@@ -94,8 +108,8 @@ fn set_place<S: Alter>(tx: &mut Transaction<'_, S>, place: &Place) -> Result<(),
     requires { place.now.number < 2 ^ 63 }
     ensures { PutsPlace S.Store tx.old tx.new (λ _. place_row place.now ∷ []) result }
 {
-    clear_place(tx)?;
-    add_place(tx, place)
+    let row = place_values(place);
+    put_one(tx, &row)
 }
 
 /// Makes all edits, and sets the place.

@@ -7,10 +7,12 @@ ghost use Rattle.clr_rules.specs.Register.{first_state};
 ghost use Rattle.clr_load.specs.Schema.{columns_in};
 ghost use Rattle.clr_load.specs.Stored.{fits_columns};
 ghost use Rattle.clr_tables.specs.Tables.{flag_value, jumper_row, name_or_null, number_value};
-ghost use Rattle.clr_tables.specs.Tables.{position_value};
+ghost use Rattle.clr_tables.specs.Tables.{place_row, position_value};
+ghost use Rattle.clr_tables.specs.declared.table_name.TableName.TheVariants.{Journal};
 ghost use Rattle.clr_tables.specs.declared.table_name.TableName.TheVariants.{NetworkPoint};
 
 use clr_net::{Name, PointRow, Position};
+use clr_place::Place;
 use sqlite::types::ValueRef;
 
 /// A text.
@@ -105,5 +107,18 @@ pub(crate) fn handed_values<'a>(
         name_value(requester),
         number_value(u64::from(number)),
         flag_value(point.jumper),
+    ]
+}
+
+/// The columns of a place.
+pub(crate) fn place_values(place: &Place) -> [ValueRef<'_>; 3]
+    requires { place.now.number < 2 ^ 63 }
+    ensures row { bound result ≡ place_row place.now }
+    ensures fits { fits_columns (columns_in Journal) (bound result) ≡ true }
+{
+    [
+        text_value(place.id.as_str()),
+        number_value(place.number),
+        text_value(place.sum.as_str()),
     ]
 }

@@ -1,16 +1,17 @@
 use Rattle.std.proofs.Common.{◌≡◌, Err, rules}
 use Rattle.sqlite.specs.Held.{state}
+use Rattle.sqlite.specs.Values.{bound}
 use Rattle.clr_load.specs.Cause.{fault_of}
 use Rattle.clr_store.proofs.Inside.{statement_fails}
-use Rattle.clr_store.proofs.Places.{clears}
-use Rattle.clr_store.proofs.place.clear_place.Goals as goal
+use Rattle.clr_store.proofs.Setting.{sets_rows}
+use Rattle.clr_store.proofs.place.set_rows.Goals as goal
 
 pub returns : goal.returns
 returns g c = record {
   same_reference = c.execute.ensures.same_reference;
   step = λ clean inside.
-      clears (state g.S.Store c.args.tx.now.conn.now) (state g.S.Store c.execute.new.self.conn.now) c.in_ok-execute.field-0
-      (rw c.clear_sql.ensures at (c.in_ok-execute.ensures.runs clean inside));
+      sets_rows (bound c.args.row.now) c.requires.fits (state g.S.Store c.args.tx.now.conn.now) (state g.S.Store c.execute.new.self.conn.now) c.in_ok-execute.field-0
+      (c.in_ok-execute.ensures.runs clean inside);
   fault = tt;
   survives = c.execute.ensures.survives;
 }
