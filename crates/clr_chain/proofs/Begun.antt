@@ -13,7 +13,7 @@ use Rattle.clr_chain.proofs.LinksBack.{firsts_line, one_member}
 use Rattle.clr_chain.proofs.NotMissed.{from_first}
 use Rattle.clr_chain.specs.Chain.{all_but_first, links_of, read_on}
 use Rattle.clr_chain.specs.Finding.{Found, ahead, first_of, found_by, sought}
-use Rattle.clr_chain.specs.First.{end_at, first_data, first_text, if_own_place, place_in, read_first, rules}
+use Rattle.clr_chain.specs.First.{end_at, first_data, first_text, first_text_by, if_own_place, place_in, read_first, rules}
 use Rattle.clr_chain.specs.Laws.{FirstsReadBack, NewJournalsOpen}
 use Rattle.clr_chain.specs.Near.{stopped}
 use Rattle.clr_chain.specs.Opening.{CanBegin, new_text}
@@ -42,7 +42,7 @@ back_by : (first : Place) → option_and_then (if_own_place (first_text first)) 
 back_by first = ap (λ (b : Bool). cond b (Some first) None) (same_bytes (first_text first))
 
 pub firsts_back : FirstsReadBack
-unfolding read_first first_text
+unfolding read_first first_text first_text_by
 firsts_back first can =
     ap (λ d. option_and_then (if_own_place (first_text first)) (option_and_then place_in d)) (plain_values_read_back (first_data first) (is_plain_first first can) (omega arith))
     ∙ back_by first

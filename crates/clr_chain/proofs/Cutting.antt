@@ -9,10 +9,10 @@ use Rattle.clr_journal.specs.Journals.{next_place, turn_after, withdraws}
 use Rattle.clr_journal.specs.Line.{Entry, carried, read_line, withdrawn}
 use Rattle.clr_chain.proofs.Parts.{text_of-append, there_is_a_rest}
 use Rattle.clr_chain.specs.Chain.{ReadOn, all_but_first, links_of, onto, read_on}
-use Rattle.clr_chain.specs.Finding.{Found, Sought, ahead, bad_line, differs, end_of, found_after, found_at_first, found_by, found_from, found_in, found_short, first_of, met, or_earlier, other_register, passed, says_accepted, sought, sought_at, sought_below, too_short, unmet}
+use Rattle.clr_chain.specs.Finding.{Found, Sought, ahead, bad_line, differs, end_of, found_after, found_at_first, found_by, found_from, found_in, found_short, found_unread, first_of, met, or_earlier, other_register, other_rules, other_rules_of, passed, says_accepted, sought, sought_at, sought_below, too_short, unmet}
 use Rattle.clr_chain.specs.First.{end_at}
 use Rattle.clr_chain.specs.Link.{end_after, is_own, next_link}
-use Rattle.clr_chain.specs.Reading.{IsCut, IsFound, IsFoundWith}
+use Rattle.clr_chain.specs.Reading.{IsCut, IsFound, IsFoundWith, seen_unread}
 use Rattle.clr_chain.specs.declared.chain_end.ChainEnd.{ChainEnd}
 use Rattle.clr_chain.specs.declared.finding.Found.{Found as SeenFound}
 use Rattle.clr_chain.specs.declared.finding.Found.TheVariants as seen
@@ -84,6 +84,7 @@ sought-ends place (text ∷ rest) =
 -- ---- what is found
 
 abbrev pub AheadEnds : List (List ℕ) → Found → Type 0
+AheadEnds texts (other_rules number) = ⊤
 AheadEnds texts other_register = ⊤
 AheadEnds texts too_short = ⊤
 AheadEnds texts (differs number) = ⊤
@@ -137,6 +138,7 @@ links_end (text ∷ rest) = one_more text rest rest (all_left rest)
 -- what is found by these lines and this end is what is found in these bytes
 pub found_whole : (place first : Place) (bytes : List ℕ) (found : SeenFound) → found_in place bytes ≡ found_by place first (links_of bytes) (sought place (links_of bytes))
     → IsFoundWith (unfinished bytes) found (found_by place first (links_of bytes) (sought place (links_of bytes))) → IsFound bytes found (found_in place bytes)
+found_whole place first bytes (seen.OtherRules number) is h = is ∙ h
 found_whole place first bytes seen.OtherRegister is h = is ∙ h
 found_whole place first bytes seen.TooShort is h = is ∙ h
 found_whole place first bytes (seen.Differs number) is h = is ∙ h
@@ -151,10 +153,22 @@ pub found_there : (place first : Place) (bytes : List ℕ) → first_of bytes �
     → found_in place bytes ≡ found_by place first (links_of bytes) (sought place (links_of bytes))
 unfolding found_in
 found_there place first bytes is same =
-    ap (found_from place (links_of bytes)) is
+    ap (found_from place (links_of bytes) (other_rules_of bytes)) is
     ∙ ap (λ (b : Bool). cond b (found_by place first (links_of bytes) (sought place (links_of bytes))) other_register) same
 
--- the same, by slices that the lines and the end are of
+-- where there is no first line by these rules
+unread_found : (bytes : List ℕ) (other : Option ℕ) → IsFound bytes (seen_unread other) (found_unread other)
+unread_found bytes None = refl
+unread_found bytes (Some number) = refl
+
+pub found_no_first : (place : Place) (bytes : List ℕ) (found : SeenFound) (other : Option ℕ) → first_of bytes ≡ None → other ≡ other_rules_of bytes → found ≡ seen_unread other
+    → IsFound bytes found (found_in place bytes)
+unfolding found_in
+found_no_first place bytes found other none named is =
+    let there : found_unread other ≡ found_in place bytes = ap found_unread named ∙ sym (ap (found_from place (links_of bytes) (other_rules_of bytes)) none) in
+    subst (λ (f : SeenFound). IsFound bytes f (found_in place bytes)) (sym is) (subst (λ (f : Found). IsFound bytes (seen_unread other) f) there (unread_found bytes other))
+
+-- what is found where there is one, by slices that the lines and the end are of
 pub found_by_links : (place first : Place) (bytes links : List ℕ) (s : Sought) (found : SeenFound) → first_of bytes ≡ Some first → bytes_eq first.id place.id ≡ true
     → ended_lines links ≡ links_of bytes → unfinished links ≡ unfinished bytes → s ≡ sought place (ended_lines links)
     → IsFoundWith (unfinished links) found (found_by place first (ended_lines links) s) → IsFound bytes found (found_in place bytes)

@@ -6,11 +6,11 @@ use Rattle.clr_chain.proofs.Cutting.{AheadEnds, EndsWith, all_left, both, by_end
 use Rattle.clr_chain.proofs.NotMissed.{stays_met}
 use Rattle.clr_chain.proofs.Parts.{HasEnd, end_pieces, last_apart, last_same}
 use Rattle.clr_chain.specs.Chain.{all_but_first, links_of}
-use Rattle.clr_chain.specs.Finding.{Found, Sought, first_of, first_text_of, found_by, found_in, met, passed, sought, unmet}
-use Rattle.clr_chain.specs.First.{read_first}
+use Rattle.clr_chain.specs.Finding.{Found, Sought, first_of, first_text_of, found_by, found_in, met, other_rules_of, passed, sought, unmet}
+use Rattle.clr_chain.specs.First.{other_rules_in, read_first}
 use Rattle.clr_chain.specs.Laws.{EndsSayAll}
 use Rattle.clr_chain.specs.Near.{found_near, is_unmet}
-use Rattle.clr_chain.specs.Reading.{IsFound, IsFoundNear, IsFoundWith, rest_of}
+use Rattle.clr_chain.specs.Reading.{IsFound, IsFoundNear, IsFoundWith, rest_of, seen_unread}
 use Rattle.clr_chain.specs.declared.finding.Found.{Found as SeenFound}
 use Rattle.clr_chain.specs.declared.finding.Found.TheVariants as seen
 use Rattle.clr_place.specs.declared.place.Place.{Place}
@@ -109,18 +109,27 @@ near_all place first bytes tail len size (Some one) Clean inside part near =
 
 -- ---- the first line is in the front
 
-pub front_first : (bytes front : List ℕ) (len size : ℕ) → len ≡ length bytes → size ≡ min 4096 len → front ≡ take size (drop 0 bytes) → first_of front ≡ first_of bytes
-front_first bytes front len size all least is = elim (cases_lt 4096 len) [
+same_front : (bytes front : List ℕ) (len size : ℕ) → len ≡ length bytes → size ≡ min 4096 len → front ≡ take size (drop 0 bytes) → take 4096 front ≡ take 4096 bytes
+same_front bytes front len size all least is = elim (cases_lt 4096 len) [
   | inl long ↦
       let same : size ≡ 4096 = omega (arith, least, long) in
-      ap first_of (is ∙ ap (λ n. take n bytes) same) ∙ ap (λ f. option_and_then read_first (first_text_of (ended_lines f))) (take-take 4096 4096 bytes (omega arith))
-  | inr short ↦ ap first_of (is ∙ take_all size bytes (omega (arith, least, short, all)))
+      ap (take 4096) (is ∙ ap (λ n. take n bytes) same) ∙ take-take 4096 4096 bytes (omega arith)
+  | inr short ↦ ap (take 4096) (is ∙ take_all size bytes (omega (arith, least, short, all)))
 ]
+
+pub front_first : (bytes front : List ℕ) (len size : ℕ) → len ≡ length bytes → size ≡ min 4096 len → front ≡ take size (drop 0 bytes) → first_of front ≡ first_of bytes
+front_first bytes front len size all least is =
+    ap (λ f. option_and_then read_first (first_text_of (ended_lines f))) (same_front bytes front len size all least is)
+
+pub front_other : (bytes front : List ℕ) (len size : ℕ) → len ≡ length bytes → size ≡ min 4096 len → front ≡ take size (drop 0 bytes) → other_rules_of front ≡ other_rules_of bytes
+front_other bytes front len size all least is =
+    ap (λ f. option_and_then other_rules_in (first_text_of (ended_lines f))) (same_front bytes front len size all least is)
 
 -- ---- no more is to be cut off than there is
 
 rest_within : (place first : Place) (tail : List ℕ) (found : SeenFound) → IsFoundWith (unfinished tail) found (found_by place first (links_of tail) (sought place (links_of tail)))
     → rest_of found ≤ length tail
+rest_within place first tail (seen.OtherRules number) h = omega arith
 rest_within place first tail seen.OtherRegister h = omega arith
 rest_within place first tail seen.TooShort h = omega arith
 rest_within place first tail (seen.Differs number) h = omega arith
@@ -140,8 +149,16 @@ within_tail place first tail links s found lines alike is h =
     (subst (λ f. IsFoundWith (unfinished tail) found f) here (subst (λ r. IsFoundWith r found (found_by place first (ended_lines links) s)) alike h))
 
 pub within_whole : (bytes : List ℕ) (found : SeenFound) (is : Found) → IsFound bytes found is → rest_of found ≤ length bytes
+within_whole bytes (seen.OtherRules number) is h = omega arith
 within_whole bytes seen.OtherRegister is h = omega arith
 within_whole bytes seen.TooShort is h = omega arith
 within_whole bytes (seen.Differs number) is h = omega arith
 within_whole bytes (seen.BadLine number) is h = omega arith
 within_whole bytes (seen.Ahead lines) is (left, cut, h) = let count = cut.count in omega (arith, count)
+
+pub unread_within : (found : SeenFound) (other : Option ℕ) (len : ℕ) → found ≡ seen_unread other → rest_of found ≤ len
+unread_within found other len is = subst (λ (f : SeenFound). rest_of f ≤ len) (sym is) (by other)
+  where
+    by : (named : Option ℕ) → rest_of (seen_unread named) ≤ len
+    by None = omega arith
+    by (Some number) = omega arith

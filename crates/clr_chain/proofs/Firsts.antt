@@ -9,7 +9,7 @@ use Rattle.clr_chain.proofs.Cutting.{AheadEnds, EndsWith, by_ends, found_there, 
 use Rattle.clr_chain.proofs.NotMissed.{front_says_nothing, same_found, with_left}
 use Rattle.clr_chain.proofs.Parts.{AreLines, front_are_lines, front_lines, lines_are_lines, lines_then, parted, past_front}
 use Rattle.clr_chain.specs.Chain.{ReadOn, all_but_first, links_of}
-use Rattle.clr_chain.specs.Finding.{Found, ahead, first_of, first_text_of, found_by, found_from, found_in, other_register, sought}
+use Rattle.clr_chain.specs.Finding.{Found, ahead, first_of, first_text_of, found_by, found_from, found_in, found_unread, other_register, other_rules_of, sought}
 use Rattle.clr_chain.specs.First.{read_first}
 use Rattle.clr_chain.specs.Laws.{CutsAreNotMissed, FrontsAreFound}
 use Rattle.clr_chain.specs.Near.{SayNothing}
@@ -76,8 +76,13 @@ record IsAhead (place : Place) (bytes : List ℕ) (read : ReadOn) : Type 0 where
   same : bytes_eq first.id place.id ≡ true
   found : found_by place first (links_of bytes) (sought place (links_of bytes)) ≡ ahead read
 
-ahead_by : (place : Place) (bytes : List ℕ) (read : ReadOn) (o : Option Place) → first_of bytes ≡ o → found_from place (links_of bytes) o ≡ ahead read → IsAhead place bytes read
-ahead_by place bytes read None e h = cc h
+unread : (other : Option ℕ) (read : ReadOn) → found_unread other ≡ ahead read → ⊥
+unread None read h = cc h
+unread (Some number) read h = cc h
+
+ahead_by : (place : Place) (bytes : List ℕ) (read : ReadOn) (o : Option Place) → first_of bytes ≡ o → found_from place (links_of bytes) (other_rules_of bytes) o ≡ ahead read
+    → IsAhead place bytes read
+ahead_by place bytes read None e h = absurd (unread (other_rules_of bytes) read h)
 ahead_by place bytes read (Some first) e h = by_id (bytes_eq first.id place.id) refl h
   where
     by_id : (b : Bool) → bytes_eq first.id place.id ≡ b → cond b (found_by place first (links_of bytes) (sought place (links_of bytes))) other_register ≡ ahead read → IsAhead place bytes read

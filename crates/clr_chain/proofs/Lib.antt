@@ -8,8 +8,10 @@ pub mod LinksBack
 pub mod NoFloats
 pub mod NotMissed
 pub mod Opened
+pub mod OtherRules
 pub mod Parts
 pub mod ReadingOn
 pub mod SameSums
 pub mod Seeking
+pub mod SumLast
 pub mod Walked

@@ -20,7 +20,7 @@ use Rattle.clr_text.specs.declared.fault.TextFault.{TextFault}
 use Rattle.clr_journal.specs.Laws.{login_is_text}
 use Rattle.clr_journal.specs.Line.{Entry, carried, withdrawn, line_in, login_in, read_line}
 use Rattle.clr_journal.specs.declared.line.Receipt.{Receipt}
-use Rattle.clr_chain.specs.First.{first_data, first_text}
+use Rattle.clr_chain.specs.First.{first_data, first_text, first_text_by}
 use Rattle.clr_chain.specs.Laws.{FirstsAreOneLine, LinksAreOneLine, LinksAreOwn, LinksReadBack}
 use Rattle.clr_chain.specs.Link.{has_fraction, if_own, is_own, link_data, link_text, read_link}
 
@@ -31,7 +31,7 @@ unfolding link_text
 links_line entry sum = one_line (link_data entry sum)
 
 pub firsts_line : FirstsAreOneLine
-unfolding first_text
+unfolding first_text first_text_by
 firsts_line place = one_line (first_data place)
 
 -- ---- its own form

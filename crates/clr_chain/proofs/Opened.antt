@@ -2,7 +2,7 @@
 use Rattle.std.proofs.Common.{◌≡◌, ◌∙◌, ◌+◌, ◌-◌, ◌≤◌, ℕ, List, [], ◌++◌, length, take, ap, sym, arith, append-nil, length-take-le, subst}
 use Rattle.std.proofs.Math.Seq.{take-append_seam}
 use Rattle.sqlite_disk.specs.Disk.{Cut, Follows, MoreFaults}
-use Rattle.clr_append.specs.Lines.{text_of}
+use Rattle.clr_append.specs.Lines.{ended_text, text_of}
 use Rattle.clr_journal.specs.Opening.{FailedToCut}
 use Rattle.clr_chain.proofs.Firsts.{found_again}
 use Rattle.clr_chain.proofs.NotMissed.{nothing_says_nothing}
@@ -25,6 +25,7 @@ is_opened place bytes lines len end all at (left, cut, found) =
     record {
       cut = parts.more;
       is = parts.is ∙ ap (λ t. t ++ parts.more) (sym text);
+      ended = ap ended_text text ∙ ap text_of parts.front ∙ sym text;
       found = found ∙ ap (λ ls. ahead (read_ahead lines ls)) (sym parts.lines);
       again = ap (found_in place) (text ∙ sym (append-nil (text_of cut.kept)))
           ∙ found_again place bytes [] cut.kept (read_ahead lines left) found cut.lines (nothing_says_nothing place lines.end);

@@ -1,5 +1,5 @@
 -- The lines of a text, by those of its front and of its end.
-use Rattle.std.proofs.Common.{◌≡◌, ◌∙◌, ◌+◌, ◌-◌, ◌<◌, ◌≤◌, ℕ, zero, suc, Bool, true, false, cond, List, [], ◌∷◌, ◌++◌, length, take, Some, refl, ap, sym, subst, arith, append_assoc}
+use Rattle.std.proofs.Common.{◌≡◌, ◌∙◌, ◌+◌, ◌-◌, ◌<◌, ◌≤◌, ℕ, zero, suc, Bool, true, false, cond, List, [], ◌∷◌, ◌++◌, length, take, Some, refl, ap, sym, subst, arith, append-nil, append_assoc}
 use Rattle.std.proofs.Math.Seq.{take-append-add}
 use Rattle.std.proofs.lemmas.List.{append_cancel_left}
 use Rattle.std.proofs.lemmas.List.Splits.{length-slice_split}
@@ -53,6 +53,7 @@ lines_then (k ∷ kept) more all =
 pub record Parted (bytes : List ℕ) (kept left : List (List ℕ)) : Type 0 where
   pub more : List ℕ
   pub is : bytes ≡ text_of kept ++ more
+  pub front : ended_lines (text_of kept) ≡ kept
   pub lines : ended_lines more ≡ left
 
 last_there : (ps : List (List ℕ)) → 0 < length ps → (r : List ℕ) × (last_of ps ≡ Some r)
@@ -77,6 +78,7 @@ parted bytes kept left lines =
     record {
       more = text_of left ++ rest.0;
       is = is;
+      front = ap ended_lines (sym (append-nil (text_of kept))) ∙ lines_then kept [] all ∙ append-nil kept;
       lines = append_cancel_left kept (ended_lines (text_of left ++ rest.0)) left
           (sym (lines_then kept (text_of left ++ rest.0) all) ∙ ap ended_lines (sym is) ∙ lines);
     }

@@ -16,6 +16,7 @@ abbrev pub CountsRefused : {T : Type 0} → Result T ChainFault → ℕ → ℕ 
 CountsRefused (Ok value) old new = new ≡ old
 CountsRefused (Err fault.OpenFailed) old new = MoreFaults old new
 CountsRefused (Err fault.NoMemory) old new = new ≡ old
+CountsRefused (Err (fault.OtherRules number)) old new = new ≡ old
 CountsRefused (Err fault.OtherRegister) old new = new ≡ old
 CountsRefused (Err fault.TooShort) old new = new ≡ old
 CountsRefused (Err (fault.Differs number)) old new = new ≡ old

@@ -8,7 +8,7 @@ use Rattle.clr_journal.specs.Journals.{next_place, turn_after, withdraws}
 use Rattle.clr_journal.specs.Line.{Entry, carried, withdrawn, is_accepted, read_line}
 use Rattle.clr_journal.specs.declared.reading.Turn.{Turn}
 use Rattle.clr_chain.specs.Chain.{ReadOn, links_of, read_on}
-use Rattle.clr_chain.specs.First.{end_at, read_first}
+use Rattle.clr_chain.specs.First.{end_at, other_rules_in, read_first}
 use Rattle.clr_chain.specs.Link.{is_own}
 use Rattle.clr_chain.specs.declared.chain_end.ChainEnd.{ChainEnd}
 use Rattle.clr_place.specs.declared.place.Place.{Place}
@@ -49,10 +49,12 @@ sought place (text ∷ rest) =
 
 -- ---- what is found
 
--- THE JOURNAL IS ANOTHER REGISTER'S; it does not have the register's number; at the register's
--- number it differs; the line of this number is bad; or these lines come after the register's, with
--- the end of the chain after them, and the texts after the last of them, which were never synced
+-- THE JOURNAL GOES BY OTHER RULES, of this number; it is another register's; it does not have the
+-- register's number; at the register's number it differs; the line of this number is bad; or these
+-- lines come after the register's, with the end of the chain after them, and the texts after the
+-- last of them, which were never synced
 pub data Found : Type 0 where
+  other_rules : ℕ → Found
   other_register : Found
   too_short : Found
   differs : ℕ → Found
@@ -107,12 +109,23 @@ first_text_of (text ∷ rest) = Some text
 abbrev pub first_of : List ℕ → Option Place
 first_of bytes = option_and_then read_first (first_text_of (ended_lines (take 4096 bytes)))
 
-abbrev pub found_from : Place → List (List ℕ) → Option Place → Found
-found_from place links None = bad_line 0
-found_from place links (Some first) =
+-- which other rules the first line names
+abbrev pub other_rules_of : List ℕ → Option ℕ
+other_rules_of bytes =
+    option_and_then other_rules_in (first_text_of (ended_lines (take 4096 bytes)))
+
+-- there is no first line by these rules: it may be one by others
+abbrev pub found_unread : Option ℕ → Found
+found_unread None = bad_line 0
+found_unread (Some number) = other_rules number
+
+abbrev pub found_from : Place → List (List ℕ) → Option ℕ → Option Place → Found
+found_from place links other None = found_unread other
+found_from place links other (Some first) =
     if bytes_eq first.id place.id
     then found_by place first links (sought place links) else other_register
 
 -- WHAT IS FOUND in the bytes of a journal
 unfoldable pub found_in : Place → List ℕ → Found
-found_in place bytes = found_from place (links_of bytes) (first_of bytes)
+found_in place bytes =
+    found_from place (links_of bytes) (other_rules_of bytes) (first_of bytes)

@@ -1,9 +1,9 @@
 -- LAWS OF CHAINS
 use Rattle.std.specs.Prelude.{◌≡◌, ◌≢◌, ◌≤◌, ◌⊎◌, ℕ, true, false, List, [], ◌∷◌, ◌++◌, length}
-use Rattle.std.specs.Prelude.{bytes_eq, map, take, Some}
+use Rattle.std.specs.Prelude.{◌^◌, bytes_eq, map, nat_lt, take, Some}
 use Rattle.std.specs.List.{list_any}
 use Rattle.std.specs.Str.{is_utf8}
-use Rattle.clr_append.specs.Lines.{ended_lines, is_line_feed, text_of}
+use Rattle.clr_append.specs.Lines.{ended_lines, is_line_feed, text_of, with_feed}
 use Rattle.clr_rules.specs.Register.{Register}
 use Rattle.clr_rules.specs.Answer.{Answer, answer}
 use Rattle.clr_rules.specs.Run.{after}
@@ -14,8 +14,9 @@ use Rattle.clr_journal.specs.Laws.{can_be_written, turn_behind}
 use Rattle.clr_journal.specs.Line.{Entry, carried, is_accepted, line_text}
 use Rattle.clr_journal.specs.declared.line.Receipt.{Receipt}
 use Rattle.clr_chain.specs.Chain.{ReadOn, read_on}
-use Rattle.clr_chain.specs.Finding.{Found, ahead, first_of, found_in}
-use Rattle.clr_chain.specs.First.{end_at, first_text, first_turn_at, read_first}
+use Rattle.clr_chain.specs.Finding.{Found, ahead, first_of, found_in, other_rules}
+use Rattle.clr_chain.specs.First.{end_at, first_text, first_text_by, first_turn_at, read_first}
+use Rattle.clr_chain.specs.First.{rules}
 use Rattle.clr_chain.specs.Level.{IsLevel, IsRunOf, place_after}
 use Rattle.clr_chain.specs.Link.{link_text, read_link}
 use Rattle.clr_chain.specs.Near.{SayNothing, found_near, stopped}
@@ -149,3 +150,11 @@ FrontsAreFound = (place : Place) (bytes : List ℕ) (kept : List (List ℕ)) (re
 abbrev pub NewJournalsOpen : Type 0
 NewJournalsOpen = (first : Place) → CanBegin first
     → found_in first (new_text first) ≡ ahead (stopped (end_at first) [])
+
+-- A JOURNAL BY OTHER RULES SAYS WHICH, wherever the register is, and whatever comes after its first
+-- line
+abbrev pub OthersAreFound : Type 0
+OthersAreFound = (number : ℕ) (place first : Place) (more : List ℕ) → CanBegin first
+    → nat_lt number (2 ^ 64) ≡ true → number ≢ rules
+    → length (with_feed (first_text_by number first)) ≤ 4096
+    → found_in place (with_feed (first_text_by number first) ++ more) ≡ other_rules number

@@ -4,7 +4,7 @@ use Rattle.clr_append.specs.Lines.{ended_lines, text_of, unfinished}
 use Rattle.clr_journal.specs.Line.{entry_of}
 use Rattle.clr_chain.specs.Chain.{ReadOn}
 use Rattle.clr_chain.specs.Finding.{Found, Sought, ahead, bad_line, differs, met, other_register}
-use Rattle.clr_chain.specs.Finding.{passed, too_short, unmet}
+use Rattle.clr_chain.specs.Finding.{other_rules, passed, too_short, unmet}
 use Rattle.clr_chain.specs.declared.finding.Ahead.{Ahead as SeenAhead}
 use Rattle.clr_chain.specs.declared.finding.Found.{Found as SeenFound}
 use Rattle.clr_chain.specs.declared.finding.Found.TheVariants as seen
@@ -40,6 +40,7 @@ AreAhead rest seen found = (after : List ℕ) × (unfinished after ≡ rest) × 
     }))
 
 abbrev pub IsFoundWith : Option (List ℕ) → SeenFound → Found → Type 0
+IsFoundWith rest (seen.OtherRules number) found = found ≡ other_rules number
 IsFoundWith rest seen.OtherRegister found = found ≡ other_register
 IsFoundWith rest seen.TooShort found = found ≡ too_short
 IsFoundWith rest (seen.Differs number) found = found ≡ differs number
@@ -55,6 +56,7 @@ pub record IsCut (bytes : List ℕ) (left : List (List ℕ)) (rest : ℕ) : Type
 
 -- WHAT WAS FOUND IN THESE BYTES is this
 abbrev pub IsFound : List ℕ → SeenFound → Found → Type 0
+IsFound bytes (seen.OtherRules number) found = found ≡ other_rules number
 IsFound bytes seen.OtherRegister found = found ≡ other_register
 IsFound bytes seen.TooShort found = found ≡ too_short
 IsFound bytes (seen.Differs number) found = found ≡ differs number
@@ -66,6 +68,11 @@ IsFound bytes (seen.Ahead lines) found = (left : List (List ℕ)) × IsCut bytes
       left = left;
     }))
 
+-- where there is no first line by these rules
+abbrev pub seen_unread : Option ℕ → SeenFound
+seen_unread None = seen.BadLine 0
+seen_unread (Some number) = seen.OtherRules number
+
 -- what the end of a journal says, if it says what is found
 abbrev pub IsFoundNear : Option (List ℕ) → Option SeenFound → Option Found → Type 0
 IsFoundNear rest None found = found ≡ None
@@ -74,6 +81,7 @@ IsFoundNear rest (Some seen) found =
 
 -- how many bytes are to be cut off
 abbrev pub rest_of : SeenFound → ℕ
+rest_of (seen.OtherRules number) = 0
 rest_of seen.OtherRegister = 0
 rest_of seen.TooShort = 0
 rest_of (seen.Differs number) = 0

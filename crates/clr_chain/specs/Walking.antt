@@ -1,7 +1,9 @@
 -- A CHAIN IS READ LINE BY LINE, to its end: the lines that hold their sums, and the numbers of those
 -- that do not.
-use Rattle.std.specs.Prelude.{◌==◌, ◌&&◌, ℕ, Bool, true, false, List, [], ◌∷◌, codes}
-use Rattle.std.specs.Prelude.{Option, None, Some, bytes_eq, option_and_then}
+use Rattle.std.specs.Prelude.{◌-◌, ◌==◌, ◌&&◌, ℕ, Bool, true, false, List, [], ◌∷◌, codes, drop}
+use Rattle.std.specs.Prelude.{Option, None, Some, bytes_eq, if◌then◌else◌, length, option_and_then}
+use Rattle.std.specs.Prelude.{take}
+use Rattle.std.specs.Str.{is_utf8}
 use Rattle.serde_json.specs.Find.{as_str}
 use Rattle.clr_text.specs.Reading.{value_of}
 use Rattle.clr_journal.specs.Journals.{next_place, turn_after}
@@ -26,20 +28,27 @@ seen_step (seen.Bad number) = bad number
 abbrev pub sum_said : List ℕ → Option (List ℕ)
 sum_said text = option_and_then (at_key as_str (codes "sum")) (value_of text)
 
--- one more line, of which nothing is known
-abbrev pub end_unknown : ChainEnd → ChainEnd
-end_unknown end =
-    record { turn = record { last = next_place end.turn.last; is_open = false }; sum = end.sum }
+-- where the text of a command's line has its sum: the last 64 bytes before its last two
+abbrev pub sum_bytes : List ℕ → List ℕ
+sum_bytes text = drop (length text - 66) (take (length text - 2) text)
 
-abbrev pub end_by : ChainEnd → Option Entry → Option (List ℕ) → ChainEnd
-end_by end None sum = end_unknown end
-end_by end (Some entry) None = end_unknown end
-end_by end (Some entry) (Some sum) = record { turn = turn_after entry; sum = sum }
+-- one more line, of which nothing is known but where it has its sum
+abbrev pub end_unread : ChainEnd → List ℕ → ChainEnd
+end_unread end text = record {
+  turn = record { last = next_place end.turn.last; is_open = false };
+  sum = if is_utf8 (sum_bytes text) then sum_bytes text else end.sum;
+}
+
+abbrev pub end_by : ChainEnd → List ℕ → Option Entry → Option (List ℕ) → ChainEnd
+end_by end text None sum = end_unread end text
+end_by end text (Some entry) None = end_unread end text
+end_by end text (Some entry) (Some sum) = record { turn = turn_after entry; sum = sum }
 
 -- WHERE A CHAIN GOES ON after a line that does not hold its sum: at the number and the sum that it
--- says. So the line after it is looked at by itself
+-- says; where it cannot be read, at the next number, and at the bytes in the place of its sum. So
+-- the line after it is looked at by itself
 abbrev pub end_said : ChainEnd → List ℕ → ChainEnd
-end_said end text = end_by end (read_line text) (sum_said text)
+end_said end text = end_by end text (read_line text) (sum_said text)
 
 abbrev pub step_by : ChainEnd → List ℕ → Option Entry → Step × ChainEnd
 step_by end text (Some entry) = (holds entry, end_after end entry)

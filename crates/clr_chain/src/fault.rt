@@ -14,6 +14,9 @@ pub enum ChainFault {
     /// Memory ran out.
     #[error("out of memory")]
     NoMemory,
+    /// The journal goes by other rules, of this number.
+    #[error("the journal goes by rules {0}")]
+    OtherRules(u64),
     /// The journal is another register's: it has another id.
     #[error("the journal is another register's")]
     OtherRegister,

@@ -9,9 +9,10 @@ ghost use Rattle.clr_chain.specs.Chain.{links_of, read_on};
 ghost use Rattle.clr_chain.specs.Finding.{end_of, found_after, found_at_first, found_by};
 ghost use Rattle.clr_chain.specs.Finding.{found_in, found_short, says_accepted};
 ghost use Rattle.clr_chain.specs.Reading.{EndsAlike, IsFound, IsFoundWith, seen_read, seen_sought};
+ghost use Rattle.clr_chain.specs.Reading.{seen_unread};
 
 use crate::chain_end::ChainEnd;
-use crate::first::first_of;
+use crate::first::{first_of, other_rules_of};
 use crate::read_on::{ReadOn, read_on};
 use crate::sought::{Sought, seek};
 use crate::values::is_same;
@@ -24,6 +25,8 @@ use std::alloc::{AllocError, Global};
 /// What an opening finds in a journal.
 #[derive(Drop)]
 pub enum Found {
+    /// The journal goes by other rules, of this number.
+    OtherRules(u64),
     /// The journal has another id than the register's place.
     OtherRegister,
     /// The journal does not have the register's number.
@@ -63,7 +66,8 @@ pub fn found_in(alloc: Global, place: &Place, bytes: &[u8]) -> Result<Found, All
     ensures { IfOk result (λ found. IsFound bytes.now found (found_in place.now bytes.now)) }
 {
     let Some(first) = first_of(alloc, bytes)? else {
-        return Ok(Found::BadLine(0));
+        let other = other_rules_of(alloc, bytes)?;
+        return Ok(found_unread(other));
     };
     if !is_same(first.id.as_str().as_bytes(), place.id.as_str().as_bytes()) {
         return Ok(Found::OtherRegister);
@@ -71,6 +75,16 @@ pub fn found_in(alloc: Global, place: &Place, bytes: &[u8]) -> Result<Found, All
     let links = links_of(bytes);
     let sought = seek(alloc, place, links)?;
     found_by(alloc, place, &first, links, sought)
+}
+
+/// What is found, where there is no first line by the program's rules.
+pub(crate) fn found_unread(other: Option<u64>) -> Found
+    ensures { result ≡ seen_unread other }
+{
+    match other {
+        Some(number) => Found::OtherRules(number),
+        None => Found::BadLine(0),
+    }
 }
 
 /// The lines after the first.

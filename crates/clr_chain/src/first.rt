@@ -4,8 +4,9 @@ ghost use Rattle.serde_json.specs.Find.{as_str};
 ghost use Rattle.serde_json.specs.View.{view};
 ghost use Rattle.clr_text.specs.Reading.{value_of};
 ghost use Rattle.clr_journal.specs.Line.{at_key};
-ghost use Rattle.clr_chain.specs.First.{first_data, first_text, place_in, read_first};
-ghost use Rattle.clr_chain.specs.Finding.{first_of};
+ghost use Rattle.clr_chain.specs.First.{first_data_by, first_text, first_text_by, other_rules_in};
+ghost use Rattle.clr_chain.specs.First.{place_in, read_first};
+ghost use Rattle.clr_chain.specs.Finding.{first_of, other_rules_of};
 
 use crate::values::is_same;
 use clr_append::first_line;
@@ -25,17 +26,25 @@ pub(crate) const FRONT: usize = 4096;
 pub fn print_first(alloc: Global, place: &Place) -> Result<String, AllocError>
     ensures { IfOk result (λ text. string_bytes text ≡ first_text place.now) }
 {
-    let value = first_value(alloc, place)?;
+    print_first_by(alloc, RULES, place)
+}
+
+/// The text of a first line that names the rules of this number, without its line feed.
+#[tactic(auto, unfolding(crate::specs::First::first_text_by))]
+fn print_first_by(alloc: Global, number: u64, place: &Place) -> Result<String, AllocError>
+    ensures { IfOk result (λ text. string_bytes text ≡ first_text_by number place.now) }
+{
+    let value = first_value(alloc, number, place)?;
     value.to_string(alloc)
 }
 
-/// The JSON value of a first line.
-fn first_value(alloc: Global, place: &Place) -> Result<Value, AllocError>
-    ensures { IfOk result (λ value. view value ≡ first_data place.now) }
+/// The JSON value of a first line that names the rules of this number.
+fn first_value(alloc: Global, number: u64, place: &Place) -> Result<Value, AllocError>
+    ensures { IfOk result (λ value. view value ≡ first_data_by number place.now) }
 {
     let id = Value::try_from_str(alloc, place.id.as_str())?;
     let sum = Value::try_from_str(alloc, place.sum.as_str())?;
-    json!(in alloc; {"journal": id, "number": place.number, "rules": RULES, "sum": sum})
+    json!(in alloc; {"journal": id, "number": place.number, "rules": number, "sum": sum})
 }
 
 /// The place that a journal begins with, by its bytes, of which the first are enough.
@@ -44,6 +53,16 @@ pub(crate) fn first_of(alloc: Global, bytes: &[u8]) -> Result<Option<Place>, All
 {
     match first_line(front_of(bytes)) {
         Some((text, _after)) => read_first(alloc, text),
+        None => Ok(None),
+    }
+}
+
+/// The number of the other rules that a journal names, by its bytes, of which the first are enough.
+pub(crate) fn other_rules_of(alloc: Global, bytes: &[u8]) -> Result<Option<u64>, AllocError>
+    ensures { IfOk result (λ number. number ≡ other_rules_of bytes.now) }
+{
+    match first_line(front_of(bytes)) {
+        Some((text, _after)) => other_rules_in(alloc, text),
         None => Ok(None),
     }
 }
@@ -73,6 +92,32 @@ pub fn read_first(alloc: Global, text: &[u8]) -> Result<Option<Place>, AllocErro
     let own = print_first(alloc, &place)?;
     if is_same(text, own.as_bytes()) {
         Ok(Some(place))
+    } else {
+        Ok(None)
+    }
+}
+
+/// The number of the rules that a text names, if it is a first line in its own form by other rules
+/// than the program's.
+#[tactic(auto, unfolding(crate::specs::First::other_rules_in))]
+pub fn other_rules_in(alloc: Global, text: &[u8]) -> Result<Option<u64>, AllocError>
+    ensures { IfOk result (λ number. number ≡ other_rules_in text.now) }
+{
+    let Some(value) = value_of(alloc, text)? else {
+        return Ok(None);
+    };
+    let Some(number) = value.get("rules").and_then(Value::as_u64) else {
+        return Ok(None);
+    };
+    if number == RULES {
+        return Ok(None);
+    }
+    let Some(place) = place_in(alloc, &value)? else {
+        return Ok(None);
+    };
+    let own = print_first_by(alloc, number, &place)?;
+    if is_same(text, own.as_bytes()) {
+        Ok(Some(number))
     } else {
         Ok(None)
     }

@@ -3,6 +3,7 @@ ghost use Rattle.clr_chain.specs.Laws.{CutsAreNotMissed, EndsSayAll, FirstsAreOn
 ghost use Rattle.clr_chain.specs.Laws.{FirstsReadBack, FrontsAreFound, LinesKeepLevel};
 ghost use Rattle.clr_chain.specs.Laws.{LinksAreOneLine, LinksAreOwn, LinksReadBack};
 ghost use Rattle.clr_chain.specs.Laws.{LostTailsAreMadeGood, NewJournalsAreLevel, NewJournalsOpen};
+ghost use Rattle.clr_chain.specs.Laws.{OthersAreFound};
 ghost use Rattle.clr_chain.specs.Laws.{SameSumSameJournal, StepsKeepLevel, WalksReadOn};
 
 /// The text of a line has no line feed, nor has that of a first line.
@@ -21,6 +22,11 @@ pub fn links_read_back()
 pub fn new_journals_open()
     ensures reads { FirstsReadBack }
     ensures opens { NewJournalsOpen }
+{}
+
+/// A journal by other rules is found to be so, wherever the register is.
+pub fn others_are_found()
+    ensures { OthersAreFound }
 {}
 
 /// Two journals with one sum are the same up to it, byte for byte; or a collision of SHA-256 is

@@ -25,7 +25,7 @@ pub use chain_end::ChainEnd;
 pub use clr_place::Place;
 pub use fault::{ChainFault, NewFault};
 pub use finding::{Ahead, Found, found_in};
-pub use first::{print_first, read_first};
+pub use first::{other_rules_in, print_first, read_first};
 pub use looking::{Looked, look};
 pub use opening::{OpenedChain, open_chain};
 pub use print::{Link, print_carried, print_withdrawn};

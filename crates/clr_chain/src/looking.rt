@@ -1,12 +1,12 @@
 //! What an opening finds in the journal on a disk: of what the disk holds only the first line and
 //! the end are read.
 ghost use Rattle.std.specs.Prelude.{◌≡◌, ◌≤◌, IfOk, IfSome, IsTrue, Some, bytes_eq, length, true};
-ghost use Rattle.clr_chain.specs.Finding.{first_of, found_in};
+ghost use Rattle.clr_chain.specs.Finding.{first_of, found_in, other_rules_of};
 ghost use Rattle.clr_chain.specs.OnDisk.{CountsFailed, WasRead};
 ghost use Rattle.clr_chain.specs.Reading.{IsFound, rest_of};
 
-use crate::finding::{Found, found_in};
-use crate::first::{FRONT, first_of};
+use crate::finding::{Found, found_in, found_unread};
+use crate::first::{FRONT, first_of, other_rules_of};
 use crate::near::found_near;
 use crate::part::part_of;
 use crate::values::is_same;
@@ -68,8 +68,9 @@ fn found_on<D: Disk>(
     ensures counts { (IsTrue (D.Disk.is_clean disk.old) → len ≡ length (D.Disk.seen disk.old))
         → CountsFailed result (D.Disk.faults disk.old) (D.Disk.faults disk.new) }
 {
-    let Some(first) = first_on(alloc, disk, len)? else {
-        return Ok(Found::BadLine(0));
+    let (first, other) = first_on(alloc, disk, len)?;
+    let Some(first) = first else {
+        return Ok(found_unread(other));
     };
     if is_same(first.id.as_str().as_bytes(), place.id.as_str().as_bytes()) {
         look_back(alloc, place, &first, disk, len)
@@ -78,11 +79,18 @@ fn found_on<D: Disk>(
     }
 }
 
-/// The place that a journal on a disk begins with.
-fn first_on<D: Disk>(alloc: Global, disk: &mut D, len: usize) -> Result<Option<Place>, OpenFault>
+/// The place that a journal on a disk begins with, and the number of the other rules that it names.
+fn first_on<D: Disk>(
+    alloc: Global,
+    disk: &mut D,
+    len: usize,
+) -> Result<(Option<Place>, Option<u64>), OpenFault>
     requires { IsTrue (D.Disk.is_usable disk.old) }
-    ensures first { IfOk result (λ first. IsTrue (D.Disk.is_clean disk.new)
-        → len ≡ length (D.Disk.seen disk.old) → first ≡ first_of (D.Disk.seen disk.old)) }
+    ensures first { IfOk result (λ found. IsTrue (D.Disk.is_clean disk.new)
+        → len ≡ length (D.Disk.seen disk.old) → found.0 ≡ first_of (D.Disk.seen disk.old)) }
+    ensures other { IfOk result (λ found. IsTrue (D.Disk.is_clean disk.new)
+        → len ≡ length (D.Disk.seen disk.old)
+        → found.1 ≡ other_rules_of (D.Disk.seen disk.old)) }
     ensures read { WasRead D.Disk.seen D.Disk.may_leave D.Disk.is_clean D.Disk.is_usable
         disk.old disk.new }
     ensures counts { (IsTrue (D.Disk.is_clean disk.old) → len ≡ length (D.Disk.seen disk.old))
@@ -90,7 +98,8 @@ fn first_on<D: Disk>(alloc: Global, disk: &mut D, len: usize) -> Result<Option<P
 {
     let front = part_of(alloc, disk, 0, FRONT.min(len))?;
     let first = first_of(alloc, &front)?;
-    Ok(first)
+    let other = other_rules_of(alloc, &front)?;
+    Ok((first, other))
 }
 
 /// What is found from the end of a journal back, as far as it is needed.

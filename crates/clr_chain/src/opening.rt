@@ -92,6 +92,7 @@ fn ahead_on<D: Disk>(
             let end = len - ahead.rest;
             Ok((ahead, end))
         }
+        Found::OtherRules(number) => Err(ChainFault::OtherRules(number)),
         Found::OtherRegister => Err(ChainFault::OtherRegister),
         Found::TooShort => Err(ChainFault::TooShort),
         Found::Differs(number) => Err(ChainFault::Differs(number)),

@@ -6,10 +6,10 @@ ghost use Rattle.clr_chain.specs.Link.{link_text};
 ghost use Rattle.clr_chain.specs.Sums.{sum_after};
 
 use crate::sums::sum_of;
-use crate::values::{carried_link, withdrawn_link};
+use crate::values::withdrawn_link;
 use clr_journal::Receipt;
 use clr_rules::{Command, Reply, Text};
-use clr_text::reply_value;
+use serde_json::Value;
 use std::alloc::{AllocError, Global};
 
 /// A line that is to be appended: its text, without a line feed, and the sum at it.
@@ -19,7 +19,8 @@ pub struct Link {
     pub sum: Text,
 }
 
-/// The line of a command and its reply, after a sum.
+/// The line of a command and its reply, after a sum. Its own sum is the last of its keys, so it is
+/// put in before the closing brace.
 #[tactic(auto, unfolding(crate::specs::Sums::sum_after, crate::specs::Link::link_text))]
 pub fn print_carried(
     alloc: Global,
@@ -33,11 +34,14 @@ pub fn print_carried(
     ensures sum { IfOk result (λ link. link.sum
         ≡ sum_after before.now (carried receipt.now command.now (reply_data reply.now))) }
 {
-    let line = clr_journal::print_carried(alloc, receipt, command, reply)?;
-    let sum = sum_of(alloc, before.as_str().as_bytes(), line.as_bytes())?;
-    let reply = reply_value(alloc, reply)?;
-    let value = carried_link(alloc, receipt, command, reply, sum.as_str())?;
-    let text = value.to_string(alloc)?;
+    let mut text = clr_journal::print_carried(alloc, receipt, command, reply)?;
+    let sum = sum_of(alloc, before.as_str().as_bytes(), text.as_bytes())?;
+    let value = Value::try_from_str(alloc, sum.as_str())?;
+    let quoted = value.to_string(alloc)?;
+    text.pop();
+    text.push_str(",\"sum\":")?;
+    text.push_str(quoted.as_str())?;
+    text.push_str("}")?;
     Ok(Link { text, sum })
 }
 

@@ -15,7 +15,7 @@ use serde_json::{Value, json};
 use std::alloc::{AllocError, Global};
 
 /// The value of a line with its sum, whose reply is this value.
-pub(crate) fn carried_link(
+fn carried_link(
     alloc: Global,
     receipt: &Receipt,
     command: &Command,

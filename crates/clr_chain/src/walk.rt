@@ -3,7 +3,8 @@ ghost use Rattle.std.specs.Prelude.{◌≡◌, IfOk, OnErr, OnOk, false, option_
 ghost use Rattle.clr_journal.specs.Journals.{turn_after};
 ghost use Rattle.clr_journal.specs.Line.{read_line};
 ghost use Rattle.clr_chain.specs.First.{end_at, read_first};
-ghost use Rattle.clr_chain.specs.Walking.{end_said, goes_on, part_of, seen_step, step_of, sum_said};
+ghost use Rattle.clr_chain.specs.Walking.{end_said, end_unread, goes_on, part_of, seen_step};
+ghost use Rattle.clr_chain.specs.Walking.{step_of, sum_bytes, sum_said};
 
 use crate::chain_end::{ChainEnd, next_link};
 use crate::first::{read_first, text_at, value_of};
@@ -71,14 +72,29 @@ impl Walk {
         let turn = turn_said(alloc, text)?;
         let sum = sum_said(alloc, text)?;
         match (turn, sum) {
-            (Some(turn), Some(sum)) => self.end = ChainEnd { turn, sum },
-            _ => {
-                self.end.turn = Turn {
-                    last: self.end.turn.last.saturating_add(1),
-                    is_open: false,
-                };
+            (Some(turn), Some(sum)) => {
+                self.end = ChainEnd { turn, sum };
+                Ok(())
             }
+            _ => self.pass_unread(alloc, text),
         }
+    }
+
+    /// Passes over a line that cannot be read, or says no sum.
+    #[tactic(auto, using(crate::proofs::Walked::text_there, crate::proofs::Walked::no_text))]
+    fn pass_unread(&mut self, alloc: Global, text: &[u8]) -> Result<(), AllocError>
+        ensures end { OnOk result (self.new.end ≡ end_unread self.old.end text.now) }
+        ensures id { self.new.id ≡ self.old.id }
+        ensures failed { OnErr result (self.new ≡ self.old) }
+    {
+        if let Ok(sum) = str::from_utf8(sum_bytes(text)) {
+            let sum = String::from_str(alloc, sum)?;
+            self.end.sum = Text::new(sum);
+        }
+        self.end.turn = Turn {
+            last: self.end.turn.last.saturating_add(1),
+            is_open: false,
+        };
         Ok(())
     }
 
@@ -149,4 +165,13 @@ fn sum_said(alloc: Global, text: &[u8]) -> Result<Option<Text>, AllocError>
     };
     let sum = String::from_str(alloc, sum)?;
     Ok(Some(Text::new(sum)))
+}
+
+/// The bytes of a text where the line of a command has its sum, before `"}`.
+#[tactic(auto, using(crate::proofs::Walked::sum_there))]
+fn sum_bytes(text: &[u8]) -> &[u8]
+    ensures { result.now ≡ sum_bytes text.now }
+{
+    let len = text.len();
+    &text[len.saturating_sub(66)..len.saturating_sub(2)]
 }

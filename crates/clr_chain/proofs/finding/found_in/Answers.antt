@@ -1,6 +1,6 @@
 use Rattle.std.proofs.Common.{◌≡◌, ◌∙◌, Some, ap₂, bytes_eq, sym, true}
 use Rattle.std.proofs.lemmas.Result.{IfOk-weaker}
-use Rattle.clr_chain.proofs.Cutting.{found_by_links}
+use Rattle.clr_chain.proofs.Cutting.{found_by_links, found_no_first}
 use Rattle.clr_chain.specs.Finding.{first_of}
 use Rattle.clr_chain.specs.Reading.{seen_sought}
 use Rattle.clr_chain.proofs.finding.found_in.Goals as goal
@@ -14,3 +14,8 @@ returns c =
     IfOk-weaker c.found_by.result _ _
     (λ found h. found_by_links c.args.place.now first c.args.bytes.now c.links_of-links.result.now (seen_sought c.in_ok-sought.sought) found is same
     c.links_of-links.ensures.lines c.links_of-links.ensures.rest c.in_ok-sought.ensures.found h) c.found_by.ensures
+
+pub returns-in_default : goal.returns-in_default
+returns-in_default c =
+    found_no_first c.args.place.now c.args.bytes.now c.found_unread.result c.in_ok-other.other (sym c.in_ok-first.ensures ∙ c.in_default.is) c.in_ok-other.ensures
+    c.found_unread.ensures
