@@ -1,10 +1,11 @@
 -- What a crash leaves of an append begins with the text before it.
-use Rattle.std.proofs.Common.{◌≡◌, ◌∙◌, ◌<◌, ◌≤◌, ℕ, List, length, take, get_or, sym, subst, ap, arith}
+use Rattle.std.proofs.Common.{◌≡◌, ◌∙◌, ◌<◌, ◌≤◌, ℕ, List, [], ◌∷◌, ◌++◌, length, take, get_or, sym, subst, ap, arith}
 use Rattle.std.proofs.Math.Seq.{take-length}
 use Rattle.std.proofs.lemmas.Grind.{same_number_lists}
-use Rattle.std.proofs.lemmas.List.{get_or-take, length-take, length-take-le}
+use Rattle.std.proofs.lemmas.List.{get_or-take, length-take, length-take-le, take-append-le}
 use Rattle.sqlite_disk.specs.Disk.{Follows, Only}
-use Rattle.clr_append.specs.Journal.{BeginsWith, Grown}
+use Rattle.clr_append.specs.Journal.{BeginsWith, Grown, with_line}
+use Rattle.clr_level.specs.Journaling.{IsKept, IsSafe, StaySafe}
 
 pub begins_itself : (text : List ℕ) → BeginsWith text text
 begins_itself text = take-length text
@@ -15,17 +16,18 @@ front_length before d begins =
     let b = length-take (length before) d in
     omega (arith, a, b)
 
-front_kept : (before d c : List ℕ) (n : ℕ) → BeginsWith before d → Grown (length before) n d c → BeginsWith before c
-front_kept before d c n begins grown =
+front_kept : (before d c : List ℕ) (at n : ℕ) → length before ≤ at → BeginsWith before d → Grown at n d c → BeginsWith before c
+front_kept before d c at n below begins grown =
     let within = front_length before d begins in
     let shorter = grown.no_shorter in
-    let more : length before ≤ length c = omega (arith, within, shorter) in
+    let more : length before ≤ length c = omega (arith, within, shorter, below) in
     let same : length (take (length before) c) ≡ length before = length-take-le (length before) c more in
     same_number_lists (take (length before) c) before same
-    (λ k below.
-    let inside : k < length before = omega (arith, below, same) in
+    (λ k under.
+    let inside : k < length before = omega (arith, under, same) in
     let there : k < length d = omega (arith, inside, within) in
-    get_or-take (length before) c k 0 inside ∙ grown.below k there inside ∙ sym (get_or-take (length before) d k 0 inside)
+    let here : k < at = omega (arith, inside, below) in
+    get_or-take (length before) c k 0 inside ∙ grown.below k there here ∙ sym (get_or-take (length before) d k 0 inside)
     ∙ ap (λ (xs : List ℕ). get_or xs k 0) begins)
 
 -- where a crash left the bytes alone that there were
@@ -33,8 +35,37 @@ pub append_keeps : (before found : List ℕ) (n : ℕ) (old new : List ℕ → T
     → Follows (Grown (length before) n) old new → (bytes : List ℕ) → new bytes → BeginsWith before bytes
 append_keeps before found n old new begins only follows bytes left =
     let from = follows bytes left in
-    front_kept before found bytes n begins (subst (λ (d : List ℕ). Grown (length before) n d bytes) (only from.0 from.1) from.2)
+    front_kept before found bytes (length before) n (omega arith) begins (subst (λ (d : List ℕ). Grown (length before) n d bytes) (only from.0 from.1) from.2)
 
 pub only_keeps : (before found : List ℕ) (left : List ℕ → Type 0) → BeginsWith before found → Only found left
     → (bytes : List ℕ) → left bytes → BeginsWith before bytes
 only_keeps before found left begins only bytes is = subst (λ (d : List ℕ). BeginsWith before d) (sym (only bytes is)) begins
+
+-- ---- what was safe is after an append
+
+still_kept : {J : Type 0} (text : J → List ℕ) (may_leave : J → List ℕ → Type 0) (n : ℕ) (old new : J) (front : List ℕ)
+    → Follows (Grown (length (text old)) n) (may_leave old) (may_leave new) → IsSafe text may_leave front old → IsKept may_leave front new
+still_kept text may_leave n old new front follows safe bytes left =
+    let from = follows bytes left in
+    front_kept front from.0 bytes (length (text old)) n (front_length front (text old) safe.begins) (safe.kept from.0 from.1) from.2
+
+pub written_safe : {J : Type 0} (text : J → List ℕ) (may_leave : J → List ℕ → Type 0) (n : ℕ) (line : List ℕ) (old new : J) → text new ≡ with_line (text old) line
+    → Follows (Grown (length (text old)) n) (may_leave old) (may_leave new) → StaySafe text may_leave old new
+written_safe text may_leave n line old new is follows front safe = record {
+  begins = ap (take (length front)) is ∙ take-append-le (length front) (text old) (line ++ 10 ∷ []) (front_length front (text old) safe.begins) ∙ safe.begins;
+  kept = still_kept text may_leave n old new front follows safe;
+}
+
+pub unwritten_safe : {J : Type 0} (text : J → List ℕ) (may_leave : J → List ℕ → Type 0) (n : ℕ) (old new : J) → text new ≡ text old
+    → Follows (Grown (length (text old)) n) (may_leave old) (may_leave new) → StaySafe text may_leave old new
+unwritten_safe text may_leave n old new is follows front safe = record {
+  begins = ap (take (length front)) is ∙ safe.begins;
+  kept = still_kept text may_leave n old new front follows safe;
+}
+
+pub synced_safe : {J : Type 0} (text : J → List ℕ) (may_leave : J → List ℕ → Type 0) (old new : J) → text new ≡ text old
+    → ((bytes : List ℕ) → may_leave new bytes → may_leave old bytes) → StaySafe text may_leave old new
+synced_safe text may_leave old new is less front safe = record {
+  begins = ap (take (length front)) is ∙ safe.begins;
+  kept = λ bytes left. safe.kept bytes (less bytes left);
+}

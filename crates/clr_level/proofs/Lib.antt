@@ -11,3 +11,5 @@ pub mod Sounds
 pub mod Taken
 pub mod Tried
 pub mod BegunLevel
+pub mod Restarts
+pub mod Safes

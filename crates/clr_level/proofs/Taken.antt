@@ -11,7 +11,7 @@ use Rattle.clr_place.specs.declared.place.Place.{Place}
 use Rattle.clr_desk.specs.Commit.{Stays}
 use Rattle.clr_desk.specs.Taking.{Came, Taking, is_refused}
 use Rattle.clr_desk.specs.declared.desk_fault.DeskFault.{DeskFault}
-use Rattle.clr_level.specs.Journaling.{HasText, IsAsItWas, IsDurable, IsNoted, IsSound, IsUnwritten, Journals, Misses, has_line, is_show, left, left_by, unasked, unkept, unwritten}
+use Rattle.clr_level.specs.Journaling.{HasText, IsAsItWas, IsDurable, IsNoted, IsSafe, IsSound, IsUnwritten, Journals, Misses, StaySafe, has_line, is_show, left, left_by, unasked, unkept, unwritten}
 use Rattle.clr_desk.specs.Placing.{CommitsAt, Placing}
 use Rattle.clr_level.specs.Placing.{ComesTo, StaysShown}
 use Rattle.clr_level.specs.declared.keeper.Keeper.{Keeper}
@@ -66,11 +66,14 @@ module _ {K J C : Type 0} (takes : Taking K) (kept : K → State) (has_place : P
     synced = λ is. subst (λ (j : J). Only (found j) (may_leave j)) (sym beside.journal) (sound.synced (sym beside.synced ∙ is));
   }
 
+  safe_as : (mid new : Keeper K J C) → IsBeside mid new → StaySafe text may_leave mid.journal new.journal
+  safe_as mid new beside front was = subst (λ (j : J). IsSafe text may_leave front j) (sym beside.journal) was
+
   pub unwritten_is : (old : Keeper K J C) (q : Command) (reply : Reply) (fault : DeskFault) (new : Keeper K J C)
       → IsUnwritten shows text found may_leave old q reply fault new → new.keeper ≡ old.keeper
-      → (IsSound text found may_leave old → IsSound text found may_leave new)
+      → (IsSound text found may_leave old → IsSound text found may_leave new) → StaySafe text may_leave old.journal new.journal
       → Journals takes kept has_place shows text found may_leave old q reply (Err fault) new
-  unwritten_is old q reply fault new un same sound = record {
+  unwritten_is old q reply fault new un same sound safe = record {
     noted = λ ok. absurd (cc ok);
     asked = λ ok. absurd (cc ok);
     durable = λ ok. absurd (cc ok);
@@ -81,15 +84,17 @@ module _ {K J C : Type 0} (takes : Taking K) (kept : K → State) (has_place : P
         let same_fault : fault ≡ f = cc is in
         subst (λ (g : DeskFault). Misses takes kept shows text found may_leave old q reply g new) same_fault (unwritten un same);
     sound = sound;
+    safe = safe;
   }
 
   -- an accepted command, whose line is durable
   pub kept_is : (old mid new : Keeper K J C) (q : Command) (reply : Reply) (edits : List Edit) → is_accepted reply ≡ true → IsNoted shows text old q reply mid
       → mid.last ≡ Settled → IsDurable text may_leave mid.journal → (IsSound text found may_leave old → IsSound text found may_leave mid)
+      → StaySafe text may_leave old.journal mid.journal
       → mid.keeper ≡ old.keeper → IsBeside mid new → new.last ≡ mid.last → takes mid.keeper q reply (Ok tt) new.keeper
       → CommitsAt {X = Unit {0}} has_place (kept mid.keeper) (kept new.keeper) edits mid.at (Ok tt)
       → Journals takes kept has_place shows text found may_leave old q reply (Ok tt) new
-  kept_is old mid new q reply edits is noted settled durable sound same beside last taken commits = record {
+  kept_is old mid new q reply edits is noted settled durable sound safe same beside last taken commits = record {
     noted = λ ok has. (noted_as old mid new q reply noted beside, last ∙ settled);
     asked = λ ok none. true_false (has_line q reply) (has_its_line q reply is) none;
     durable = λ ok accepted. subst (IsDurable text may_leave) (sym beside.journal) durable;
@@ -101,14 +106,16 @@ module _ {K J C : Type 0} (takes : Taking K) (kept : K → State) (has_place : P
     taken = λ ok. subst (λ (k : K). takes k q reply (Ok tt) new.keeper) same taken;
     missed = λ f is_fault. absurd (cc is_fault);
     sound = λ was. sound_as mid new beside (sound was);
+    safe = λ front was. safe_as mid new beside front (safe front was);
   }
 
   pub unkept_is : (old mid new : Keeper K J C) (q : Command) (reply : Reply) (fault : DeskFault) (edits : List Edit) → is_accepted reply ≡ true
       → IsNoted shows text old q reply mid → IsDurable text may_leave mid.journal → (IsSound text found may_leave old → IsSound text found may_leave mid)
+      → StaySafe text may_leave old.journal mid.journal
       → mid.keeper ≡ old.keeper → IsBeside mid new → new.last ≡ left_by fault → takes mid.keeper q reply (Err fault) new.keeper
       → CommitsAt {X = Unit {0}} has_place (kept mid.keeper) (kept new.keeper) edits mid.at (Err fault)
       → Journals takes kept has_place shows text found may_leave old q reply (Err fault) new
-  unkept_is old mid new q reply fault edits is noted durable sound same beside last taken commits = record {
+  unkept_is old mid new q reply fault edits is noted durable sound safe same beside last taken commits = record {
     noted = λ ok. absurd (cc ok);
     asked = λ ok. absurd (cc ok);
     durable = λ ok. absurd (cc ok);
@@ -124,14 +131,16 @@ module _ {K J C : Type 0} (takes : Taking K) (kept : K → State) (has_place : P
         (subst (λ (k : K). StaysShown (kept k) (kept new.keeper)) same
         (shows_still has_place (kept mid.keeper) (kept new.keeper) edits mid.at fault commits)));
     sound = λ was. sound_as mid new beside (sound was);
+    safe = λ front was. safe_as mid new beside front (safe front was);
   }
 
   -- a refused one with its line
   pub refused_is : (old mid new : Keeper K J C) (q : Command) (reply : Reply) (came : Came) → is_refused reply ≡ true → is_show q.kind ≡ false
       → IsNoted shows text old q reply mid → mid.last ≡ Settled → (IsSound text found may_leave old → IsSound text found may_leave mid)
+      → StaySafe text may_leave old.journal mid.journal
       → mid.keeper ≡ old.keeper → IsBeside mid new → new.last ≡ mid.last → takes mid.keeper q reply came new.keeper
       → Stays (kept mid.keeper) (kept new.keeper) → Journals takes kept has_place shows text found may_leave old q reply came new
-  refused_is old mid new q reply came refused asks noted settled sound same beside last taken stays =
+  refused_is old mid new q reply came refused asks noted settled sound safe same beside last taken stays =
       let refusal : is_accepted reply ≡ false = refused_reply reply refused in
       let shown : StaysShown (kept old.keeper) (kept new.keeper) =
       subst (λ (k : K). StaysShown (kept k) (kept new.keeper)) same (stays_shown (kept mid.keeper) (kept new.keeper) stays) in
@@ -148,6 +157,7 @@ module _ {K J C : Type 0} (takes : Taking K) (kept : K → State) (has_place : P
             (λ accepted. true_false (is_accepted reply) accepted refusal)
             (subst (λ (c : Came). takes old.keeper q reply c new.keeper) is called) shown;
         sound = λ was. sound_as mid new beside (sound was);
+        safe = λ front was. safe_as mid new beside front (safe front was);
       }
 
   -- one that asks
@@ -169,4 +179,5 @@ module _ {K J C : Type 0} (takes : Taking K) (kept : K → State) (has_place : P
         missed = λ f is.
             unasked (has_none q reply asks refusal) same (subst (λ (c : Came). takes old.keeper q reply c new.keeper) is taken) shown;
         sound = λ was. sound_as old new beside was;
+        safe = λ front was. safe_as old new beside front was;
       }

@@ -27,8 +27,8 @@ use Rattle.clr_desk.specs.declared.desk_fault.DeskFault.{DeskFault}
 use Rattle.clr_desk.specs.Placing.{Placing}
 use Rattle.clr_level.specs.Placing.{ComesTo, IsAt, StaysShown}
 use Rattle.clr_level.specs.declared.fault.OpeningFault.{OpeningFault}
-use Rattle.clr_level.specs.declared.fault.OpeningFault.TheVariants.{OtherRegister, TooShort}
-use Rattle.clr_level.specs.declared.fault.OpeningFault.TheVariants.{Differs, BadLine}
+use Rattle.clr_level.specs.declared.fault.OpeningFault.TheVariants.{OtherRegister, OtherRules}
+use Rattle.clr_level.specs.declared.fault.OpeningFault.TheVariants.{TooShort, Differs, BadLine}
 use Rattle.clr_level.specs.declared.fault.OpeningFault.TheVariants.{Desk as Failed}
 use Rattle.clr_level.specs.declared.keeper.Keeper.{Keeper}
 use Rattle.clr_level.specs.declared.placing.Placed.{Placed}
@@ -134,6 +134,7 @@ IsTried R lines (Some number) = DiffersAt R lines number
 abbrev pub StopsAt : Placing → Register → Place → List Entry → OpeningFault → Register → State
     → Type 0
 StopsAt has_place R place lines (Differs n) S s = (S ≡ R) × DiffersAt R lines n
+StopsAt has_place R place lines (OtherRules n) S s = HasStopped has_place R place lines S s
 StopsAt has_place R place lines OtherRegister S s = HasStopped has_place R place lines S s
 StopsAt has_place R place lines TooShort S s = HasStopped has_place R place lines S s
 StopsAt has_place R place lines (BadLine n) S s = HasStopped has_place R place lines S s
@@ -141,6 +142,7 @@ StopsAt has_place R place lines (Failed cause) S s = HasStopped has_place R plac
 
 -- a fault as commands are carried out: no line differs
 abbrev pub IsOfCarrying : OpeningFault → Type 0
+IsOfCarrying (OtherRules n) = ⊤
 IsOfCarrying OtherRegister = ⊤
 IsOfCarrying TooShort = ⊤
 IsOfCarrying (Differs n) = ⊥
@@ -172,6 +174,7 @@ HearsBelow hears old login new = hears old.keeper login new.keeper
 
 -- what is found gives the lines ahead, or the fault of its name
 abbrev pub IsAheadOf : Found → Result Ahead OpeningFault → Type 0
+IsAheadOf (found.OtherRules n) result = result ≡ Err (OtherRules n)
 IsAheadOf found.OtherRegister result = result ≡ Err OtherRegister
 IsAheadOf found.TooShort result = result ≡ Err TooShort
 IsAheadOf (found.Differs n) result = result ≡ Err (Differs n)

@@ -166,6 +166,17 @@ pub record IsSound {K J C : Type 0} (text found : J → List ℕ) (may_leave : J
 abbrev pub IsKept : {J : Type 0} → (J → List ℕ → Type 0) → List ℕ → J → Type 0
 IsKept may_leave text journal = (bytes : List ℕ) → may_leave journal bytes → BeginsWith text bytes
 
+-- A FRONT OF THE TEXT IS SAFE: a crash leaves it
+pub record IsSafe {J : Type 0} (text : J → List ℕ) (may_leave : J → List ℕ → Type 0)
+    (front : List ℕ) (journal : J) : Type 0 where
+  pub begins : BeginsWith front (text journal)
+  pub kept : IsKept may_leave front journal
+
+-- what was safe is
+abbrev pub StaySafe : {J : Type 0} → (J → List ℕ) → (J → List ℕ → Type 0) → J → J → Type 0
+StaySafe text may_leave old new = (front : List ℕ) → IsSafe text may_leave front old
+    → IsSafe text may_leave front new
+
 -- THE LINE WAS NOT SYNCED: the command is accepted, and it is not known whether a crash leaves the
 -- line. It leaves all lines before
 pub record IsUnsynced {K J C : Type 0} (shows : C → ℕ → Type 0) (text found : J → List ℕ)
@@ -230,6 +241,7 @@ pub record Journals {K J C : Type 0} (takes : Taking K) (kept : K → State) (ha
   pub missed : (fault : DeskFault) → came ≡ Err fault
       → Misses takes kept shows text found may_leave old q reply fault new
   pub sound : IsSound text found may_leave old → IsSound text found may_leave new
+  pub safe : StaySafe text may_leave old.journal new.journal
 
 -- the login of the next command is heard; nothing else changes
 pub record HearsLogin {K J C : Type 0} (old : Keeper K J C) (login : Option (List ℕ))

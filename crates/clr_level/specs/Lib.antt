@@ -2,3 +2,4 @@ pub mod Placing
 pub mod Journaling
 pub mod Levelling
 pub mod Forward
+pub mod Restarting

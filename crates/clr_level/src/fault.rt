@@ -9,6 +9,8 @@ use std::alloc::AllocError;
 /// Why a register and a journal are not opened together.
 #[derive(Clone, Copy, Debug, PartialEq, Eq)]
 pub enum OpeningFault {
+    /// The journal goes by other rules, of this number.
+    OtherRules(u64),
     /// The journal is another register's.
     OtherRegister,
     /// The journal ends before the number of the register.

@@ -1,6 +1,7 @@
 //! Laws of keepers with a journal: the contract of each function is the law, and its body is empty.
 ghost use Rattle.clr_level.specs.Levelling.{BegunIsLevel, EitherIsLevel, LevelIsKept};
 ghost use Rattle.clr_level.specs.Levelling.{SettledIsWhatItSays, SoundIsKept};
+ghost use Rattle.clr_level.specs.Restarting.{DueIsSafe, RestartsKeepLevel, SafeIsKept};
 
 use crate::clock::Clock;
 use clr_desk::CommitAt;
@@ -26,4 +27,13 @@ pub fn either_is_level()
 /// it.
 pub fn begun_is_level<K: CommitAt>(keeper: &K)
     ensures { BegunIsLevel K.has_place (K.kept keeper.now) }
+{}
+
+/// Whatever a crash leaves of journal and register, they are opened again level, or refused. A crash
+/// leaves the lines up to the register's place, whatever the desk was given, and those with the line
+/// of a command that may have been carried out.
+pub fn restarts_keep_level<K: CommitAt, J: Journal + Drop, C: Clock>()
+    ensures safe { SafeIsKept K J C K.takes K.kept K.has_place C.shows J.text J.found J.may_leave }
+    ensures due { DueIsSafe K J C K.kept K.has_place J.text J.may_leave }
+    ensures opened { RestartsKeepLevel }
 {}

@@ -2,7 +2,7 @@
 ghost use Rattle.std.specs.Prelude.{◌≡◌, IfErr, IsTrue, OnErr, OnOk, string_bytes};
 ghost use Rattle.clr_append.specs.Journal.{with_line};
 ghost use Rattle.sqlite_disk.specs.Disk.{Only};
-ghost use Rattle.clr_level.specs.Journaling.{HasText, IsKept, IsOfJournal};
+ghost use Rattle.clr_level.specs.Journaling.{HasText, IsKept, IsOfJournal, StaySafe};
 
 use clr_desk::DeskFault;
 use clr_journal::{Journal, WriteFault};
@@ -18,6 +18,7 @@ pub(crate) fn append<J: Journal>(journal: &mut J, line: String) -> Result<(), De
     ensures before { HasText J.text J.found journal.old
         → Only (J.found journal.old) (J.may_leave journal.old)
         → IsKept J.may_leave (J.text journal.old) journal.new }
+    ensures safe { StaySafe J.text J.may_leave journal.old journal.new }
     ensures fault { IfErr result IsOfJournal }
 {
     if !journal.may_be_used() {

@@ -6,8 +6,8 @@ ghost use Rattle.clr_answer.specs.Decision.{is_accepted as accepts};
 ghost use Rattle.clr_chain.specs.Link.{link_text};
 ghost use Rattle.clr_chain.specs.Sums.{sum_after};
 ghost use Rattle.clr_level.specs.Journaling.{IsDurable, IsKept, IsNoted, IsOfJournal, IsSound};
-ghost use Rattle.clr_level.specs.Journaling.{IsUnnoted, IsUnwritten, end_said, is_doubtful};
-ghost use Rattle.clr_level.specs.Journaling.{line_of, said};
+ghost use Rattle.clr_level.specs.Journaling.{IsUnnoted, IsUnwritten, StaySafe, end_said};
+ghost use Rattle.clr_level.specs.Journaling.{is_doubtful, line_of, said};
 
 use crate::brief::{brief, is_accepted};
 use crate::clock::Clock;
@@ -37,6 +37,7 @@ impl<K: CommitAt, J: Journal + Drop, C: Clock> Keeper<K, J, C> {
         ensures none { OnErr result (IsUnnoted J.text self.old self.new) }
         ensures sound { IsSound J.text J.found J.may_leave self.old
             → IsSound J.text J.found J.may_leave self.new }
+        ensures safe { StaySafe J.text J.may_leave self.old.journal self.new.journal }
         ensures before { accepts reply.now ≡ true → self.new.last ≡ Last.Settled
             → IsSound J.text J.found J.may_leave self.old
             → IsKept J.may_leave (said J.text self.old) self.new.journal }
@@ -66,6 +67,7 @@ impl<K: CommitAt, J: Journal + Drop, C: Clock> Keeper<K, J, C> {
             self.old command.now reply.now fault self.new) }
         ensures sound { IsSound J.text J.found J.may_leave self.old
             → IsSound J.text J.found J.may_leave self.new }
+        ensures safe { StaySafe J.text J.may_leave self.old.journal self.new.journal }
         ensures fault { IfErr result IsOfJournal }
     {
         self.note(command, reply)?;
@@ -89,6 +91,7 @@ impl<K: CommitAt, J: Journal + Drop, C: Clock> Keeper<K, J, C> {
         ensures unready { OnErr result (self.new.last ≢ Last.Settled) }
         ensures sound { IsSound J.text J.found J.may_leave self.old
             → IsSound J.text J.found J.may_leave self.new }
+        ensures safe { StaySafe J.text J.may_leave self.old.journal self.new.journal }
         ensures fault { IfErr result IsOfJournal }
     {
         self.settle()?;
@@ -111,6 +114,7 @@ impl<K: CommitAt, J: Journal + Drop, C: Clock> Keeper<K, J, C> {
         ensures unready { OnErr result (self.new.last ≢ Last.Settled) }
         ensures sound { IsSound J.text J.found J.may_leave self.old
             → IsSound J.text J.found J.may_leave self.new }
+        ensures safe { StaySafe J.text J.may_leave self.old.journal self.new.journal }
         ensures fault { IfErr result IsOfJournal }
     {
         match self.last {
@@ -133,6 +137,7 @@ impl<K: CommitAt, J: Journal + Drop, C: Clock> Keeper<K, J, C> {
         ensures unready { OnErr result (self.new.last ≢ Last.Settled) }
         ensures sound { IsSound J.text J.found J.may_leave self.old
             → IsSound J.text J.found J.may_leave self.new }
+        ensures safe { StaySafe J.text J.may_leave self.old.journal self.new.journal }
         ensures fault { IfErr result IsOfJournal }
     {
         let Link { text, sum } = print_withdrawn(self.alloc, &self.at.sum, self.at.number)?;
@@ -157,6 +162,7 @@ impl<K: CommitAt, J: Journal + Drop, C: Clock> Keeper<K, J, C> {
             → OnOk result (Only (J.found self.new.journal) (J.may_leave self.new.journal)) }
         ensures sound { IsSound J.text J.found J.may_leave self.old
             → IsSound J.text J.found J.may_leave self.new }
+        ensures safe { StaySafe J.text J.may_leave self.old.journal self.new.journal }
         ensures doubtful { OnErr result (self.new.last ≡ Last.Doubtful) }
         ensures fault { IfErr result (λ fault. fault ≡ DeskFault.Journal) }
     {
@@ -184,6 +190,7 @@ impl<K: CommitAt, J: Journal + Drop, C: Clock> Keeper<K, J, C> {
             (Only (J.found self.new.journal) (J.may_leave self.new.journal)) }
         ensures sound { IsSound J.text J.found J.may_leave self.old
             → IsSound J.text J.found J.may_leave self.new }
+        ensures safe { StaySafe J.text J.may_leave self.old.journal self.new.journal }
         ensures no_more { (bytes : List ℕ) → J.may_leave self.new.journal bytes
             → J.may_leave self.old.journal bytes }
         ensures doubtful { OnErr result (self.new.last ≡ Last.Doubtful) }

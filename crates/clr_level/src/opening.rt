@@ -28,6 +28,7 @@ pub fn ahead_of(found: Found) -> Result<Ahead, OpeningFault>
     ensures { IsAheadOf found result }
 {
     match found {
+        Found::OtherRules(number) => Err(OpeningFault::OtherRules(number)),
         Found::OtherRegister => Err(OpeningFault::OtherRegister),
         Found::TooShort => Err(OpeningFault::TooShort),
         Found::Differs(number) => Err(OpeningFault::Differs(number)),
