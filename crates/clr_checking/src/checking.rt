@@ -186,14 +186,15 @@ impl<'a> Checking<'a> {
             → CheckedToFrom copied at first place R self.new texts) }
         ensures id { self.new.walk.id ≡ self.old.walk.id }
         ensures refused { IfErr result (λ fault. (fault ≡ CheckFault.NoMemory)
-            ⊎ ((fault ≡ CheckFault.BadLine self.new.walk.end.turn.last)
+            ⊎ ((fault ≡ CheckFault.BadLine self.old.walk.end.turn.last)
             × ((part_of self.old.walk.id self.old.walk.end (read_first text.now)).0 ≡ false))) }
     {
+        let last = self.walk.end.turn.last;
         let goes = self.walk.next_part(alloc, text)?;
         if goes {
             Ok(())
         } else {
-            Err(CheckFault::BadLine(self.walk.end.turn.last))
+            Err(CheckFault::BadLine(last))
         }
     }
 

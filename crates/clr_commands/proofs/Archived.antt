@@ -10,7 +10,7 @@ use Rattle.clr_desk.specs.declared.desk.Desk.{Desk}
 use Rattle.clr_stream.specs.Streams.{HasFailed, Stream, WentOut}
 use Rattle.clr_edge.specs.Database.{IsOfLine}
 use Rattle.clr_edge.specs.Keeping.{IsNotReadAlone, IsNotUp, IsUp, unlogged}
-use Rattle.clr_edge.specs.Visit.{Done, Ending, Ends, Opening, Over, Shutting, both}
+use Rattle.clr_edge.specs.Visit.{Done, Ending, Ends, Opening, Over, Shutting, first_fault}
 use Rattle.clr_edge.specs.declared.fault.Fault.{Fault}
 use Rattle.clr_edge.specs.declared.fault.Fault.TheVariants.{Output}
 use Rattle.clr_commands.specs.Archive.{Archives, ArchivesAt, ArchivesOver, IsArchived}
@@ -26,7 +26,7 @@ HasWritten output output' (Err fault) = ((fault ≡ Output) × HasFailed output 
 
 module _ (output output' : Stream) where
   module _ {S : Type 0} (g : Ghosts S) (args : ArchiveArgs) (before after : Held S) where
-    archived_written : (told closed : Done) → Archives g args output output' told before after → IfErr closed IsOfLine → HasWritten output output' (both told closed)
+    archived_written : (told closed : Done) → Archives g args output output' told before after → IfErr closed IsOfLine → HasWritten output output' (first_fault told closed)
     archived_written (Ok value) (Ok ended) it line = elim it.archived [
       | inl (went, taken, fine) ↦ (archive_text args.before it.register, went)
       | inr (same, unsent) ↦ absurd unsent
@@ -45,7 +45,7 @@ module _ (output output' : Stream) where
     over_written result closed it = subst (HasWritten output output') (sym it.result_is) (of it.told it.did)
       where
         of : (told : Done) → (IsErrAnd told (λ fault. IsNotReadAlone g before fault after) × (output' ≡ output)) ⊎ Archives g args output output' told before after
-            → HasWritten output output' (both told closed)
+            → HasWritten output output' (first_fault told closed)
         of (Ok value) (inl (refused, same)) = absurd refused
         of (Err fault) (inl (refused, same)) = inr (not_alone_other g before after fault refused, inl same)
         of told (inr done) = archived_written told closed done it.closing
@@ -61,7 +61,7 @@ module _ (output output' : Stream) where
     pub archived_at : (before : ℕ) (told closed result : Done) (old between new : M) (desk : Desk (Over g)) (store after : Over g)
         → IsUp g opens args.database.now (unlogged over_files) old between desk → before ≡ args.before
         → IsArchived over_files before output output' desk.book.register told desk.store store → after ≡ store
-        → Ends ends after closed between new → IfErr closed IsOfLine → result ≡ both told closed
+        → Ends ends after closed between new → IfErr closed IsOfLine → result ≡ first_fault told closed
         → ArchivesAt g opens shuts ends args output output' result old new
     archived_at before told closed result old between new desk store after up moment archived same ended line is = inr (record {
       before = up.before;

@@ -17,8 +17,9 @@ use Rattle.clr_checking.specs.CheckingOn.{CheckedTo, CheckedToFrom, GoesOver, Is
 use Rattle.clr_checking.specs.declared.checking.Checking.{Checking}
 use Rattle.clr_checking.specs.declared.fault.CheckFault.{CheckFault}
 use Rattle.clr_commands.specs.Journal.{all_known}
-use Rattle.clr_commands.specs.Parts.{FirstIs, ReadsLine, walked}
+use Rattle.clr_commands.specs.Parts.{BreaksAfter, FirstIs, ReadsLine, walked}
 use Rattle.clr_commands.specs.Verify.{BeginOn, Checks, ChecksAll, ChecksFrom, ChecksOn, GoOn, HasLines, IsOfCheck, IsOfFiles, verified_text}
+use Rattle.clr_commands.proofs.BrokenParts.{breaks-more}
 use Rattle.clr_commands.proofs.PartLines.{AreBefore, before-all, before-more, before-none, known-next, walked-end, walked-same}
 
 -- ---- the lines of a part
@@ -95,6 +96,7 @@ pub record CheckedParts (first : Option (List ℕ)) (all left : Option (List (Li
   pub known : IfSome first (λ bytes. IfSome all (λ parts. (rest more : List (List ℕ)) × (left ≡ Some rest)
       × ((after : List (List ℕ)) → GoOn old.walk.id it.walk.end rest after → GoOn old.walk.id (walked old.walk.end (ended_lines bytes)).1 parts (more ++ after))
       × ((front : List (List ℕ)) → BeginOn old.walk.id it.walk.end rest front → BeginOn old.walk.id (walked old.walk.end (ended_lines bytes)).1 parts (more ++ front))
+      × ((fault : Fault) → BreaksAfter old.walk.id it.walk.end rest fault → BreaksAfter old.walk.id (walked old.walk.end (ended_lines bytes)).1 parts fault)
       × ((began : Register) (first place : Place) (R : Register) → CheckedTo began first place R old []
       → CheckedTo began first place R it (ended_lines bytes ++ more))
       × ((copied : Register) (at first place : Place) (R : Register) → CheckedToFrom copied at first place R old []
@@ -105,6 +107,7 @@ abbrev pub Known : List (List ℕ) → List (List ℕ) → Option (List (List �
 Known lines parts left old it = (rest more : List (List ℕ)) × (left ≡ Some rest)
     × ((after : List (List ℕ)) → GoOn old.walk.id it.walk.end rest after → GoOn old.walk.id (walked old.walk.end lines).1 parts (more ++ after))
     × ((front : List (List ℕ)) → BeginOn old.walk.id it.walk.end rest front → BeginOn old.walk.id (walked old.walk.end lines).1 parts (more ++ front))
+    × ((fault : Fault) → BreaksAfter old.walk.id it.walk.end rest fault → BreaksAfter old.walk.id (walked old.walk.end lines).1 parts fault)
     × ((began : Register) (first place : Place) (R : Register) → CheckedTo began first place R old [] → CheckedTo began first place R it (lines ++ more))
     × ((copied : Register) (at first place : Place) (R : Register) → CheckedToFrom copied at first place R old [] → CheckedToFrom copied at first place R it (lines ++ more))
 
@@ -149,6 +152,7 @@ parts_none first all old it ready id checked = record { ready = ready; id = id; 
       refl,
       λ after goes. subst (λ (e : ChainEnd). GoOn old.walk.id e parts after) is.end goes,
       λ front begins. subst (λ (e : ChainEnd). BeginOn old.walk.id e parts front) is.end begins,
+      λ fault breaks. subst (λ (e : ChainEnd). BreaksAfter old.walk.id e parts fault) is.end breaks,
       λ began place R S to.
           subst (λ (l : List (List ℕ)). CheckedTo began place R S it l) (sym (append-nil (ended_lines bytes))) (is.went began place R S [] to),
       λ copied at place R S to.
@@ -178,7 +182,7 @@ module _ (first : Option (List ℕ)) (all left : Option (List (List ℕ))) (old 
           → IfSome file (λ known. IfSome found (λ parts. Known (ended_lines known) parts (all_known others) old new))
       by None found is = tt
       by (Some file) None is = tt
-      by (Some file) (Some parts) (rest, more, is_rest, go, begin, to, to_from) =
+      by (Some file) (Some parts) (rest, more, is_rest, go, begin, broken, to, to_from) =
           let (one, after, has, is_after, next) = known-next bytes others rest (sym is_left ∙ is_rest) in
           let read : ReadsLine (Some line) now one = subst (λ (b : Option (List ℕ)). IfSome b (ReadsLine (Some line) now)) has reads in
           let (lines, lines_are, is) = goes one now read checked in (
@@ -195,6 +199,10 @@ module _ (first : Option (List ℕ)) (all left : Option (List (List ℕ))) (old 
                 (begin (lines ++ front) (subst (λ (l : List (List ℕ)). BeginOn old.walk.id it.walk.end l (lines ++ front)) (sym next)
                 (begin_on-more old.walk.id it.walk.end begun.walk.end one line.items after lines front lines_are part_is
                 (subst (λ (e : ChainEnd). BeginOn old.walk.id e after front) is.end begins)))),
+            λ fault breaks.
+                broken fault (subst (λ (l : List (List ℕ)). BreaksAfter old.walk.id it.walk.end l fault) (sym next)
+                (breaks-more old.walk.id it.walk.end begun.walk.end one line.items after lines fault lines_are part_is
+                (subst (λ (e : ChainEnd). BreaksAfter old.walk.id e after fault) is.end breaks))),
             λ began place R S was.
                 subst (λ (l : List (List ℕ)). CheckedTo began place R S new l) (append_assoc (ended_lines file) more lines)
                 (is.went began place R S (ended_lines file ++ more) (went began place R S (ended_lines file ++ more) (to began place R S was))),
@@ -214,7 +222,7 @@ module _ (first : Option (List ℕ)) (all left : Option (List (List ℕ))) (old 
           → IfSome file (λ known. IfSome found (λ parts. ChecksAll old (ended_lines known) parts text))
       by None found known = tt
       by (Some file) None known = tt
-      by (Some file) (Some parts) (rest, more, is_rest, go, begin, to, to_from) =
+      by (Some file) (Some parts) (rest, more, is_rest, go, begin, broken, to, to_from) =
           let empty : rest ≡ [] = cc (sym none ∙ is_rest) in
           record {
             more = more;

@@ -129,6 +129,7 @@ way_back_plain fault (inr (inr hangs)) = plain_as fault _ hangs refl
 of_chain_plain : (cause : ChainFault) → IsOfSubcommand (of_chain cause)
 of_chain_plain chain.OpenFailed = plain _ refl
 of_chain_plain chain.NoMemory = plain _ refl
+of_chain_plain (chain.OtherRules number) = plain _ refl
 of_chain_plain chain.OtherRegister = plain _ refl
 of_chain_plain chain.TooShort = plain _ refl
 of_chain_plain (chain.Differs number) = plain _ refl
@@ -141,6 +142,7 @@ of_new_plain unbegun.TooLong = plain _ refl
 of_new_plain unbegun.NoMemory = plain _ refl
 
 of_opening_plain : (cause : OpeningFault) → IsOfSubcommand (of_opening cause)
+of_opening_plain (opening.OtherRules number) = plain _ refl
 of_opening_plain opening.OtherRegister = plain _ refl
 of_opening_plain opening.TooShort = plain _ refl
 of_opening_plain (opening.Differs number) = plain _ refl
@@ -175,7 +177,8 @@ part_plain fault (inl memory) = memory_plain fault memory
 part_plain fault (inr (inl unopened)) = plain_as fault _ unopened refl
 part_plain fault (inr (inr (inl unread))) = plain_as fault _ unread refl
 part_plain fault (inr (inr (inr (inl long)))) = plain_as fault _ long refl
-part_plain fault (inr (inr (inr (inr (number, bad))))) = plain_as fault _ bad refl
+part_plain fault (inr (inr (inr (inr (inl (number, bad)))))) = plain_as fault _ bad refl
+part_plain fault (inr (inr (inr (inr (inr (number, other)))))) = plain_as fault _ other refl
 
 pub check_plain : (fault : Fault) → IsOfCheck fault → IsOfSubcommand fault
 check_plain fault (inl of) = part_plain fault of

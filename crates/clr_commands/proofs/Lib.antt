@@ -22,6 +22,7 @@ pub mod Written
 pub mod NoWord
 pub mod Updating
 pub mod PartLines
+pub mod BrokenParts
 pub mod StepTexts
 pub mod SentTexts
 pub mod PrintedParts

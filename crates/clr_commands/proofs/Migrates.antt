@@ -15,13 +15,13 @@ use Rattle.clr_edge.specs.Beginning.{IsOfBegun, PlacesAt}
 use Rattle.clr_edge.specs.Database.{IsOfLine}
 use Rattle.clr_edge.specs.Keeping.{IsNotUp, IsUp, unlogged}
 use Rattle.clr_edge.specs.TakenUp.{Logs}
-use Rattle.clr_edge.specs.Visit.{Alone, Comes, Done, Ending, Ends, MovesRegister, Opening, Over, Shutting}
+use Rattle.clr_edge.specs.Visit.{Alone, Comes, Done, Ending, Ends, MovesRegister, Opening, Over, Shutting, first_fault}
 use Rattle.clr_edge.specs.declared.fault.Fault.{Fault}
 use Rattle.clr_edge.specs.declared.fault.Fault.TheVariants.{Memory}
 use Rattle.clr_args.specs.declared.asked.MigrateArgs.{MigrateArgs}
 use Rattle.clr_commands.specs.Faults.{IsOfSubcommand}
 use Rattle.clr_commands.specs.First.{board_files, first_place, made_at}
-use Rattle.clr_commands.specs.Migrate.{BeginsIn, BeginsJournal, BeginsOver, Migrates, MigratesAt, MigratesBy, PrintsBegun, PrintsMoved, journal_line, text_or}
+use Rattle.clr_commands.specs.Migrate.{BeginsIn, BeginsJournal, BeginsOver, Migrates, MigratesAt, MigratesBy, PrintsBegun, PrintsMoved, journal_line}
 use Rattle.clr_commands.proofs.Faults.{line_plain}
 
 -- the fault is passed on
@@ -36,30 +36,30 @@ pub board_files-is : (R : Register) (sections points staff : List ℕ) → secti
 board_files-is R sections points staff s p e = λ i. record { sections = s i; points = p i; staff = e i }
 
 -- what is printed, once the database was closed
-pub text_or-plain : (told : Result (String Global) Fault) (closed : Done) (result : Result (String Global) Fault) → IfErr told IsOfSubcommand → IfErr closed IsOfLine
-    → result ≡ text_or told closed → IfErr result IsOfSubcommand
-text_or-plain told closed result plain line is = subst (λ (it : Result (String Global) Fault). IfErr it IsOfSubcommand) (sym is) (by told closed plain line)
+pub first_fault-plain : (report : Result (String Global) Fault) (closed : Done) (result : Result (String Global) Fault) → IfErr report IsOfSubcommand → IfErr closed IsOfLine
+    → result ≡ first_fault report closed → IfErr result IsOfSubcommand
+first_fault-plain report closed result plain line is = subst (λ (it : Result (String Global) Fault). IfErr it IsOfSubcommand) (sym is) (by report closed plain line)
   where
-    by : (told : Result (String Global) Fault) (closed : Done) → IfErr told IsOfSubcommand → IfErr closed IsOfLine → IfErr (text_or told closed) IsOfSubcommand
+    by : (report : Result (String Global) Fault) (closed : Done) → IfErr report IsOfSubcommand → IfErr closed IsOfLine → IfErr (first_fault report closed) IsOfSubcommand
     by (Ok text) (Ok value) plain line = tt
     by (Ok text) (Err fault) plain line = line_plain fault line
     by (Err fault) closed plain line = plain
 
 -- a journal was begun over a register, at its first place
 pub BeginsOver-placed : {M J C T : Type 0} (g : Ghosts T) (logs : Logs M J C) (first place : Place) (path : List ℕ) (result : Result (String Global) Fault)
-    (told : Done) (old new : M) (read after : Held T) → place ≡ first → PrintsBegun place told result → PlacesAt g logs path place told old new read after
+    (begun : Done) (old new : M) (read after : Held T) → place ≡ first → PrintsBegun place begun result → PlacesAt g logs path place begun old new read after
     → BeginsOver g logs first path result old new read after
-BeginsOver-placed g logs first place path result told old new read after is prints places =
-    subst (λ (p : Place). BeginsOver g logs p path result old new read after) is (inr (told, prints, places))
+BeginsOver-placed g logs first place path result begun old new read after is prints places =
+    subst (λ (p : Place). BeginsOver g logs p path result old new read after) is (inr (begun, prints, places))
 
 module _ {M D J C : Type 0} (logs : Logs M J C) (g : disk.Ghosts D) (opens : Opening M D) (shuts : Shutting M) (ends : Ending M D) (moment : ℕ) (path journal : List ℕ) where
   -- the register of the database at the path got a journal
-  pub begun_at : (told result : Result (String Global) Fault) (closed : Done) (old between later new : M) (desk : Desk (Over g)) (after : Over g)
+  pub begun_at : (report result : Result (String Global) Fault) (closed : Done) (old between later new : M) (desk : Desk (Over g)) (after : Over g)
       → IsUp g opens path (unlogged over_files) old between desk
-      → BeginsOver over_files logs (first_place (board_files desk.book.register) (made_at moment path journal)) journal told between later desk.store after
-      → Ends ends after closed later new → IfErr closed IsOfLine → result ≡ text_or told closed
+      → BeginsOver over_files logs (first_place (board_files desk.book.register) (made_at moment path journal)) journal report between later desk.store after
+      → Ends ends after closed later new → IfErr closed IsOfLine → result ≡ first_fault report closed
       → Comes g opens shuts ends path (BeginsIn over_files logs moment path journal) result old new
-  begun_at told result closed old between later new desk after up begun ended line is = inr (record {
+  begun_at report result closed old between later new desk after up begun ended line is = inr (record {
     before = up.before;
     after = after;
     closed = closed;
@@ -68,12 +68,12 @@ module _ {M D J C : Type 0} (logs : Logs M J C) (g : disk.Ghosts D) (opens : Ope
     opened = up.opened;
     mode = up.mode;
     does = record {
-      told = told;
+      report = report;
       did = inr (
         desk.book.register,
         desk.store,
         up.taken_up.1,
-        subst (λ (m : M). BeginsOver over_files logs (first_place (board_files desk.book.register) (made_at moment path journal)) journal told m later desk.store after)
+        subst (λ (m : M). BeginsOver over_files logs (first_place (board_files desk.book.register) (made_at moment path journal)) journal report m later desk.store after)
             up.taken_up.0 begun,
       );
       closing = line;
@@ -97,7 +97,7 @@ module _ {M D J C : Type 0} (logs : Logs M J C) (g : disk.Ghosts D) (opens : Ope
     opened = visit.opened;
     mode = visit.mode;
     does = record {
-      told = Err fault;
+      report = Err fault;
       did = inl (visit.does.0.1, visit.does.0.0);
       closing = visit.does.1;
       result_is = ap Err is;

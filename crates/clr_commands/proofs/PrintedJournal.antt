@@ -15,10 +15,11 @@ use Rattle.clr_edge.specs.declared.fault.Fault.{Fault}
 use Rattle.clr_edge.specs.declared.fault.Fault.TheVariants.{Journal, Memory, NoSuch, Output}
 use Rattle.clr_edge.specs.declared.fault.JournalFault.TheVariants.{BadLine, OpenFailed, ReadFailed}
 use Rattle.clr_commands.specs.Journal.{FailsAny, FailsOne, IsOfPrinting, IsSent, PrintsAt, PrintsParts, SentSome, all_known, journal_text, parts_known, wanted_in}
-use Rattle.clr_commands.specs.Parts.{BeginBy, FirstIs, GoOnBy, HasFront, HasSteps, IsOfPart, walked}
+use Rattle.clr_commands.specs.Parts.{BeginBy, Breaks, BreaksAfter, FirstIs, GoOnBy, HasFront, HasSteps, IsNoFirst, IsOfPart, IsOfReading, IsUnreadOr, IsUnreadPart, walked}
 use Rattle.clr_commands.specs.Paths.{AtPaths}
 use Rattle.clr_commands.specs.Printing.{FailsMore, FailsWithin, HasPrinted, IsCutOf, IsText, PrintsAll, PrintsMore, PrintsPart}
 use Rattle.clr_commands.specs.declared.journal.Printing.{Printing}
+use Rattle.clr_commands.proofs.BrokenParts.{first_breaks}
 use Rattle.clr_commands.proofs.PrintedParts.{go_begin}
 use Rattle.clr_commands.proofs.SentTexts.{sent_none}
 use Rattle.clr_commands.proofs.StepTexts.{ends_as-bad}
@@ -31,7 +32,14 @@ part_other fault (inl memory) is = cc
 part_other fault (inr (inl unopened)) is = cc
 part_other fault (inr (inr (inl unread))) is = cc
 part_other fault (inr (inr (inr (inl long)))) is = cc
-part_other fault (inr (inr (inr (inr (number, bad))))) is = cc
+part_other fault (inr (inr (inr (inr (inl (number, bad)))))) is = cc
+part_other fault (inr (inr (inr (inr (inr (number, other)))))) is = cc
+
+unread_other : (fault : Fault) → IsUnreadPart fault → fault ≢ Output
+unread_other fault (inl unopened) is = cc
+unread_other fault (inr (inl memory)) is = cc
+unread_other fault (inr (inr (inl unread))) is = cc
+unread_other fault (inr (inr (inr long))) is = cc
 
 -- nothing went out of what was not opened
 pub unsent : (o : Stream) (fault : Fault) → fault ≢ Output → IsSent o o (Err fault)
@@ -174,7 +182,33 @@ module _ (args : JournalArgs) (o : Stream) (one : Option (List ℕ)) (parts : Op
               (subst (λ (e : ChainEnd). GoOnBy it1.walk.id e known more) front_is goes);
         }
 
-    -- a further one was not
+    -- a further one is refused by its first line
+    more_broken : (fault : Fault) → IfSome parts (λ known. BreaksAfter it1.walk.id it1.walk.end known fault)
+        → IfSome one (λ bytes. IfSome parts (λ known. Breaks bytes known fault))
+    more_broken fault breaks = by one parts is_first breaks
+      where
+        by : (bytes : Option (List ℕ)) (known : Option (List (List ℕ))) → IfSome bytes (FirstIs first now)
+            → IfSome known (λ all. BreaksAfter it1.walk.id it1.walk.end all fault) → IfSome bytes (λ file. IfSome known (λ all. Breaks file all fault))
+        by None known begins broken = tt
+        by (Some bytes) None begins broken = tt
+        by (Some bytes) (Some known) begins broken =
+            let line = begins_all bytes first now part.lines begins part.all in
+            inr (
+              first,
+              line.text,
+              part.lines,
+              line.lines_are ∙ ap (λ (l : List (List ℕ)). line.text ∷ l) (append-nil part.lines),
+              line.read,
+              subst (λ (i : List ℕ). BreaksAfter i (walked (end_at first) part.lines).1 known fault) (part.id ∙ id)
+                  (subst (λ (e : ChainEnd). BreaksAfter it1.walk.id e known fault) front_is broken),
+            )
+
+    more_stopped : (fault : Fault) → IsUnreadPart fault ⊎ IfSome parts (λ known. BreaksAfter it1.walk.id it1.walk.end known fault)
+        → IsUnreadPart fault ⊎ IfSome one (λ bytes. IfSome parts (λ known. Breaks bytes known fault))
+    more_stopped fault (inl unread) = inl unread
+    more_stopped fault (inr breaks) = inr (more_broken fault breaks)
+
+    -- or was not printed
     more-output : (fault : Fault) (r : Stream) → fault ≡ Output → FailsMore parts it1 p fault r → PrintsAt one parts args o r (Err fault)
     more-output fault r is more = by one parts is_first more.begin
       where
@@ -228,7 +262,7 @@ module _ (args : JournalArgs) (o : Stream) (one : Option (List ℕ)) (parts : Op
               cut = cut;
             },
           ))
-          by (Some bytes) (Some known) begins goes (wanted, wanted_is, inr (inr (memory, some))) = inr (inr (Memory, memory, inl refl))
+          by (Some bytes) (Some known) begins goes (wanted, wanted_is, inr (inr (memory, some))) = inr (inr (Memory, memory, inl (inr (inl refl))))
 
       pub all_sent : IsSent o r result
       all_sent = sent_all args o r ((walked it.walk.end part.lines).0 ++ more.steps) result all_of
@@ -249,8 +283,8 @@ printed_parts at args o r result printed sent unread = record {
 }
 
 -- a fault of a part
-pub part_at : (one : Option (List ℕ)) (parts : Option (List (List ℕ))) (args : JournalArgs) (o r : Stream) (result : Done) (fault : Fault) → result ≡ Err fault → IsOfPart fault
-    → PrintsAt one parts args o r result
+pub part_at : (one : Option (List ℕ)) (parts : Option (List (List ℕ))) (args : JournalArgs) (o r : Stream) (result : Done) (fault : Fault) → result ≡ Err fault
+    → IsUnreadPart fault ⊎ IfSome one (λ bytes. IfSome parts (λ known. Breaks bytes known fault)) → PrintsAt one parts args o r result
 part_at None parts args o r result fault is of = tt
 part_at (Some one) None args o r result fault is of = tt
 part_at (Some one) (Some parts) args o r result fault is of = inr (inr (fault, is, of))
@@ -278,9 +312,11 @@ no_such at args o result wanted is = record {
 
 -- the first part was not opened, or has no first line
 pub first_failed : (at : AtPaths) (args : JournalArgs) (o : Stream) (result : Done) (fault : Fault) → result ≡ Err fault → IsOfPart fault
+    → IsUnreadOr IsNoFirst (at.bytes args.path.now) fault
     → ((fault ≡ Journal OpenFailed) ⊎ (fault ≡ Journal ReadFailed) → at.fails args.path.now) → PrintsParts at args o o result
-first_failed at args o result fault is of cause =
-    printed_parts at args o o result (part_at (at.bytes args.path.now) (parts_known at args) args o o result fault is of)
+first_failed at args o result fault is of refused cause =
+    printed_parts at args o o result
+    (part_at (at.bytes args.path.now) (parts_known at args) args o o result fault is (first_breaks (at.bytes args.path.now) (parts_known at args) fault refused))
     (subst (λ (r : Done). IsSent o o r) (sym is) (unsent o fault (part_other fault of)))
     (λ found e which. inl (cause (subst (λ (f : Fault). (f ≡ Journal OpenFailed) ⊎ (f ≡ Journal ReadFailed)) (cc (sym e ∙ is)) which)))
 
@@ -302,16 +338,19 @@ part_sent o r fault other some = record {
 module _ (at : AtPaths) (args : JournalArgs) (o : Stream) (first : Place) (now : Option (List ℕ)) (it : Printing)
     (is_first : IfSome (at.bytes args.path.now) (FirstIs first now)) (id : it.walk.id ≡ first.id) (end : it.walk.end ≡ end_at first) (begun : HasPrinted args o [] it o) where
   -- of the first part
-  pub within_failed : (fault : Fault) (r : Stream) → IsOfPrinting fault → ((fault ≡ Journal OpenFailed) ⊎ (fault ≡ Journal ReadFailed) → at.fails args.path.now)
+  pub within_failed : (fault : Fault) (r : Stream) → ((fault ≡ Journal OpenFailed) ⊎ (fault ≡ Journal ReadFailed) → at.fails args.path.now)
       → FailsWithin now it o fault r → PrintsParts at args o r (Err fault)
-  within_failed fault r (inl output) cause part =
-      printed_parts at args o r (Err fault) (within-output args o (at.bytes args.path.now) (parts_known at args) first now it is_first id end begun fault r output part)
-      (cut_sent args o r (walked it.walk.end part.lines).0 fault output (part.fails.cut output args o [] begun))
-      (λ found e which. inl (cause (subst (λ (f : Fault). (f ≡ Journal OpenFailed) ⊎ (f ≡ Journal ReadFailed)) (cc (sym e)) which)))
-  within_failed fault r (inr of) cause part =
-      printed_parts at args o r (Err fault) (part_at (at.bytes args.path.now) (parts_known at args) args o r (Err fault) fault refl of)
-      (part_sent o r fault (part_other fault of) (part.fails.sent (part_other fault of) args o [] begun))
-      (λ found e which. inl (cause (subst (λ (f : Fault). (f ≡ Journal OpenFailed) ⊎ (f ≡ Journal ReadFailed)) (cc (sym e)) which)))
+  within_failed fault r cause part = by part.why
+    where
+      by : (fault ≡ Output) ⊎ IsOfReading fault → PrintsParts at args o r (Err fault)
+      by (inl output) =
+          printed_parts at args o r (Err fault) (within-output args o (at.bytes args.path.now) (parts_known at args) first now it is_first id end begun fault r output part)
+          (cut_sent args o r (walked it.walk.end part.lines).0 fault output (part.fails.cut output args o [] begun))
+          (λ found e which. inl (cause (subst (λ (f : Fault). (f ≡ Journal OpenFailed) ⊎ (f ≡ Journal ReadFailed)) (cc (sym e)) which)))
+      by (inr of) =
+          printed_parts at args o r (Err fault) (part_at (at.bytes args.path.now) (parts_known at args) args o r (Err fault) fault refl (inl (inr of)))
+          (part_sent o r fault (unread_other fault (inr of)) (part.fails.sent (unread_other fault (inr of)) args o [] begun))
+          (λ found e which. inl (cause (subst (λ (f : Fault). (f ≡ Journal OpenFailed) ⊎ (f ≡ Journal ReadFailed)) (cc (sym e)) which)))
 
   module _ (it1 : Printing) (p : Stream) (part : PrintsPart now it o it1 p) where
     -- of a further one
@@ -324,9 +363,16 @@ module _ (at : AtPaths) (args : JournalArgs) (o : Stream) (first : Place) (now :
         (more.fails.cut output args o (walked it.walk.end part.lines).0 (part.prints.printed args o [] begun)))
         (λ found e which. inr (cause (subst (λ (f : Fault). (f ≡ Journal OpenFailed) ⊎ (f ≡ Journal ReadFailed)) (cc (sym e)) which)))
     more_failed fault r (inr of) cause more =
-        printed_parts at args o r (Err fault) (part_at (at.bytes args.path.now) (parts_known at args) args o r (Err fault) fault refl of)
+        printed_parts at args o r (Err fault)
+        (part_at (at.bytes args.path.now) (parts_known at args) args o r (Err fault) fault refl
+        (more_stopped args o (at.bytes args.path.now) (parts_known at args) first now it is_first id end begun it1 p part fault (not_output more.why)))
         (part_sent o r fault (part_other fault of) (more.fails.sent (part_other fault of) args o (walked it.walk.end part.lines).0 (part.prints.printed args o [] begun)))
         (λ found e which. inr (cause (subst (λ (f : Fault). (f ≡ Journal OpenFailed) ⊎ (f ≡ Journal ReadFailed)) (cc (sym e)) which)))
+      where
+        not_output : (fault ≡ Output) ⊎ IsUnreadPart fault ⊎ IfSome (parts_known at args) (λ known. BreaksAfter it1.walk.id it1.walk.end known fault)
+            → IsUnreadPart fault ⊎ IfSome (parts_known at args) (λ known. BreaksAfter it1.walk.id it1.walk.end known fault)
+        not_output (inl output) = absurd (part_other fault of output)
+        not_output (inr why) = why
 
     -- all was printed
     pub printed_all : (it2 : Printing) (q r : Stream) (result : Done) → PrintsMore (parts_known at args) it1 p it2 q

@@ -10,15 +10,22 @@ use Rattle.clr_chain.specs.Walking.{Step, part_of, step_of}
 use Rattle.clr_chain.specs.declared.chain_end.ChainEnd.{ChainEnd}
 use Rattle.clr_chain.specs.declared.walk.Walk.{Walk}
 use Rattle.clr_edge.specs.declared.fault.Fault.{Fault}
-use Rattle.clr_edge.specs.declared.fault.Fault.TheVariants.{Journal, Output}
-use Rattle.clr_edge.specs.declared.fault.JournalFault.TheVariants.{OpenFailed, ReadFailed}
+use Rattle.clr_edge.specs.declared.fault.Fault.TheVariants.{Journal, Memory, Output}
+use Rattle.clr_edge.specs.declared.fault.JournalFault.TheVariants.{OpenFailed, ReadFailed, TooLong}
 use Rattle.clr_commands.specs.Journal.{FailsAny, all_known}
 use Rattle.clr_commands.specs.Paths.{AtPaths}
-use Rattle.clr_commands.specs.Parts.{BeginBy, GoOnBy, GoesOn, ReadsLine, walked}
+use Rattle.clr_commands.specs.Parts.{BeginBy, BreaksAfter, GoOnBy, GoesOn, IsNoNext, IsOfReading, IsUnreadOr, IsUnreadPart, ReadsLine, walked}
 use Rattle.clr_commands.specs.Printing.{FailsMore, FailsOn, FailsWithin, HasPrinted, PrintsMore, PrintsOn, PrintsPart}
 use Rattle.clr_commands.specs.declared.journal.Printing.{Printing}
+use Rattle.clr_commands.proofs.BrokenParts.{breaks-more, next_breaks}
 use Rattle.clr_commands.proofs.PartLines.{AreBefore, before-all, before-more, before-none, before-some, known-next, walked-end, walked-none, walked-same, walked-step}
 use Rattle.clr_commands.proofs.SentTexts.{FailsOn-after, FailsOn-more, PrintsOn-more, PrintsOn-none}
+
+-- those of reading are not of the output
+reading_other : (fault : Fault) → IsOfReading fault → fault ≢ Output
+reading_other fault (inl memory) is = cc
+reading_other fault (inr (inl unread)) is = cc
+reading_other fault (inr (inr long)) is = cc
 
 -- ---- the lines of a part
 
@@ -63,12 +70,18 @@ module _ {S : Type 0} (failures : S → ℕ) (left : Option (List ℕ)) (old : P
     }
 
     -- or not
-    pub lines_cut : (fault : Fault) (q : Stream) → FailsOn it p ((step_of it.walk.end text.items).0 ∷ []) fault q → FailsWithin left old o fault q
-    lines_cut fault q fails = record {
+    pub lines_cut : (fault : Fault) (q : Stream) → (fault ≡ Memory) ⊎ (fault ≡ Output) → FailsOn it p ((step_of it.walk.end text.items).0 ∷ []) fault q
+        → FailsWithin left old o fault q
+    lines_cut fault q of fails = record {
       lines = had.lines ++ text.items ∷ [];
       some = before-some left next (had.lines ++ text.items ∷ []) (before-more left now next had.lines text had.before reads);
+      why = cut_why of;
       fails = subst (λ (l : List Step). FailsOn old o l fault q) (sym steps_are) (FailsOn-more old it o p q _ _ fault had.prints fails);
     }
+      where
+        cut_why : (fault ≡ Memory) ⊎ (fault ≡ Output) → (fault ≡ Output) ⊎ IsOfReading fault
+        cut_why (inl memory) = inr (inl memory)
+        cut_why (inr output) = inl output
 
   -- none is left
   pub lines_all : (now next : Option (List ℕ)) (it : Printing) (source' : S) (p : Stream) → PrintedLines failures left now old it source source' o p
@@ -83,11 +96,12 @@ module _ {S : Type 0} (failures : S → ℕ) (left : Option (List ℕ)) (old : P
 
   -- the next was not read
   pub lines_failed : (now : Option (List ℕ)) (it : Printing) (source' : S) (p : Stream) (fault : Fault) → PrintedLines failures left now old it source source' o p
-      → fault ≢ Output → FailsWithin left old o fault p
-  lines_failed now it source' p fault had other = record {
+      → IsOfReading fault → FailsWithin left old o fault p
+  lines_failed now it source' p fault had of = record {
     lines = had.lines;
     some = before-some left now had.lines had.before;
-    fails = FailsOn-after old it o p _ fault other had.prints;
+    why = inr of;
+    fails = FailsOn-after old it o p _ fault (reading_other fault of) had.prints;
   }
 
 -- ---- the further parts
@@ -97,7 +111,8 @@ pub record PrintedParts (all left : Option (List (List ℕ))) (old it : Printing
   pub steps : List Step
   pub known : IfSome all (λ parts. (rest : List (List ℕ)) × (left ≡ Some rest)
       × ((more : List Step) → GoOnBy old.walk.id it.walk.end rest more → GoOnBy old.walk.id old.walk.end parts (steps ++ more))
-      × ((more : List Step) → BeginBy old.walk.id it.walk.end rest more → BeginBy old.walk.id old.walk.end parts (steps ++ more)))
+      × ((more : List Step) → BeginBy old.walk.id it.walk.end rest more → BeginBy old.walk.id old.walk.end parts (steps ++ more))
+      × ((fault : Fault) → BreaksAfter old.walk.id it.walk.end rest fault → BreaksAfter old.walk.id old.walk.end parts fault))
   pub prints : PrintsOn old o steps it p
   pub id : it.walk.id ≡ old.walk.id
 
@@ -200,9 +215,10 @@ parts_none all it o = record { steps = []; known = by all; prints = PrintsOn-non
   where
     by : (found : Option (List (List ℕ))) → IfSome found (λ parts. (rest : List (List ℕ)) × (found ≡ Some rest)
         × ((more : List Step) → GoOnBy it.walk.id it.walk.end rest more → GoOnBy it.walk.id it.walk.end parts more)
-        × ((more : List Step) → BeginBy it.walk.id it.walk.end rest more → BeginBy it.walk.id it.walk.end parts more))
+        × ((more : List Step) → BeginBy it.walk.id it.walk.end rest more → BeginBy it.walk.id it.walk.end parts more)
+        × ((fault : Fault) → BreaksAfter it.walk.id it.walk.end rest fault → BreaksAfter it.walk.id it.walk.end parts fault))
     by None = tt
-    by (Some parts) = (parts, refl, λ more goes. goes, λ more begins. begins)
+    by (Some parts) = (parts, refl, λ more goes. goes, λ more begins. begins, λ fault breaks. breaks)
 
 module _ (all left : Option (List (List ℕ))) (old it : Printing) (o p : Stream) (had : PrintedParts all left old it o p) where
   -- a part is one of those that are left
@@ -220,12 +236,14 @@ module _ (all left : Option (List (List ℕ))) (old it : Printing) (o p : Stream
       where
         by : (found : Option (List (List ℕ))) → IfSome found (λ parts. (rest : List (List ℕ)) × (left ≡ Some rest)
             × ((more : List Step) → GoOnBy old.walk.id it.walk.end rest more → GoOnBy old.walk.id old.walk.end parts (had.steps ++ more))
-            × ((more : List Step) → BeginBy old.walk.id it.walk.end rest more → BeginBy old.walk.id old.walk.end parts (had.steps ++ more)))
+            × ((more : List Step) → BeginBy old.walk.id it.walk.end rest more → BeginBy old.walk.id old.walk.end parts (had.steps ++ more))
+            × ((fault : Fault) → BreaksAfter old.walk.id it.walk.end rest fault → BreaksAfter old.walk.id old.walk.end parts fault))
             → IfSome found (λ parts. (rest : List (List ℕ)) × (all_known others ≡ Some rest)
             × ((more : List Step) → GoOnBy old.walk.id new.walk.end rest more → GoOnBy old.walk.id old.walk.end parts ((had.steps ++ (walked w.end part.lines).0) ++ more))
-            × ((more : List Step) → BeginBy old.walk.id new.walk.end rest more → BeginBy old.walk.id old.walk.end parts ((had.steps ++ (walked w.end part.lines).0) ++ more)))
+            × ((more : List Step) → BeginBy old.walk.id new.walk.end rest more → BeginBy old.walk.id old.walk.end parts ((had.steps ++ (walked w.end part.lines).0) ++ more))
+            × ((fault : Fault) → BreaksAfter old.walk.id new.walk.end rest fault → BreaksAfter old.walk.id old.walk.end parts fault))
         by None known = tt
-        by (Some parts) (rest, is_rest, go, begin) =
+        by (Some parts) (rest, is_rest, go, begin, broken) =
             let (one, after, has, is_after, first) = known-next bytes others rest (sym is_left ∙ is_rest) in
             let goes_on : GoesOn it.walk w now one = subst (λ (b : Option (List ℕ)). IfSome b (GoesOn it.walk w now)) has goes in
             let (text, lines_are, part_is) = part_goes old.walk.id it.walk w now one part.lines goes_on part.all had.id in
@@ -242,6 +260,10 @@ module _ (all left : Option (List (List ℕ))) (old it : Printing) (o p : Stream
                   (begin (steps ++ more) (subst (λ (l : List (List ℕ)). BeginBy old.walk.id it.walk.end l (steps ++ more)) (sym first)
                   (begin-more old.walk.id it.walk.end w.end one text after part.lines more lines_are part_is
                   (subst (λ (e : ChainEnd). BeginBy old.walk.id e after more) part.end begins_more)))),
+              λ fault breaks.
+                  broken fault (subst (λ (l : List (List ℕ)). BreaksAfter old.walk.id it.walk.end l fault) (sym first)
+                  (breaks-more old.walk.id it.walk.end w.end one text after part.lines fault lines_are part_is
+                  (subst (λ (e : ChainEnd). BreaksAfter old.walk.id e after fault) part.end breaks))),
             )
 
     -- or not
@@ -249,32 +271,60 @@ module _ (all left : Option (List (List ℕ))) (old it : Printing) (o p : Stream
     parts_cut fault q part = record {
       steps = had.steps ++ (walked w.end part.lines).0;
       begin = by all had.known;
+      why = line_why all part.why;
       fails = FailsOn-more old it o p q had.steps _ fault had.prints (walk-fails it w p q _ fault part.fails);
     }
       where
+        line_why : (found : Option (List (List ℕ))) → (fault ≡ Output) ⊎ IsOfReading fault
+            → (fault ≡ Output) ⊎ IsUnreadPart fault ⊎ IfSome found (λ parts. BreaksAfter old.walk.id old.walk.end parts fault)
+        line_why found (inl output) = inl output
+        line_why found (inr of) = inr (inl (inr of))
+
         by : (found : Option (List (List ℕ))) → IfSome found (λ parts. (rest : List (List ℕ)) × (left ≡ Some rest)
             × ((more : List Step) → GoOnBy old.walk.id it.walk.end rest more → GoOnBy old.walk.id old.walk.end parts (had.steps ++ more))
-            × ((more : List Step) → BeginBy old.walk.id it.walk.end rest more → BeginBy old.walk.id old.walk.end parts (had.steps ++ more)))
+            × ((more : List Step) → BeginBy old.walk.id it.walk.end rest more → BeginBy old.walk.id old.walk.end parts (had.steps ++ more))
+            × ((fault : Fault) → BreaksAfter old.walk.id it.walk.end rest fault → BreaksAfter old.walk.id old.walk.end parts fault))
             → IfSome found (λ parts. BeginBy old.walk.id old.walk.end parts (had.steps ++ (walked w.end part.lines).0))
         by None known = tt
-        by (Some parts) (rest, is_rest, go, begin) =
+        by (Some parts) (rest, is_rest, go, begin, broken) =
             let (one, after, has, is_after, first) = known-next bytes others rest (sym is_left ∙ is_rest) in
             let goes_on : GoesOn it.walk w now one = subst (λ (b : Option (List ℕ)). IfSome b (GoesOn it.walk w now)) has goes in
             let (text, remains, lines_are, part_is) = part_begins old.walk.id it.walk w now one part.lines goes_on part.some had.id in
             begin (walked w.end part.lines).0 (subst (λ (l : List (List ℕ)). BeginBy old.walk.id it.walk.end l (walked w.end part.lines).0) (sym first)
             (begin-part old.walk.id it.walk.end w.end one text after part.lines remains lines_are part_is))
 
-  -- the next does not go on, or was not read
-  pub parts_stop : (fault : Fault) → fault ≢ Output → FailsMore all old o fault p
-  parts_stop fault other = record { steps = had.steps; begin = by all had.known; fails = FailsOn-after old it o p had.steps fault other had.prints }
+  -- the next was not read, or is refused by its first line
+  pub parts_stop : (bytes : Option (List ℕ)) (others : List (Option (List ℕ))) (fault : Fault) → left ≡ all_known (bytes ∷ others) → fault ≢ Output
+      → IsUnreadOr (IsNoNext it.walk.id it.walk.end) bytes fault → FailsMore all old o fault p
+  parts_stop bytes others fault is_left other refused = record {
+    steps = had.steps;
+    begin = by all had.known;
+    why = inr (stops refused);
+    fails = FailsOn-after old it o p had.steps fault other had.prints;
+  }
     where
       by : (found : Option (List (List ℕ))) → IfSome found (λ parts. (rest : List (List ℕ)) × (left ≡ Some rest)
           × ((more : List Step) → GoOnBy old.walk.id it.walk.end rest more → GoOnBy old.walk.id old.walk.end parts (had.steps ++ more))
-          × ((more : List Step) → BeginBy old.walk.id it.walk.end rest more → BeginBy old.walk.id old.walk.end parts (had.steps ++ more)))
+          × ((more : List Step) → BeginBy old.walk.id it.walk.end rest more → BeginBy old.walk.id old.walk.end parts (had.steps ++ more))
+          × ((cause : Fault) → BreaksAfter old.walk.id it.walk.end rest cause → BreaksAfter old.walk.id old.walk.end parts cause))
           → IfSome found (λ parts. BeginBy old.walk.id old.walk.end parts had.steps)
       by None known = tt
-      by (Some parts) (rest, is_rest, go, begin) =
+      by (Some parts) (rest, is_rest, go, begin, broken) =
           subst (λ (l : List Step). BeginBy old.walk.id old.walk.end parts l) (append-nil had.steps) (begin [] (begin-none old.walk.id it.walk.end rest))
+
+      next : (found : Option (List (List ℕ))) → IfSome found (λ parts. (rest : List (List ℕ)) × (left ≡ Some rest)
+          × ((more : List Step) → GoOnBy old.walk.id it.walk.end rest more → GoOnBy old.walk.id old.walk.end parts (had.steps ++ more))
+          × ((more : List Step) → BeginBy old.walk.id it.walk.end rest more → BeginBy old.walk.id old.walk.end parts (had.steps ++ more))
+          × ((cause : Fault) → BreaksAfter old.walk.id it.walk.end rest cause → BreaksAfter old.walk.id old.walk.end parts cause))
+          → IfSome bytes (λ one. IsNoNext it.walk.id it.walk.end one fault) → IfSome found (λ parts. BreaksAfter old.walk.id old.walk.end parts fault)
+      next None known not = tt
+      next (Some parts) (rest, is_rest, go, begin, broken) not =
+          broken fault (subst (λ (i : List ℕ). BreaksAfter i it.walk.end rest fault) had.id
+          (next_breaks it.walk.id it.walk.end bytes others rest fault (sym is_left ∙ is_rest) not))
+
+      stops : IsUnreadOr (IsNoNext it.walk.id it.walk.end) bytes fault → IsUnreadPart fault ⊎ IfSome all (λ parts. BreaksAfter old.walk.id old.walk.end parts fault)
+      stops (inl unread) = inl unread
+      stops (inr not) = inr (next all had.known not)
 
   -- none is left
   pub parts_all : left ≡ Some [] → PrintsMore all old o it p
@@ -282,10 +332,11 @@ module _ (all left : Option (List (List ℕ))) (old it : Printing) (o p : Stream
     where
       by : (found : Option (List (List ℕ))) → IfSome found (λ parts. (rest : List (List ℕ)) × (left ≡ Some rest)
           × ((more : List Step) → GoOnBy old.walk.id it.walk.end rest more → GoOnBy old.walk.id old.walk.end parts (had.steps ++ more))
-          × ((more : List Step) → BeginBy old.walk.id it.walk.end rest more → BeginBy old.walk.id old.walk.end parts (had.steps ++ more)))
+          × ((more : List Step) → BeginBy old.walk.id it.walk.end rest more → BeginBy old.walk.id old.walk.end parts (had.steps ++ more))
+          × ((fault : Fault) → BreaksAfter old.walk.id it.walk.end rest fault → BreaksAfter old.walk.id old.walk.end parts fault))
           → IfSome found (λ parts. GoOnBy old.walk.id old.walk.end parts had.steps)
       by None known = tt
-      by (Some parts) (rest, is_rest, go, begin) =
+      by (Some parts) (rest, is_rest, go, begin, broken) =
           let empty : rest ≡ [] = cc (sym none ∙ is_rest) in
           subst (λ (l : List Step). GoOnBy old.walk.id old.walk.end parts l) (append-nil had.steps)
           (go [] (subst (λ (l : List (List ℕ)). GoOnBy old.walk.id it.walk.end l []) (sym empty) (go_on-none old.walk.id it.walk.end)))

@@ -1,12 +1,12 @@
 -- Why a register was not found to be what its journal says, part by part.
-use Rattle.std.proofs.Common.{◌≡◌, ◌≢◌, ◌∙◌, ◌⊎◌, ap, inl, inr, refl, subst, sym, ℕ, true, List, [], ◌∷◌, ◌++◌, append_assoc, append-nil, Result, Ok, Err}
+use Rattle.std.proofs.Common.{◌≡◌, ◌≢◌, ◌∙◌, ◌⊎◌, ap, inl, inr, refl, subst, sym, ℕ, false, true, List, [], ◌∷◌, ◌++◌, append_assoc, append-nil, Result, Ok, Err}
 use Rattle.std.specs.Borrow.{Bor}
 use Rattle.std.specs.Prelude.{IfErr, IfOk, IfSome, IsErrAnd, None, Option, Some, String, Vec, string_bytes}
 use Rattle.std.specs.declared.alloc.Global.{Global}
 use Rattle.clr_append.specs.Lines.{ended_lines}
 use Rattle.clr_rules.specs.Register.{Register}
 use Rattle.clr_chain.specs.Chain.{read_on}
-use Rattle.clr_chain.specs.First.{end_at, read_first}
+use Rattle.clr_chain.specs.First.{end_at, other_rules_in, read_first}
 use Rattle.clr_chain.specs.Walking.{part_of}
 use Rattle.clr_chain.specs.Sums.{Files}
 use Rattle.clr_chain.specs.declared.chain_end.ChainEnd.{ChainEnd}
@@ -22,9 +22,10 @@ use Rattle.clr_checking.specs.declared.checking.Checking.{Checking}
 use Rattle.clr_checking.specs.declared.fault.CheckFault.{CheckFault}
 use Rattle.clr_checking.specs.declared.fault.CheckFault.TheVariants.{BadLine, Differs, NoMemory, OtherRegister, Reply, Tables, TooShort}
 use Rattle.clr_commands.specs.Journal.{FailsAny, all_known}
-use Rattle.clr_commands.specs.Parts.{FailsLater, FirstIs, IsOfPart, IsOpened, ReadsLine, walked}
+use Rattle.clr_commands.specs.Parts.{Breaks, BreaksAfter, FailsLater, FirstIs, IsNoFirst, IsNoNext, IsOfReading, IsOpened, IsUnreadOr, IsUnreadPart, ReadsLine, walked}
 use Rattle.clr_commands.specs.Paths.{AtPaths, at_paths}
-use Rattle.clr_commands.specs.Verify.{AreOthers, AreRefused, BeginOn, BeginsWith, Checks, ChecksAll, ChecksFrom, FailsFrom, FailsSome, GoOn, HasLines, IsNo, IsOfFiles, IsRefusedBy, IsRefusedIn, IsWhole, RefusesAll, RefusesPart, of_check}
+use Rattle.clr_commands.specs.Verify.{AreOthers, AreRefused, BeginOn, BeginsWith, Checks, ChecksAll, ChecksFrom, FailsFrom, FailsSome, GoOn, HasLines, IsNo, IsOfFiles, IsRefusedBy, IsRefusedIn, IsWhole, RefusesAll, RefusesPart, RefusesSome, of_check}
+use Rattle.clr_commands.proofs.BrokenParts.{first_breaks, next_breaks, not_next}
 use Rattle.clr_commands.proofs.CheckedParts.{CheckedLines, CheckedParts, Known, begin_on-none, begin_on-part, begins_at, checks_yes, checks_yes_from, go_on-none}
 use Rattle.clr_commands.proofs.PartLines.{before-more, before-some, known-next, later-part}
 
@@ -86,7 +87,7 @@ module _ (left now next : Option (List ℕ)) (old it : Checking) (text : Vec ℕ
       }
 
   pub line_refused : (cause : CheckFault) → RefusesText it seen cause → RefusesTextFrom it seen cause
-      → IsOfPart (of_check cause) ⊎ IfSome left (λ bytes. RefusesPart old bytes (of_check cause))
+      → IsOfReading (of_check cause) ⊎ IfSome left (λ bytes. RefusesPart old bytes (of_check cause))
   line_refused OtherRegister why why_from = inr (line_kept OtherRegister (λ is. cc is) why why_from)
   line_refused (BadLine n) why why_from = inr (line_kept (BadLine n) (λ is. cc is) why why_from)
   line_refused (Reply n) why why_from = inr (line_kept (Reply n) (λ is. cc is) why why_from)
@@ -97,11 +98,24 @@ module _ (left now next : Option (List ℕ)) (old it : Checking) (text : Vec ℕ
 
 -- ---- the first line of a further part
 
-pub part_stops : (cause : CheckFault) (number : ℕ) (B : Type 0) → (cause ≡ NoMemory) ⊎ ((cause ≡ BadLine number) × B) → IsOfPart (of_check cause)
-part_stops cause number B (inl is) = inl (ap of_check is)
-part_stops cause number B (inr is) = inr (inr (inr (inr (number, ap of_check is.0))))
+-- a check that stops at it
+pub part_stops : (id : List ℕ) (end : ChainEnd) (bytes after : Option (List ℕ)) (line : Vec ℕ Global) (text : List ℕ) (cause : CheckFault) → text ≡ line.items
+    → IfSome bytes (ReadsLine (Some line) after) → other_rules_in line.items ≡ None
+    → (cause ≡ NoMemory) ⊎ ((cause ≡ BadLine end.turn.last) × ((part_of id end (read_first text)).0 ≡ false)) → IsUnreadOr (IsNoNext id end) bytes (of_check cause)
+part_stops id end bytes after line text cause same reads rules (inl memory) = inl (inr (inl (ap of_check memory)))
+part_stops id end bytes after line text cause same reads rules (inr (is, stops)) =
+    subst (λ (c : CheckFault). IsUnreadOr (IsNoNext id end) bytes (of_check c)) (sym is)
+    (not_next id end bytes after line text same reads rules stops)
 
 -- ---- all parts
+
+-- a line of them is refused
+refused_some : (first : Option (List ℕ)) (all : Option (List (List ℕ))) (it : Checking) (fault : Fault)
+    → IfSome first (λ known. IfSome all (λ parts. RefusesAll it (ended_lines known) parts fault))
+    → IfSome first (λ known. IfSome all (λ parts. RefusesSome it (ended_lines known) parts fault))
+refused_some None all it fault refused = tt
+refused_some (Some file) None it fault refused = tt
+refused_some (Some file) (Some parts) it fault refused = inr refused
 
 module _ (first : Option (List ℕ)) (all left : Option (List (List ℕ))) (old it : Checking) (had : CheckedParts first all left old it) where
   -- a line of a further part is refused
@@ -126,7 +140,7 @@ module _ (first : Option (List ℕ)) (all left : Option (List (List ℕ))) (old 
           → IfSome file (λ known. IfSome found (λ parts. RefusesAll old (ended_lines known) parts fault))
       by None found is = tt
       by (Some file) None is = tt
-      by (Some file) (Some parts) (rest, more, is_rest, go, begin, to, to_from) =
+      by (Some file) (Some parts) (rest, more, is_rest, go, begin, broken, to, to_from) =
           let (one, after, has, is_after, next) = known-next bytes others rest (sym is_left ∙ is_rest) in
           let read : ReadsLine (Some line) now one = subst (λ (b : Option (List ℕ)). IfSome b (ReadsLine (Some line) now)) has reads in
           let (known, lines_are, is) = goes one now read refused in
@@ -165,7 +179,7 @@ module _ (first : Option (List ℕ)) (all left : Option (List (List ℕ))) (old 
           → IfSome file (λ known. IfSome found (λ parts. RefusesAll old (ended_lines known) parts (of_check cause)))
       by None found known = tt
       by (Some file) None known = tt
-      by (Some file) (Some parts) (rest, more, is_rest, go, begin, to, to_from) =
+      by (Some file) (Some parts) (rest, more, is_rest, go, begin, broken, to, to_from) =
           let empty : rest ≡ [] = cc (sym none ∙ is_rest) in
           let all_read : IsWhole old (ended_lines file) [] more parts = (
             refl,
@@ -188,18 +202,32 @@ module _ (first : Option (List ℕ)) (all left : Option (List (List ℕ))) (old 
             why_from = λ copied at place R S was. (λ short. all_read, inl (why_from copied at place R S (ended_lines file ++ more) (to_from copied at place R S was)));
           }
 
+  -- a further part is refused by its first line
+  pub next_refused : (bytes : Option (List ℕ)) (others : List (Option (List ℕ))) (fault : Fault) → left ≡ all_known (bytes ∷ others)
+      → IsUnreadOr (IsNoNext it.walk.id it.walk.end) bytes fault → IsRefusedBy old first all fault
+  next_refused bytes others fault is_left (inl unread) = inl unread
+  next_refused bytes others fault is_left (inr refused) = inr (by first all had.known)
+    where
+      by : (file : Option (List ℕ)) (found : Option (List (List ℕ))) → IfSome file (λ known. IfSome found (λ parts. Known (ended_lines known) parts left old it))
+          → IfSome file (λ known. IfSome found (λ parts. RefusesSome old (ended_lines known) parts fault))
+      by None found known = tt
+      by (Some file) None known = tt
+      by (Some file) (Some parts) (rest, more, is_rest, go, begin, broken, to, to_from) =
+          inl (broken fault (subst (λ (i : List ℕ). BreaksAfter i it.walk.end rest fault) had.id
+          (next_breaks it.walk.id it.walk.end bytes others rest fault (sym is_left ∙ is_rest) refused)))
+
   pub all_refused : (cause : CheckFault) → left ≡ Some []
       → ((began : Register) (place to : Place) (R : Register) (texts : List (List ℕ)) → CheckedTo began place to R it texts → IsRefused began place texts to R cause)
       → ((copied : Register) (at place to : Place) (R : Register) (texts : List (List ℕ)) → CheckedToFrom copied at place to R it texts
       → IsRefusedFrom copied at place texts to R cause)
-      → IsOfPart (of_check cause) ⊎ IfSome first (λ known. IfSome all (λ parts. RefusesAll old (ended_lines known) parts (of_check cause)))
-  all_refused OtherRegister none why why_from = inr (end_refused OtherRegister (λ is. cc is) none why why_from)
-  all_refused (BadLine n) none why why_from = inr (end_refused (BadLine n) (λ is. cc is) none why why_from)
-  all_refused (Reply n) none why why_from = inr (end_refused (Reply n) (λ is. cc is) none why why_from)
-  all_refused (Differs n) none why why_from = inr (end_refused (Differs n) (λ is. cc is) none why why_from)
-  all_refused (Tables found) none why why_from = inr (end_refused (Tables found) (λ is. cc is) none why why_from)
-  all_refused TooShort none why why_from = inr (end_refused TooShort (λ is. cc is) none why why_from)
-  all_refused NoMemory none why why_from = inl (inl refl)
+      → IsRefusedBy old first all (of_check cause)
+  all_refused OtherRegister none why why_from = inr (refused_some first all old _ (end_refused OtherRegister (λ is. cc is) none why why_from))
+  all_refused (BadLine n) none why why_from = inr (refused_some first all old _ (end_refused (BadLine n) (λ is. cc is) none why why_from))
+  all_refused (Reply n) none why why_from = inr (refused_some first all old _ (end_refused (Reply n) (λ is. cc is) none why why_from))
+  all_refused (Differs n) none why why_from = inr (refused_some first all old _ (end_refused (Differs n) (λ is. cc is) none why why_from))
+  all_refused (Tables found) none why why_from = inr (refused_some first all old _ (end_refused (Tables found) (λ is. cc is) none why why_from))
+  all_refused TooShort none why why_from = inr (refused_some first all old _ (end_refused TooShort (λ is. cc is) none why why_from))
+  all_refused NoMemory none why why_from = inl (inr (inl refl))
 
   -- and that is said
   pub said_refused : (checked : Result ℕ CheckFault) (fault : Fault) → left ≡ Some []
@@ -209,7 +237,7 @@ module _ (first : Option (List ℕ)) (all left : Option (List (List ℕ))) (old 
       → IfErr checked (λ cause. (copied : Register) (at place to : Place) (R : Register) (texts : List (List ℕ)) → CheckedToFrom copied at place to R it texts
       → IsRefusedFrom copied at place texts to R cause)
       → IsRefusedBy old first all fault
-  said_refused checked fault none (inl memory) why why_from = inl (inl memory)
+  said_refused checked fault none (inl memory) why why_from = inl (inr (inl memory))
   said_refused checked fault none (inr (cause, is, same)) why why_from =
       subst (λ (f : Fault). IsRefusedBy old first all f) (sym same)
       (all_refused cause none
@@ -249,8 +277,8 @@ if_err (Ok value) then holds = tt
 if_err (Err fault) then holds = then fault holds
 
 pub first_by : (first : Option (List ℕ)) (all : Option (List (List ℕ))) (it : Checking) (fault : Fault) → IsRefusedIn it first fault → IsRefusedBy it first all fault
-first_by first all it fault (inl of) = inl of
-first_by first all it fault (inr is) = inr (first_refused first all it fault is)
+first_by first all it fault (inl of) = inl (inr of)
+first_by first all it fault (inr is) = inr (refused_some first all it fault (first_refused first all it fault is))
 
 pub part_by : (first : Option (List ℕ)) (all left : Option (List (List ℕ))) (old it : Checking) (had : CheckedParts first all left old it)
     (bytes : Option (List ℕ)) (others : List (Option (List ℕ))) (line : Vec ℕ Global) (now : Option (List ℕ)) (begun : Checking) (fault : Fault)
@@ -259,9 +287,9 @@ pub part_by : (first : Option (List ℕ)) (all left : Option (List (List ℕ))) 
     → ((began : Register) (place : Place) (to : Place) (R : Register) (texts : List (List ℕ)) → CheckedTo began place to R it texts → CheckedTo began place to R begun texts)
     → ((copied : Register) (at place to : Place) (R : Register) (texts : List (List ℕ)) → CheckedToFrom copied at place to R it texts → CheckedToFrom copied at place to R begun texts)
     → IsRefusedIn begun now fault → IsRefusedBy old first all fault
-part_by first all left old it had bytes others line now begun fault is_left reads part went went_from (inl of) = inl of
+part_by first all left old it had bytes others line now begun fault is_left reads part went went_from (inl of) = inl (inr of)
 part_by first all left old it had bytes others line now begun fault is_left reads part went went_from (inr is) =
-    inr (part_refused first all left old it had bytes others line now begun fault is_left reads part went went_from is)
+    inr (refused_some first all old fault (part_refused first all left old it had bytes others line now begun fault is_left reads part went went_from is))
 
 -- no fault of a check is one of opening or reading
 never_read : (cause : CheckFault) → (of_check cause ≡ Journal OpenFailed) ⊎ (of_check cause ≡ Journal ReadFailed) → ⊥
@@ -386,20 +414,36 @@ module _ (one after : List ℕ) (parts : List (List ℕ)) (first place : Place) 
       → IsNo one parts (λ first texts. IsRefusedFrom copied at first texts place R) fault
   is_no_from copied R at to = no_of (λ first texts. IsRefusedFrom copied at first texts place R) (is.why_from copied at first place R to)
 
--- a fault of the first line, or of reading
+-- a part was not read, or is refused by its first line
+abbrev IsStopped : Option (List ℕ) → Option (List (List ℕ)) → Fault → Type 0
+IsStopped one all fault = IsUnreadPart fault ⊎ IfSome one (λ bytes. IfSome all (λ known. Breaks bytes known fault))
+
+checks_stopped : (files : Files) (began R : Register) (one : Option (List ℕ)) (all : Option (List (List ℕ))) (place : Place) (result : Result (String Global) Fault) (fault : Fault)
+    → result ≡ Err fault → IsStopped one all fault → IfSome one (λ bytes. IfSome all (λ known. Checks files began bytes known place R result))
+checks_stopped files began R None all place result fault is of = tt
+checks_stopped files began R (Some one) None place result fault is of = tt
+checks_stopped files began R (Some one) (Some parts) place result fault is (inl unread) =
+    subst (λ (it : Result (String Global) Fault). Checks files began one parts place R it) (sym is) (inl unread)
+checks_stopped files began R (Some one) (Some parts) place result fault is (inr breaks) =
+    subst (λ (it : Result (String Global) Fault). Checks files began one parts place R it) (sym is) (inr (inl breaks))
+
+checks_stopped_from : (copied R : Register) (at : Place) (one : Option (List ℕ)) (all : Option (List (List ℕ))) (place : Place) (result : Result (String Global) Fault) (fault : Fault)
+    → result ≡ Err fault → IsStopped one all fault → IfSome one (λ bytes. IfSome all (λ known. ChecksFrom copied at bytes known place R result))
+checks_stopped_from copied R at None all place result fault is of = tt
+checks_stopped_from copied R at (Some one) None place result fault is of = tt
+checks_stopped_from copied R at (Some one) (Some parts) place result fault is (inl unread) =
+    subst (λ (it : Result (String Global) Fault). ChecksFrom copied at one parts place R it) (sym is) (inl unread)
+checks_stopped_from copied R at (Some one) (Some parts) place result fault is (inr breaks) =
+    subst (λ (it : Result (String Global) Fault). ChecksFrom copied at one parts place R it) (sym is) (inr (inl breaks))
+
+-- the first
 pub checks_part : (files : Files) (began R : Register) (one : Option (List ℕ)) (all : Option (List (List ℕ))) (place : Place) (result : Result (String Global) Fault) (fault : Fault)
-    → result ≡ Err fault → IsOfPart fault → IfSome one (λ bytes. IfSome all (λ known. Checks files began bytes known place R result))
-checks_part files began R None all place result fault is of = tt
-checks_part files began R (Some one) None place result fault is of = tt
-checks_part files began R (Some one) (Some parts) place result fault is of =
-    subst (λ (it : Result (String Global) Fault). Checks files began one parts place R it) (sym is) (inl of)
+    → result ≡ Err fault → IsUnreadOr IsNoFirst one fault → IfSome one (λ bytes. IfSome all (λ known. Checks files began bytes known place R result))
+checks_part files began R one all place result fault is refused = checks_stopped files began R one all place result fault is (first_breaks one all fault refused)
 
 pub checks_part_from : (copied R : Register) (at : Place) (one : Option (List ℕ)) (all : Option (List (List ℕ))) (place : Place) (result : Result (String Global) Fault) (fault : Fault)
-    → result ≡ Err fault → IsOfPart fault → IfSome one (λ bytes. IfSome all (λ known. ChecksFrom copied at bytes known place R result))
-checks_part_from copied R at None all place result fault is of = tt
-checks_part_from copied R at (Some one) None place result fault is of = tt
-checks_part_from copied R at (Some one) (Some parts) place result fault is of =
-    subst (λ (it : Result (String Global) Fault). ChecksFrom copied at one parts place R it) (sym is) (inl of)
+    → result ≡ Err fault → IsUnreadOr IsNoFirst one fault → IfSome one (λ bytes. IfSome all (λ known. ChecksFrom copied at bytes known place R result))
+checks_part_from copied R at one all place result fault is refused = checks_stopped_from copied R at one all place result fault is (first_breaks one all fault refused)
 
 -- the first line is of other files
 pub checks_others : (files : Files) (began R : Register) (one now : Option (List ℕ)) (all : Option (List (List ℕ))) (first place : Place) (result : Result (String Global) Fault) (fault : Fault)
@@ -412,8 +456,8 @@ checks_others files began R (Some one) (Some after) (Some parts) first place res
     subst (λ (it : Result (String Global) Fault). Checks files began one parts place R it) (sym is) (by others)
   where
     by : AreOthers files first fault → Checks files began one parts place R (Err fault)
-    by (inl of) = inl (inl of)
-    by (inr (same, not)) = inr (inl (record {
+    by (inl of) = inl (inr (inl of))
+    by (inr (same, not)) = inr (inr (inl (record {
       first = first;
       text = begins.0;
       lines = ended_lines after;
@@ -421,7 +465,7 @@ checks_others files began R (Some one) (Some after) (Some parts) first place res
       read = begins.2;
       not = not;
       fault_is = same;
-    }))
+    })))
 
 -- no line was read, and the first is refused
 nothing_read : (first : Place) → AreLines first [] []
@@ -447,7 +491,7 @@ checks_first files began R None now all first place result cause is begins why =
 checks_first files began R (Some one) now None first place result cause is begins why = tt
 checks_first files began R (Some one) None (Some parts) first place result cause is begins why = absurd begins
 checks_first files began R (Some one) (Some after) (Some parts) first place result cause is begins why =
-    subst (λ (it : Result (String Global) Fault). Checks files began one parts place R it) (sym is) (inr (inr (record {
+    subst (λ (it : Result (String Global) Fault). Checks files began one parts place R it) (sym is) (inr (inr (inr (record {
       first = first;
       texts = [];
       begins = first_front one after parts first begins;
@@ -455,7 +499,7 @@ checks_first files began R (Some one) (Some after) (Some parts) first place resu
       fault_is = refl;
       refused = inl (record { entries = []; lines = nothing_read first; cause = inl why });
       whole = λ short. absurd (subst (λ (f : CheckFault). RefusesRun began first [] place R f) short why);
-    })))
+    }))))
 
 never_short : (copied R : Register) (at first place : Place) (cause : CheckFault) → RefusesFrom copied at first [] [] place R cause → cause ≡ TooShort → ⊥
 never_short copied R at first place cause (inl is) short = subst (λ (f : CheckFault). RefusesCopy first [] at place f) short is
@@ -468,7 +512,7 @@ checks_first_from copied R at None now all first place result cause is begins wh
 checks_first_from copied R at (Some one) now None first place result cause is begins why = tt
 checks_first_from copied R at (Some one) None (Some parts) first place result cause is begins why = absurd begins
 checks_first_from copied R at (Some one) (Some after) (Some parts) first place result cause is begins why =
-    subst (λ (it : Result (String Global) Fault). ChecksFrom copied at one parts place R it) (sym is) (inr (record {
+    subst (λ (it : Result (String Global) Fault). ChecksFrom copied at one parts place R it) (sym is) (inr (inr (record {
       first = first;
       texts = [];
       begins = first_front one after parts first begins;
@@ -476,7 +520,20 @@ checks_first_from copied R at (Some one) (Some after) (Some parts) first place r
       fault_is = refl;
       refused = inl (record { before = []; entries = []; lines = nothing_read first; cause = inl why });
       whole = λ short. absurd (never_short copied R at first place cause why short);
-    }))
+    })))
+
+-- a further part is refused by its first line
+broken_over : (one after : List ℕ) (parts : List (List ℕ)) (first place : Place) (it : Checking) (entries : List Entry) (fault : Fault) → FirstIs first (Some after) one
+    → GoesOver first place it [] entries → BreaksAfter it.walk.id (walked it.walk.end (ended_lines after)).1 parts fault → Breaks one parts fault
+broken_over one after parts first place it entries fault begins over breaks = inr (
+  first,
+  begins.0,
+  ended_lines after,
+  begins.1,
+  begins.2,
+  subst (λ (i : List ℕ). BreaksAfter i (walked (end_at first) (ended_lines after)).1 parts fault) over.id_is
+      (subst (λ (e : ChainEnd). BreaksAfter it.walk.id (walked e (ended_lines after)).1 parts fault) (begins_at first it.walk.end over.end_is) breaks),
+)
 
 -- what comes of all lines
 pub checks_over : (files : Files) (began R : Register) (one now : Option (List ℕ)) (all : Option (List (List ℕ))) (first place : Place) (it : Checking) (result : Result (String Global) Fault)
@@ -484,30 +541,32 @@ pub checks_over : (files : Files) (began R : Register) (one now : Option (List �
     → IfOk result (λ text. IfSome now (λ bytes. IfSome all (λ known. ChecksAll it (ended_lines bytes) known (string_bytes text)))) → IfErr result (IsRefusedBy it now all)
     → IfSome one (λ bytes. IfSome all (λ known. Checks files began bytes known place R result))
 checks_over files began R one now all first place it (Ok text) begins of to checks refused = checks_yes files began R one now all first place it text begins of to checks
-checks_over files began R one now all first place it (Err fault) begins of to checks (inl part) = checks_part files began R one all place (Err fault) fault refl part
+checks_over files began R one now all first place it (Err fault) begins of to checks (inl part) = checks_stopped files began R one all place (Err fault) fault refl (inl part)
 checks_over files began R one now all first place it (Err fault) begins of to checks (inr refused) = by one now all begins refused
   where
     by : (file left : Option (List ℕ)) (found : Option (List (List ℕ))) → IfSome file (FirstIs first left)
-        → IfSome left (λ bytes. IfSome found (λ known. RefusesAll it (ended_lines bytes) known fault))
+        → IfSome left (λ bytes. IfSome found (λ known. RefusesSome it (ended_lines bytes) known fault))
         → IfSome file (λ bytes. IfSome found (λ known. Checks files began bytes known place R (Err fault)))
     by None left found front is = tt
     by (Some file) left None front is = tt
     by (Some file) None (Some parts) front is = absurd front
-    by (Some file) (Some after) (Some parts) front is = inr (inr (is_no file after parts first place it to.entries fault front to.over is began R to))
+    by (Some file) (Some after) (Some parts) front (inl breaks) = inr (inl (broken_over file after parts first place it to.entries fault front to.over breaks))
+    by (Some file) (Some after) (Some parts) front (inr is) = inr (inr (inr (is_no file after parts first place it to.entries fault front to.over is began R to)))
 
 pub checks_over_copy : (copied R : Register) (at : Place) (one now : Option (List ℕ)) (all : Option (List (List ℕ))) (first place : Place) (it : Checking)
     (result : Result (String Global) Fault) → IfSome one (FirstIs first now) → CheckedToFrom copied at first place R it []
     → IfOk result (λ text. IfSome now (λ bytes. IfSome all (λ known. ChecksAll it (ended_lines bytes) known (string_bytes text)))) → IfErr result (IsRefusedBy it now all)
     → IfSome one (λ bytes. IfSome all (λ known. ChecksFrom copied at bytes known place R result))
 checks_over_copy copied R at one now all first place it (Ok text) begins to checks refused = checks_yes_from copied R at one now all first place it text begins to checks
-checks_over_copy copied R at one now all first place it (Err fault) begins to checks (inl part) = checks_part_from copied R at one all place (Err fault) fault refl part
+checks_over_copy copied R at one now all first place it (Err fault) begins to checks (inl part) = checks_stopped_from copied R at one all place (Err fault) fault refl (inl part)
 checks_over_copy copied R at one now all first place it (Err fault) begins to checks (inr refused) = by one now all begins refused
   where
     by : (file left : Option (List ℕ)) (found : Option (List (List ℕ))) → IfSome file (FirstIs first left)
-        → IfSome left (λ bytes. IfSome found (λ known. RefusesAll it (ended_lines bytes) known fault))
+        → IfSome left (λ bytes. IfSome found (λ known. RefusesSome it (ended_lines bytes) known fault))
         → IfSome file (λ bytes. IfSome found (λ known. ChecksFrom copied at bytes known place R (Err fault)))
     by None left found front is = tt
     by (Some file) left None front is = tt
     by (Some file) None (Some parts) front is = absurd front
-    by (Some file) (Some after) (Some parts) front is =
-        inr (is_no_from file after parts first place it (to.before ++ to.entries) fault front to.over is copied R at to)
+    by (Some file) (Some after) (Some parts) front (inl breaks) = inr (inl (broken_over file after parts first place it (to.before ++ to.entries) fault front to.over breaks))
+    by (Some file) (Some after) (Some parts) front (inr is) =
+        inr (inr (is_no_from file after parts first place it (to.before ++ to.entries) fault front to.over is copied R at to))

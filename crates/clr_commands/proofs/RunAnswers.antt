@@ -75,12 +75,14 @@ desk-no_input (desk.Store cause) fault is e = of_store-no_input cause fault is e
 chain-no_input : (cause : ChainFault) (fault : Fault) → fault ≡ of_chain cause → fault ≡ Input ReadFailed → ⊥
 chain-no_input chain.OpenFailed fault is e = cc (sym is ∙ e)
 chain-no_input chain.NoMemory fault is e = cc (sym is ∙ e)
+chain-no_input (chain.OtherRules number) fault is e = cc (sym is ∙ e)
 chain-no_input chain.OtherRegister fault is e = cc (sym is ∙ e)
 chain-no_input chain.TooShort fault is e = cc (sym is ∙ e)
 chain-no_input (chain.Differs number) fault is e = cc (sym is ∙ e)
 chain-no_input (chain.BadLine number) fault is e = cc (sym is ∙ e)
 
 opening-no_input : (cause : OpeningFault) (fault : Fault) → fault ≡ of_opening cause → fault ≡ Input ReadFailed → ⊥
+opening-no_input (opening.OtherRules number) fault is e = cc (sym is ∙ e)
 opening-no_input opening.OtherRegister fault is e = cc (sym is ∙ e)
 opening-no_input opening.TooShort fault is e = cc (sym is ∙ e)
 opening-no_input (opening.Differs number) fault is e = cc (sym is ∙ e)

@@ -29,13 +29,13 @@ use Rattle.clr_desk.specs.declared.desk_fault.DeskFault.TheVariants as desk
 use Rattle.clr_edge.specs.Database.{IsOfLine}
 use Rattle.clr_edge.specs.Fault.{of_desk}
 use Rattle.clr_edge.specs.Keeping.{IsNotUp, IsUp, unlogged}
-use Rattle.clr_edge.specs.Visit.{Done, Ending, Ends, Opening, Over, Shutting}
+use Rattle.clr_edge.specs.Visit.{Done, Ending, Ends, Opening, Over, Shutting, first_fault}
 use Rattle.clr_edge.specs.declared.fault.Fault.{Fault}
 use Rattle.clr_edge.specs.declared.fault.Fault.TheVariants.{Memory}
 use Rattle.clr_commands.specs.Faults.{IsOfSubcommand}
 use Rattle.clr_commands.specs.Fence.{argument}
 use Rattle.clr_commands.specs.Import.{FileRows}
-use Rattle.clr_commands.specs.Update.{IsDone, IsUpdated, RefusesUpdate, ReportsUpdate, Texts, UpdatesAt, names_said, text_or, text_reported, update_fault}
+use Rattle.clr_commands.specs.Update.{IsDone, IsUpdated, RefusesUpdate, ReportsUpdate, Texts, UpdatesAt, names_said, text_reported, update_fault}
 use Rattle.clr_commands.proofs.Faults.{line_plain, obstacle_plain}
 use Rattle.clr_commands.proofs.PointsNamed.{names_after}
 
@@ -113,11 +113,11 @@ module _ {S : Type 0} (g : Ghosts S) (R : Register) (u : Update) (read after : H
   }
 
 -- ---- over a database
-pub answer_plain : (R : Register) (u : Update) (report : Texts) (closed : Done) (result : Texts) → ReportsUpdate R u report → IfErr closed IsOfLine → result ≡ text_or report closed
+pub answer_plain : (R : Register) (u : Update) (report : Texts) (closed : Done) (result : Texts) → ReportsUpdate R u report → IfErr closed IsOfLine → result ≡ first_fault report closed
     → IfErr result IsOfSubcommand
 answer_plain R u report closed result reports line is = subst (λ (it : Texts). IfErr it IsOfSubcommand) (sym is) (by report closed reports line)
   where
-    by : (report : Texts) (closed : Done) → ReportsUpdate R u report → IfErr closed IsOfLine → IfErr (text_or report closed) IsOfSubcommand
+    by : (report : Texts) (closed : Done) → ReportsUpdate R u report → IfErr closed IsOfLine → IfErr (first_fault report closed) IsOfSubcommand
     by (Ok text) (Ok value) reports line = tt
     by (Ok text) (Err fault) reports line = line_plain fault line
     by (Err fault) closed (inl (cause, is, way)) line = obstacle_plain fault cause is
@@ -128,7 +128,7 @@ module _ {M D : Type 0} (g : disk.Ghosts D) (opens : Opening M D) (shuts : Shutt
   pub updated_at : (report result : Texts) (closed : Done) (old between new : M) (desk : Desk (Over g)) (store after : Over g)
       → IsUp g opens path (unlogged over_files) old between desk → ReportsUpdate desk.book.register u report
       → IsDone over_files dry_run desk.book.register u report desk.store store → after ≡ store → Ends ends after closed between new → IfErr closed IsOfLine
-      → result ≡ text_or report closed → UpdatesAt g opens shuts ends path dry_run u result old new
+      → result ≡ first_fault report closed → UpdatesAt g opens shuts ends path dry_run u result old new
   updated_at report result closed old between new desk store after up reports done same ended line is = inr (record {
     before = up.before;
     after = store;

@@ -27,7 +27,7 @@ use Rattle.clr_edge.specs.TakenUp.{IsNotTakenUp, Logs}
 use Rattle.clr_edge.specs.TakenUp.IsNotTakenUp.{apart as was_apart, refused as was_refused, unopened as was_unopened, unplaced as was_unplaced, without as was_without}
 use Rattle.clr_edge.specs.Logins.{is_employee, unless_unknown}
 use Rattle.clr_edge.specs.Loopback.{listen_fault}
-use Rattle.clr_edge.specs.Visit.{Copies, Done, Ending, Opening, Shutting, both}
+use Rattle.clr_edge.specs.Visit.{Copies, Done, Ending, Opening, Shutting, first_fault}
 use Rattle.clr_edge.specs.declared.fault.Fault.{Fault}
 use Rattle.clr_edge.specs.declared.fault.Fault.TheVariants.{Output, UnknownEmployee}
 use Rattle.clr_edge.specs.declared.loopback.Loopback as loopback
@@ -141,41 +141,41 @@ module _ {D M L R W : Type 0} (by : registrar.Ghosts D) (net : loopback.Ghosts M
 
   terms_written : (terms : Terms) (k k' : D) (served closed : Done) (old new : M)
       → ServesKeeper by net seen output output' errors errors' terms k k' served old new
-      → IfErr closed (λ fault. fault ≢ Output) → Writes terms.port terms.count (both served closed) output output' errors errors'
+      → IfErr closed (λ fault. fault ≢ Output) → Writes terms.port terms.count (first_fault served closed) output output' errors errors'
   terms_written terms k k' (Ok value) closed old new (listener, middle, stands, went, taken, run) other =
       closed_written closed other (first_reported by net seen terms listener terms.count k k' errors errors' middle new taken)
     where
       closed_written : (closed : Done) → IfErr closed (λ fault. fault ≢ Output) → ReportsFirst terms.count errors errors'
-          → Writes terms.port terms.count closed output output' errors errors'
-      closed_written (Ok value) other reported = (went, reported)
+          → Writes terms.port terms.count (first_fault (Ok value) closed) output output' errors errors'
+      closed_written (Ok done) other reported = (went, reported)
       closed_written (Err fault) other reported = inr (inr (other, went, (terms.count, reported)))
   terms_written terms k k' (Err fault) closed old new serves other = keeper_written terms k k' fault old new serves
 
   -- a server that is asked for, whose logins the staff may lack
   asked_written : (args : ServeArgs) (staff : List StaffRow) (logins : Option (List LoginRow)) (k k' : D) (served closed : Done) (old new : M)
       → ServesOn by net seen output output' errors errors' (terms_of args staff logins) k k' served old new
-      → IfErr closed (λ fault. fault ≢ Output) → Writes args.port args.count (both served closed) output output' errors errors'
+      → IfErr closed (λ fault. fault ≢ Output) → Writes args.port args.count (first_fault served closed) output output' errors errors'
   asked_written args staff None k k' served closed old new serves other = terms_written (terms_with args None) k k' served closed old new serves other
   asked_written args staff (Some rows) k k' served closed old new serves other = of (position (λ row. not (is_employee staff row.employee)) rows) serves
     where
       of : (place : Option ℕ)
           → ServesOn by net seen output output' errors errors' (unless_unknown rows place >>= (λ known. Ok (terms_with args (Some known)))) k k' served old new
-          → Writes args.port args.count (both served closed) output output' errors errors'
+          → Writes args.port args.count (first_fault served closed) output output' errors errors'
       of None serves = terms_written (terms_with args (Some rows)) k k' served closed old new serves other
       of (Some place) (kept, (is, untouched, same, quiet)) =
-          unserved_written output output' errors errors' args.port args.count (UnknownEmployee (place + 1)) (both served closed) (λ e. cc e) (ap (λ (r : Done). both r closed) is) same quiet
+          unserved_written output output' errors errors' args.port args.count (UnknownEmployee (place + 1)) (first_fault served closed) (λ e. cc e) (ap (λ (r : Done). first_fault r closed) is) same quiet
 
 module _ {M L R W : Type 0} (net : loopback.Ghosts M L R W) (seen : Seen R W) (output output' errors errors' : Stream) (args : ServeArgs) (logins : Option (List LoginRow)) where
   over_written : {T K : Type 0} (by : Keeping M T K) → ((old new : M) (before after : Held T) (fault : Fault) → by.refuses old new before fault after → fault ≢ Output)
       → (result : Done) (old new : M) (before after : Held T) (closed : Done) → IfErr closed (λ fault. fault ≢ Output)
-      → WorksIn by ((output' ≡ output) × (errors' ≡ errors)) (ServesDesk net seen args logins output output' errors errors' by.keeper) both result old before after closed new
+      → WorksIn by ((output' ≡ output) × (errors' ≡ errors)) (ServesDesk net seen args logins output output' errors errors' by.keeper) first_fault result old before after closed new
       → Writes args.port args.count result output output' errors errors'
   over_written {T} {K} by refused_other result old new before after closed other did =
       subst (λ (r : Done). Writes args.port args.count r output output' errors errors') (sym did.result_is) (of did.told did.works)
     where
       of : (told : Done) → (IsErrAnd told (λ fault. by.refuses old new before fault after) × ((output' ≡ output) × (errors' ≡ errors)))
           ⊎ Works by (ServesDesk net seen args logins output output' errors errors' by.keeper told) old new before after
-          → Writes args.port args.count (both told closed) output output' errors errors'
+          → Writes args.port args.count (first_fault told closed) output output' errors errors'
       of (Ok value) (inl (refused, quiet)) = absurd refused
       of (Err fault) (inl (refused, (same, quiet))) = inl (refused_other old new before after fault refused, same, quiet)
       of told (inr it) =

@@ -16,7 +16,7 @@ use Rattle.clr_stream.specs.Streams.{IsCut, Stream, WentOut}
 use Rattle.clr_tables.specs.Tables.{tables_of}
 use Rattle.clr_edge.specs.Database.{IsOfLine}
 use Rattle.clr_edge.specs.Keeping.{IsNotReadAlone, IsReadAlone}
-use Rattle.clr_edge.specs.Visit.{Alone, Comes, Done, Ending, Opening, Shutting, both}
+use Rattle.clr_edge.specs.Visit.{Alone, Comes, Done, Ending, Opening, Shutting, first_fault}
 use Rattle.clr_edge.specs.declared.fault.Fault.{Fault}
 use Rattle.clr_edge.specs.declared.fault.Fault.TheVariants.{Memory, Output}
 use Rattle.clr_commands.specs.ArchiveText.{archive_text}
@@ -62,7 +62,7 @@ pub record ArchivesOver {S : Type 0} (g : Ghosts S) (args : ArchiveArgs) (output
   pub did : (IsErrAnd told (λ fault. IsNotReadAlone g before fault after) × (output' ≡ output))
       ⊎ Archives g args output output' told before after
   pub closing : IfErr closed IsOfLine
-  pub result_is : result ≡ both told closed
+  pub result_is : result ≡ first_fault told closed
 
 -- over the database at a path; where that was not opened, nothing went out
 abbrev pub ArchivesAt : {M D : Type 0} → (g : disk.Ghosts D) → Opening M D → Shutting M

@@ -13,7 +13,7 @@ use Rattle.clr_edge.specs.declared.fault.Fault.{Fault}
 use Rattle.clr_edge.specs.declared.fault.Fault.TheVariants.{Journal, NoSuch, Output}
 use Rattle.clr_edge.specs.declared.fault.JournalFault.TheVariants.{BadLine, OpenFailed, ReadFailed}
 use Rattle.clr_edge.specs.Visit.{Done}
-use Rattle.clr_commands.specs.Parts.{HasFront, HasSteps, IsOfPart}
+use Rattle.clr_commands.specs.Parts.{Breaks, HasFront, HasSteps, IsOfPart, IsUnreadPart}
 use Rattle.clr_commands.specs.Paths.{AtPaths}
 
 -- the clearance that a word names, if one was given
@@ -68,13 +68,14 @@ pub record CutsKnown (args : JournalArgs) (first_part : List ℕ) (parts : List 
   pub cut : IsCut output output' (journal_text args wanted steps)
 
 -- WHAT WAS PRINTED of a journal whose parts are known: all of it; or a front of it, and then the output
--- failed; or memory ran out, or a part went unread or does not go on
+-- failed; or memory ran out, or a part went unread, or one is refused by its first line
 abbrev pub PrintsAt : Option (List ℕ) → Option (List (List ℕ)) → JournalArgs → Stream → Stream
     → Done → Type 0
 PrintsAt (Some first_part) (Some parts) args output output' result =
     (PrintsKnown args first_part parts output output' result)
     ⊎ ((result ≡ Err Output) × CutsKnown args first_part parts output output')
-    ⊎ ((fault : Fault) × (result ≡ Err fault) × IsOfPart fault)
+    ⊎ ((fault : Fault) × (result ≡ Err fault)
+    × (IsUnreadPart fault ⊎ Breaks first_part parts fault))
 PrintsAt first_part parts args output output' result = Unit {0}
 
 -- a part could not be opened, or a read of it failed

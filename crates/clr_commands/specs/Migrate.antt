@@ -15,6 +15,7 @@ use Rattle.clr_edge.specs.Database.{IsOfLine}
 use Rattle.clr_edge.specs.Keeping.{IsNotReadAlone, IsReadAlone}
 use Rattle.clr_edge.specs.TakenUp.{Logs}
 use Rattle.clr_edge.specs.Visit.{Alone, Comes, Done, Ending, MovesRegister, Opening, Shutting}
+use Rattle.clr_edge.specs.Visit.{first_fault}
 use Rattle.clr_edge.specs.declared.fault.Fault.{Fault}
 use Rattle.clr_edge.specs.declared.fault.Fault.TheVariants.{Memory}
 use Rattle.clr_commands.specs.First.{board_files, first_place, made_at}
@@ -40,15 +41,10 @@ Migrates Comes result old new = ((result ≡ Err Memory) × (new ≡ old))
 abbrev pub journal_line : List ℕ → List ℕ
 journal_line id = codes "journal " ++ (id ++ codes "\n")
 
-abbrev pub text_or : Result (String Global) Fault → Done → Result (String Global) Fault
-text_or (Ok text) (Ok value) = Ok text
-text_or (Ok text) (Err fault) = Err fault
-text_or (Err fault) closed = Err fault
-
 -- what is printed once the register has its place, or why it has none
 abbrev pub PrintsBegun : Place → Done → Result (String Global) Fault → Type 0
-PrintsBegun first told (Ok text) = (told ≡ Ok tt) × (string_bytes text ≡ journal_line first.id)
-PrintsBegun first told (Err fault) = told ≡ Err fault
+PrintsBegun first begun (Ok text) = (begun ≡ Ok tt) × (string_bytes text ≡ journal_line first.id)
+PrintsBegun first begun (Err fault) = begun ≡ Err fault
 
 -- A JOURNAL IS BEGUN at a path for a register that was read, with this first place; or memory ran out
 -- before
@@ -56,21 +52,21 @@ abbrev pub BeginsOver : {M J C T : Type 0} → Ghosts T → Logs M J C → Place
     → Result (String Global) Fault → M → M → Held T → Held T → Type 0
 BeginsOver g logs first path result old new read after =
     ((result ≡ Err Memory) × (new ≡ old) × (after ≡ read))
-    ⊎ ((told : Done) × PrintsBegun first told result
-    × PlacesAt g logs path first told old new read after)
+    ⊎ ((begun : Done) × PrintsBegun first begun result
+    × PlacesAt g logs path first begun old new read after)
 
 -- over the database at a path, whose register has no journal; its first place is made of what a clock
 -- of the machine showed before
 pub record BeginsIn {M J C T : Type 0} (g : Ghosts T) (logs : Logs M J C) (moment : ℕ)
     (path journal : List ℕ) (result : Result (String Global) Fault) (old : M)
     (before after : Held T) (closed : Done) (new : M) : Type 0 where
-  pub told : Result (String Global) Fault
-  pub did : (IsErrAnd told (λ fault. IsNotReadAlone g before fault after) × (new ≡ old))
+  pub report : Result (String Global) Fault
+  pub did : (IsErrAnd report (λ fault. IsNotReadAlone g before fault after) × (new ≡ old))
       ⊎ ((R : Register) × (read : Held T) × IsReadAlone g before read R
-      × BeginsOver g logs (first_place (board_files R) (made_at moment path journal)) journal told
+      × BeginsOver g logs (first_place (board_files R) (made_at moment path journal)) journal report
       old new read after)
   pub closing : IfErr closed IsOfLine
-  pub result_is : result ≡ text_or told closed
+  pub result_is : result ≡ first_fault report closed
 
 abbrev pub BeginsJournal : {M D J C : Type 0} → Logs M J C → (g : disk.Ghosts D) → Opening M D
     → Shutting M → Ending M D → List ℕ → List ℕ → Result (String Global) Fault → M → M → Type 0

@@ -1,11 +1,13 @@
 -- THE PARTS OF A JOURNAL at their paths: the first has the first line, and each further one goes on
 -- where the one before it ends.
-use Rattle.std.specs.Prelude.{◌≡◌, ◌⊎◌, ℕ, true, List, [], ◌∷◌, ◌++◌, None, Option, Some, Vec}
+use Rattle.std.specs.Prelude.{◌≡◌, ◌⊎◌, ℕ, false, true, List, [], ◌∷◌, ◌++◌, None, Option, Some}
+use Rattle.std.specs.Prelude.{IfSome, Vec, option_and_then}
 use Rattle.std.specs.declared.alloc.Global.{Global}
 use Rattle.clr_stream.specs.Failures.{Rose}
 use Rattle.clr_append.specs.Lines.{ended_lines}
 use Rattle.clr_place.specs.declared.place.Place.{Place}
-use Rattle.clr_chain.specs.First.{end_at, read_first}
+use Rattle.clr_chain.specs.Finding.{first_text_of}
+use Rattle.clr_chain.specs.First.{end_at, other_rules_in, read_first}
 use Rattle.clr_chain.specs.Walking.{part_of, step_of}
 use Rattle.clr_chain.specs.Walking.{Step}
 use Rattle.clr_chain.specs.declared.chain_end.ChainEnd.{ChainEnd}
@@ -14,7 +16,7 @@ use Rattle.clr_edge.specs.Lines.{IsNextLine, left_of}
 use Rattle.clr_edge.specs.declared.fault.Fault.{Fault}
 use Rattle.clr_edge.specs.declared.fault.Fault.TheVariants.{Journal, Memory}
 use Rattle.clr_edge.specs.declared.fault.JournalFault.TheVariants.{BadLine, OpenFailed, ReadFailed}
-use Rattle.clr_edge.specs.declared.fault.JournalFault.TheVariants.{TooLong}
+use Rattle.clr_edge.specs.declared.fault.JournalFault.TheVariants.{OtherRules, TooLong}
 use Rattle.clr_commands.specs.Paths.{FailsToRead}
 use Rattle.clr_commands.specs.declared.parts.Part.{Part}
 
@@ -22,6 +24,21 @@ use Rattle.clr_commands.specs.declared.parts.Part.{Part}
 abbrev pub IsOfPart : Fault → Type 0
 IsOfPart fault = (fault ≡ Memory) ⊎ (fault ≡ Journal OpenFailed) ⊎ (fault ≡ Journal ReadFailed)
     ⊎ (fault ≡ Journal TooLong) ⊎ ((number : ℕ) × (fault ≡ Journal (BadLine number)))
+    ⊎ ((number : ℕ) × (fault ≡ Journal (OtherRules number)))
+
+-- those of reading a line of it
+abbrev pub IsOfReading : Fault → Type 0
+IsOfReading fault = (fault ≡ Memory) ⊎ (fault ≡ Journal ReadFailed) ⊎ (fault ≡ Journal TooLong)
+
+-- those of a line that may be a first line by other rules: it names the rules of this number
+abbrev pub IsOfRules : List ℕ → Fault → Type 0
+IsOfRules text fault = (fault ≡ Memory)
+    ⊎ ((number : ℕ) × (fault ≡ Journal (OtherRules number))
+    × (other_rules_in text ≡ Some number))
+
+-- those of a part that was not opened or read
+abbrev pub IsUnreadPart : Fault → Type 0
+IsUnreadPart fault = (fault ≡ Journal OpenFailed) ⊎ IsOfReading fault
 
 -- of these, that it was not opened or read has a cause
 abbrev pub FailsPart : {F : Type 0} → (F → Option (List ℕ)) → (F → ℕ) → Option (List ℕ) → Fault
@@ -62,6 +79,36 @@ GoesOn old new None bytes = ⊥
 GoesOn old new (Some after) bytes = (text : List ℕ)
     × (ended_lines bytes ≡ text ∷ ended_lines after)
     × ((true, new.end) ≡ part_of old.id old.end (read_first text)) × (new.id ≡ old.id)
+
+-- ---- a part that is refused by its first line
+
+-- what the first line of these bytes is by these rules, and which others it names
+abbrev pub first_in : List ℕ → Option Place
+first_in bytes = option_and_then read_first (first_text_of (ended_lines bytes))
+
+abbrev pub rules_in : List ℕ → Option ℕ
+rules_in bytes = option_and_then other_rules_in (first_text_of (ended_lines bytes))
+
+-- THESE BYTES ARE NO PART: their first line names other rules, or they have no line
+abbrev pub IsNoPart : List ℕ → Fault → Type 0
+IsNoPart bytes fault =
+    ((number : ℕ) × (fault ≡ Journal (OtherRules number)) × (rules_in bytes ≡ Some number))
+    ⊎ ((fault ≡ Journal (BadLine 0)) × (ended_lines bytes ≡ []))
+
+-- THEY ARE NO FIRST PART: that, or their first line is no first line of a journal
+abbrev pub IsNoFirst : List ℕ → Fault → Type 0
+IsNoFirst bytes fault = IsNoPart bytes fault
+    ⊎ ((fault ≡ Journal (BadLine 0)) × (rules_in bytes ≡ None) × (first_in bytes ≡ None))
+
+-- THEY ARE NO PART AFTER THIS END of a chain: or their first line does not go on from it
+abbrev pub IsNoNext : List ℕ → ChainEnd → List ℕ → Fault → Type 0
+IsNoNext id end bytes fault = IsNoPart bytes fault
+    ⊎ ((fault ≡ Journal (BadLine end.turn.last)) × (rules_in bytes ≡ None)
+    × ((part_of id end (first_in bytes)).0 ≡ false))
+
+-- a part was not opened or read; or it is refused, where its bytes are known
+abbrev pub IsUnreadOr : (List ℕ → Fault → Type 0) → Option (List ℕ) → Fault → Type 0
+IsUnreadOr IsNo bytes fault = IsUnreadPart fault ⊎ IfSome bytes (λ all. IsNo all fault)
 
 -- ---- all parts, where their bytes are known
 
@@ -113,3 +160,20 @@ pub record HasFront (first_part : List ℕ) (parts : List (List ℕ)) (steps : L
   pub some : (steps ≡ (walked (end_at first) texts).0) ⊎ ((after ≡ []) × (more : List Step)
       × (steps ≡ (walked (end_at first) texts).0 ++ more)
       × BeginBy first.id (walked (end_at first) texts).1 parts more)
+
+-- ---- a part that does not go on
+
+-- ONE OF THE FURTHER PARTS IS REFUSED, and those before it go on
+unfoldable pub BreaksAfter : List ℕ → ChainEnd → List (List ℕ) → Fault → Type 0
+BreaksAfter id end [] fault = ⊥
+BreaksAfter id end (bytes ∷ rest) fault = IsNoNext id end bytes fault
+    ⊎ ((text : List ℕ) × (texts : List (List ℕ)) × (next : ChainEnd)
+    × (ended_lines bytes ≡ text ∷ texts) × (part_of id end (read_first text) ≡ (true, next))
+    × BreaksAfter id (walked next texts).1 rest fault)
+
+-- A PART OF A JOURNAL IS REFUSED: the first, or one of the further ones
+abbrev pub Breaks : List ℕ → List (List ℕ) → Fault → Type 0
+Breaks first_part parts fault = IsNoFirst first_part fault
+    ⊎ ((first : Place) × (text : List ℕ) × (texts : List (List ℕ))
+    × (ended_lines first_part ≡ text ∷ texts) × (read_first text ≡ Some first)
+    × BreaksAfter first.id (walked (end_at first) texts).1 parts fault)

@@ -14,7 +14,8 @@ use Rattle.clr_edge.specs.Visit.{Done}
 use Rattle.clr_edge.specs.declared.fault.Fault.{Fault}
 use Rattle.clr_edge.specs.declared.fault.Fault.TheVariants.{Memory, Output}
 use Rattle.clr_commands.specs.Journal.{SentSome, ends_as, journal_text, wanted_in}
-use Rattle.clr_commands.specs.Parts.{BeginBy, GoOnBy, walked}
+use Rattle.clr_commands.specs.Parts.{BeginBy, BreaksAfter, GoOnBy, IsOfReading, IsUnreadPart}
+use Rattle.clr_commands.specs.Parts.{walked}
 use Rattle.clr_commands.specs.declared.journal.Kind.{Kind}
 use Rattle.clr_commands.specs.declared.journal.Kind.TheVariants.{Commands, Log}
 use Rattle.clr_commands.specs.declared.journal.Printing.{Printing}
@@ -91,11 +92,12 @@ pub record PrintsPart (left : Option (List ℕ)) (old : Printing) (before : Stre
   pub end : new.walk.end ≡ (walked old.walk.end lines).1
   pub id : new.walk.id ≡ old.walk.id
 
--- they were not
+-- they were not: the output failed, or a line was not read
 pub record FailsWithin (left : Option (List ℕ)) (old : Printing) (before : Stream) (fault : Fault)
     (after : Stream) : Type 0 where
   pub lines : List (List ℕ)
   pub some : IfSome left (λ bytes. (rest : List (List ℕ)) × (ended_lines bytes ≡ lines ++ rest))
+  pub why : (fault ≡ Output) ⊎ IsOfReading fault
   pub fails : FailsOn old before (walked old.walk.end lines).0 fault after
 
 -- the further parts were printed
@@ -105,11 +107,13 @@ pub record PrintsMore (parts : Option (List (List ℕ))) (old : Printing) (befor
   pub go_on : IfSome parts (λ known. GoOnBy old.walk.id old.walk.end known steps)
   pub prints : PrintsOn old before steps new after
 
--- they were not
+-- they were not: the output failed, or one was not read, or is refused by its first line
 pub record FailsMore (parts : Option (List (List ℕ))) (old : Printing) (before : Stream)
     (fault : Fault) (after : Stream) : Type 0 where
   pub steps : List Step
   pub begin : IfSome parts (λ known. BeginBy old.walk.id old.walk.end known steps)
+  pub why : (fault ≡ Output) ⊎ IsUnreadPart fault
+      ⊎ IfSome parts (λ known. BreaksAfter old.walk.id old.walk.end known fault)
   pub fails : FailsOn old before steps fault after
 
 -- the text of all steps went out, and the end is as it is; or a front of it did, and the output

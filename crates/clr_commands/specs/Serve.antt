@@ -18,7 +18,7 @@ use Rattle.clr_args.specs.declared.asked.ServeArgs.{ServeArgs}
 use Rattle.clr_edge.specs.Keeping.{WorksWith}
 use Rattle.clr_edge.specs.Loopback.{RefusesOn, StandsOn}
 use Rattle.clr_edge.specs.TakenUp.{Logs}
-use Rattle.clr_edge.specs.Visit.{Comes, Done, Ending, Opening, Shutting, both}
+use Rattle.clr_edge.specs.Visit.{Comes, Done, Ending, Opening, Shutting, first_fault}
 use Rattle.clr_edge.specs.declared.fault.Fault.{Fault}
 use Rattle.clr_edge.specs.declared.fault.Fault.TheVariants.{Output}
 use Rattle.clr_edge.specs.declared.loopback.Loopback as loopback
@@ -89,7 +89,7 @@ module _ {M L R W : Type 0} (net : loopback.Ghosts M L R W) (seen : Seen R W) (a
   ServesKept logs g opens shuts ends journal path = Comes g opens
       (λ old path fault new. shuts old path fault new × (output' ≡ output) × (errors' ≡ errors))
       ends path (WorksWith logs over_files journal ((output' ≡ output) × (errors' ≡ errors))
-      (λ K keeper. ServesDesk keeper) both)
+      (λ K keeper. ServesDesk keeper) first_fault)
 
 -- WHAT `serve` DOES: it reads the file of logins, if one is named, before it opens the database, and
 -- opens none where that file has a fault

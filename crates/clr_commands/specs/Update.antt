@@ -30,7 +30,7 @@ use Rattle.clr_args.specs.declared.asked.UpdateArgs.{UpdateArgs}
 use Rattle.clr_edge.specs.Database.{IsOfLine}
 use Rattle.clr_edge.specs.Fault.{of_desk}
 use Rattle.clr_edge.specs.Keeping.{IsNotReadAlone, IsReadAlone}
-use Rattle.clr_edge.specs.Visit.{Alone, Comes, Done, Ending, Opening, Shutting}
+use Rattle.clr_edge.specs.Visit.{Alone, Comes, Done, Ending, Opening, Shutting, first_fault}
 use Rattle.clr_edge.specs.declared.fault.Fault.{Fault}
 use Rattle.clr_edge.specs.declared.fault.Fault.TheVariants.{Memory, Update as InTheWay}
 use Rattle.clr_commands.specs.Fence.{argument}
@@ -104,12 +104,6 @@ pub record Updates {S : Type 0} (g : Ghosts S) (dry_run : Bool) (u : Update) (re
   pub reports : ReportsUpdate register u report
   pub is_done : IsDone g dry_run register u report read after
 
--- the first of two faults
-abbrev pub text_or : Texts → Done → Texts
-text_or (Ok text) (Ok value) = Ok text
-text_or (Ok text) (Err fault) = Err fault
-text_or (Err fault) closed = Err fault
-
 -- the same, unless it was not read. The database is closed after it, and the first fault is the
 -- result
 pub record UpdatesOver {S : Type 0} (g : Ghosts S) (dry_run : Bool) (u : Update) (result : Texts)
@@ -118,7 +112,7 @@ pub record UpdatesOver {S : Type 0} (g : Ghosts S) (dry_run : Bool) (u : Update)
   pub did : IsErrAnd report (λ fault. IsNotReadAlone g before fault after)
       ⊎ Updates g dry_run u report before after
   pub closing : IfErr closed IsOfLine
-  pub result_is : result ≡ text_or report closed
+  pub result_is : result ≡ first_fault report closed
 
 -- rows and words say no update, or memory ran out, and nothing was opened
 abbrev pub RefusesUpdate : {T : Type 0} → FileRows → List (List ℕ) → Result T Fault → Type 0

@@ -38,7 +38,8 @@ use Rattle.clr_checking.specs.declared.fault.CheckFault.TheVariants as check
 use Rattle.clr_commands.specs.First.{files_of}
 use Rattle.clr_commands.specs.Import.{AnswersFiles, AreKnown, Contents, FileRows, rows_of}
 use Rattle.clr_commands.specs.Journal.{FailsAny, all_known}
-use Rattle.clr_commands.specs.Parts.{FailsLater, IsOfPart, walked}
+use Rattle.clr_commands.specs.Parts.{Breaks, BreaksAfter, FailsLater, IsOfPart, IsOfReading}
+use Rattle.clr_commands.specs.Parts.{IsUnreadPart, walked}
 use Rattle.clr_commands.specs.Paths.{AtPaths}
 use Rattle.clr_commands.specs.Run.{IsOpeningOf, rows_fault}
 use Rattle.clr_commands.specs.Stored.{WhileOpen}
@@ -204,14 +205,19 @@ pub record RefusesAll (it : Checking) (lines parts : List (List ℕ)) (fault : F
       → (cause ≡ check.TooShort → IsWhole it had after more parts) × AreRefused first (had ++ more)
       (IsRefusedFrom copied at first (had ++ more) place R) cause
 
--- why a part, and all parts, were not checked: one was not opened or read, or does not go on; or
--- their lines are refused
+-- why a part was not checked: it was not read, or a line of it is refused
 abbrev pub IsRefusedIn : Checking → Option (List ℕ) → Fault → Type 0
-IsRefusedIn it left fault = IsOfPart fault ⊎ IfSome left (λ bytes. RefusesPart it bytes fault)
+IsRefusedIn it left fault = IsOfReading fault ⊎ IfSome left (λ bytes. RefusesPart it bytes fault)
+
+-- why all parts were not: one was not opened or read, or is refused by its first line; or a line
+abbrev pub RefusesSome : Checking → List (List ℕ) → List (List ℕ) → Fault → Type 0
+RefusesSome it lines parts fault =
+    BreaksAfter it.walk.id (walked it.walk.end lines).1 parts fault
+    ⊎ RefusesAll it lines parts fault
 
 abbrev pub IsRefusedBy : Checking → Option (List ℕ) → Option (List (List ℕ)) → Fault → Type 0
-IsRefusedBy it left parts fault = IsOfPart fault
-    ⊎ IfSome left (λ bytes. IfSome parts (λ known. RefusesAll it (ended_lines bytes) known fault))
+IsRefusedBy it left parts fault = IsUnreadPart fault
+    ⊎ IfSome left (λ bytes. IfSome parts (λ known. RefusesSome it (ended_lines bytes) known fault))
 
 -- the first line is not of these files, unless memory ran out
 abbrev pub AreOthers : Files → Place → Fault → Type 0
@@ -257,7 +263,8 @@ abbrev pub Checks : Files → Register → List ℕ → List (List ℕ) → Plac
     → Result (String Global) Fault → Type 0
 Checks files began one parts place R (Ok text) =
     IsYes files began one parts place R (string_bytes text)
-Checks files began one parts place R (Err fault) = IsOfPart fault
+Checks files began one parts place R (Err fault) = IsUnreadPart fault
+    ⊎ Breaks one parts fault
     ⊎ IsOfOthers files one fault
     ⊎ IsNo one parts (λ first texts. IsRefused began first texts place R) fault
 
@@ -275,7 +282,8 @@ abbrev pub ChecksFrom : Register → Place → List ℕ → List (List ℕ) → 
     → Result (String Global) Fault → Type 0
 ChecksFrom copied at one parts place R (Ok text) =
     IsYesFrom copied at one parts place R (string_bytes text)
-ChecksFrom copied at one parts place R (Err fault) = IsOfPart fault
+ChecksFrom copied at one parts place R (Err fault) = IsUnreadPart fault
+    ⊎ Breaks one parts fault
     ⊎ IsNo one parts (λ first texts. IsRefusedFrom copied at first texts place R) fault
 
 -- ---- a part that went unread

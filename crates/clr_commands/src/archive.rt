@@ -5,7 +5,6 @@ ghost use Rattle.sqlite.specs.Held.{state};
 ghost use Rattle.clr_rules.specs.Moment.{new_moment};
 ghost use Rattle.clr_stream.specs.Streams.{WentOut};
 ghost use Rattle.clr_edge.specs.Database.{IsOfLine};
-ghost use Rattle.clr_edge.specs.Visit.{both};
 ghost use Rattle.clr_commands.specs.Archive.{ArchivesAt, IsArchived, IsUnsent, TakesOut};
 ghost use Rattle.clr_commands.specs.ArchiveText.{archive_text};
 
@@ -13,7 +12,7 @@ use crate::archive_text::archive_text;
 use clr_args::asked::ArchiveArgs;
 use clr_book::Book;
 use clr_desk::Desk;
-use clr_edge::database::{Databases, close};
+use clr_edge::database::{Databases, close, first_fault};
 use clr_edge::fault::Fault;
 use clr_edge::output::write_out;
 use clr_edge::taking_up::unlogged_desk;
@@ -43,7 +42,7 @@ pub fn archive<R: Databases, W: CountedFlush>(
     let desk = unlogged_desk(alloc, rt, args.database)?;
     let (archived, store) = archive_desk(alloc, desk, moment_of(args), output);
     let closed = close(rt, store.end());
-    both(archived, closed)
+    first_fault(archived, closed)
 }
 
 /// The moment that is asked for.
@@ -106,15 +105,5 @@ fn take_out<S: Alter + Drop>(
     match done {
         Ok(()) => (Ok(()), store),
         Err(fault) => (Err(Fault::from(fault)), store),
-    }
-}
-
-/// The fault of an archive, or that of closing its database.
-fn both(archived: Result<(), Fault>, closed: Result<(), Fault>) -> Result<(), Fault>
-    ensures { result ≡ both archived closed }
-{
-    match archived {
-        Ok(()) => closed,
-        Err(fault) => Err(fault),
     }
 }

@@ -38,7 +38,7 @@ pub fn first_place(
     Ok(Place { id, number: 0, sum })
 }
 
-/// When and where a journal is begun: two that are begun in one second are told apart by their
+/// When and where a journal is begun: two that are begun in one second are distinguished by their
 /// paths.
 fn made_at(alloc: Global, moment: u64, database: &str, journal: &str) -> Result<String, AllocError>
     ensures { IfOk result (λ text. string_bytes text ≡ made_at moment database.now journal.now) }

@@ -35,6 +35,7 @@ const PIECE: usize = 65_536;
 /// `NoSuch` where the word names no clearance; then no file is opened. `Journal(BadLine)`, once all
 /// is printed, with the number of the first line that does not hold its sum; at once with 0 where
 /// there is no first line, or with the last number where a further part does not go on.
+/// `Journal(OtherRules)` where a part goes by other rules.
 pub fn journal<'a, O: Opens<'a>, W: CountedFlush>(
     alloc: Global,
     paths: &O,

@@ -5,7 +5,7 @@ ghost use Rattle.sqlite.specs.Files.{over_files};
 ghost use Rattle.clr_commands.specs.Faults.{IsOfSubcommand};
 ghost use Rattle.clr_commands.specs.First.{board_files, first_place, made_at};
 ghost use Rattle.clr_commands.specs.Migrate.{BeginsJournal, BeginsOver, Migrates, MigratesAt};
-ghost use Rattle.clr_commands.specs.Migrate.{journal_line, text_or};
+ghost use Rattle.clr_commands.specs.Migrate.{journal_line};
 ghost use Rattle.clr_edge.specs.TakenUp.{logs};
 ghost use Rattle.clr_edge.specs.Visit.{Alone, Comes, MovesRegister};
 
@@ -14,7 +14,7 @@ use crate::import::Texts;
 use clr_args::asked::MigrateArgs;
 use clr_desk::{Desk, DeskBook};
 use clr_edge::beginning::begin_journal_of;
-use clr_edge::database::{Databases, close, move_register};
+use clr_edge::database::{Databases, close, first_fault, move_register};
 use clr_edge::fault::Fault;
 use clr_edge::journals::Journals;
 use clr_edge::taking_up::unlogged_desk;
@@ -69,9 +69,9 @@ fn begin_for<R: Databases + Journals>(
     let time = rt.time();
     let moment = time.seconds();
     let desk = unlogged_desk(alloc, rt, path)?;
-    let (told, connection) = begin_over(alloc, rt, desk, moment, path, journal);
+    let (report, connection) = begin_over(alloc, rt, desk, moment, path, journal);
     let closed = close(rt, connection);
-    text_or(told, closed)
+    first_fault(report, closed)
 }
 
 /// The same over a desk, whose database is given back.
@@ -125,17 +125,4 @@ fn first_of(
     let place = first_place(alloc, &texts, moment, path, journal)?;
     let line = format!(in alloc; "journal {}\n", place.id.as_str())?;
     Ok((place, line))
-}
-
-/// A line, or the first of two faults.
-fn text_or(told: Result<String, Fault>, closed: Result<(), Fault>) -> Result<String, Fault>
-    ensures { result ≡ text_or told closed }
-{
-    match told {
-        Ok(line) => match closed {
-            Ok(()) => Ok(line),
-            Err(fault) => Err(fault),
-        },
-        Err(fault) => Err(fault),
-    }
 }

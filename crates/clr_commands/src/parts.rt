@@ -1,11 +1,13 @@
 //! The parts of a journal, at their paths, each read line by line.
-ghost use Rattle.std.specs.Prelude.{◌≡◌, IfErr, IfOk, IfSome, OnOk, Some};
-ghost use Rattle.clr_chain.specs.First.{read_first};
+ghost use Rattle.std.specs.Prelude.{◌≡◌, IfErr, IfOk, IfSome, None, OnOk, Some};
+ghost use Rattle.clr_chain.specs.First.{other_rules_in, read_first};
 ghost use Rattle.clr_chain.specs.Walking.{part_of};
 ghost use Rattle.clr_commands.specs.Parts.{FailsLater, FailsPart, FirstIs, GoesOn, IsOfPart};
-ghost use Rattle.clr_commands.specs.Parts.{IsOpened, ReadsLine, left_in};
+ghost use Rattle.clr_commands.specs.Parts.{IsNoFirst, IsNoNext, IsNoPart, IsOfReading, IsOfRules};
+ghost use Rattle.clr_commands.specs.Parts.{IsOpened, IsUnreadOr, IsUnreadPart, ReadsLine};
+ghost use Rattle.clr_commands.specs.Parts.{left_in};
 
-use clr_chain::{Walk, read_first};
+use clr_chain::{Walk, other_rules_in, read_first};
 use clr_csv::CsvFault;
 use clr_edge::fault::{Fault, JournalFault};
 use clr_edge::files::Source;
@@ -31,6 +33,7 @@ impl<S: Source + Drop> Part<S> {
         ensures kept { OnOk result
             (S.failure_count self.new.source ≡ S.failure_count self.old.source) }
         ensures fault { IfErr result IsOfPart }
+        ensures reading { IfErr result IsOfReading }
         ensures unread { IfErr result (FailsLater S.failure_count self.old.source) }
     {
         match self.lines.next(alloc, &mut self.source) {
@@ -44,7 +47,7 @@ impl<S: Source + Drop> Part<S> {
 
 /// The first part of a journal, at a path, with the place that its first line is.
 ///
-/// `BadLine(0)` where that is none.
+/// `BadLine(0)` where that is none, `OtherRules` where it is one by other rules.
 pub fn first_part<'a, O: Opens<'a>>(
     alloc: Global,
     paths: &O,
@@ -55,6 +58,8 @@ pub fn first_part<'a, O: Opens<'a>>(
     ensures opened { IfOk result (λ found. IsOpened O.File.remaining O.File.failure_count
         (O.bytes_at paths.now path.entry.now) (O.File.failure_count found.0.source)) }
     ensures fault { IfErr result IsOfPart }
+    ensures refused { IfErr result
+        (IsUnreadOr IsNoFirst (O.bytes_at paths.now path.entry.now)) }
     ensures unread { IfErr result (FailsPart O.File.remaining O.File.failure_count
         (O.bytes_at paths.now path.entry.now)) }
 {
@@ -67,7 +72,8 @@ pub fn first_part<'a, O: Opens<'a>>(
 
 /// A further part of a journal, which goes on where a walk has come to.
 ///
-/// `BadLine` with the number that the walk has come to where it does not go on.
+/// `BadLine` with the number that the walk has come to where it does not go on, `OtherRules` where
+/// it goes by other rules.
 pub fn next_part<'a, O: Opens<'a>>(
     alloc: Global,
     paths: &O,
@@ -80,20 +86,24 @@ pub fn next_part<'a, O: Opens<'a>>(
     ensures opened { IfOk result (λ part. IsOpened O.File.remaining O.File.failure_count
         (O.bytes_at paths.now path.entry.now) (O.File.failure_count part.source)) }
     ensures fault { IfErr result IsOfPart }
+    ensures refused { IfErr result (IsUnreadOr (IsNoNext walk.old.id walk.old.end)
+        (O.bytes_at paths.now path.entry.now)) }
     ensures unread { IfErr result (FailsPart O.File.remaining O.File.failure_count
         (O.bytes_at paths.now path.entry.now)) }
 {
     let (part, line) = opened_part(alloc, paths, path)?;
-    if walk.next_part(alloc, &line)? {
+    let last = walk.end.turn.last;
+    let goes = walk.next_part(alloc, &line)?;
+    if goes {
         Ok(part)
     } else {
-        Err(Fault::Journal(JournalFault::BadLine(walk.end.turn.last)))
+        Err(Fault::Journal(JournalFault::BadLine(last)))
     }
 }
 
 /// The file at a path, opened, and its first line.
 ///
-/// `BadLine(0)` where it has none.
+/// `BadLine(0)` where it has none, `OtherRules` where it is one by other rules.
 pub fn opened_part<'a, O: Opens<'a>>(
     alloc: Global,
     paths: &O,
@@ -103,7 +113,34 @@ pub fn opened_part<'a, O: Opens<'a>>(
         (ReadsLine (Some found.1) (left_in O.File.remaining found.0))) }
     ensures opened { IfOk result (λ found. IsOpened O.File.remaining O.File.failure_count
         (O.bytes_at paths.now path.entry.now) (O.File.failure_count found.0.source)) }
+    ensures rules { IfOk result (λ found. other_rules_in found.1.items ≡ None) }
     ensures fault { IfErr result IsOfPart }
+    ensures refused { IfErr result
+        (IsUnreadOr IsNoPart (O.bytes_at paths.now path.entry.now)) }
+    ensures unread { IfErr result (FailsPart O.File.remaining O.File.failure_count
+        (O.bytes_at paths.now path.entry.now)) }
+{
+    let (part, line) = begun_part(alloc, paths, path)?;
+    match line {
+        Some(line) => {
+            expect_rules(alloc, &line)?;
+            Ok((part, line))
+        }
+        None => Err(Fault::Journal(JournalFault::BadLine(0))),
+    }
+}
+
+/// The file at a path, opened, and its first line, if it has one.
+fn begun_part<'a, O: Opens<'a>>(
+    alloc: Global,
+    paths: &O,
+    path: &'a str,
+) -> Result<(Part<O::File>, Option<Vec<u8>>), Fault>
+    ensures line { IfOk result (λ found. IfSome (O.bytes_at paths.now path.entry.now)
+        (ReadsLine found.1 (left_in O.File.remaining found.0))) }
+    ensures opened { IfOk result (λ found. IsOpened O.File.remaining O.File.failure_count
+        (O.bytes_at paths.now path.entry.now) (O.File.failure_count found.0.source)) }
+    ensures fault { IfErr result IsUnreadPart }
     ensures unread { IfErr result (FailsPart O.File.remaining O.File.failure_count
         (O.bytes_at paths.now path.entry.now)) }
 {
@@ -117,8 +154,17 @@ pub fn opened_part<'a, O: Opens<'a>>(
         source,
         lines: Lines::new(alloc),
     };
-    match part.line(alloc)? {
-        Some(line) => Ok((part, line)),
-        None => Err(Fault::Journal(JournalFault::BadLine(0))),
+    let line = part.line(alloc)?;
+    Ok((part, line))
+}
+
+/// Refuses a text that is a first line by other rules.
+fn expect_rules(alloc: Global, text: &[u8]) -> Result<(), Fault>
+    ensures rules { OnOk result (other_rules_in text.now ≡ None) }
+    ensures fault { IfErr result (IsOfRules text.now) }
+{
+    match other_rules_in(alloc, text)? {
+        Some(number) => Err(Fault::Journal(JournalFault::OtherRules(number))),
+        None => Ok(()),
     }
 }

@@ -3,7 +3,6 @@ ghost use Rattle.std.specs.Prelude.{◌≡◌, Err, IfErr, OnErr, OnOk, false, t
 ghost use Rattle.std.specs.IoError.{error_kind};
 ghost use Rattle.clr_edge.specs.Keeping.{IsDoneOver, StaysLevelOver};
 ghost use Rattle.clr_edge.specs.TakenUp.{logs};
-ghost use Rattle.clr_edge.specs.Visit.{both};
 ghost use Rattle.clr_rules.specs.Good.{IsGood};
 ghost use Rattle.clr_http.specs.Served.{may_be_unread};
 ghost use Rattle.clr_commands.specs.Connections.{MissesLast, ReportsConnection, Serves};
@@ -18,7 +17,7 @@ ghost use Rattle.clr_commands.specs.Serve.{ServesOn};
 use crate::serve_line::{connection_line, serving_line};
 use clr_args::asked::ServeArgs;
 use clr_desk::{Commit, CommitAt, Desk};
-use clr_edge::database::Databases;
+use clr_edge::database::{Databases, first_fault};
 use clr_edge::fault::{Fault, JournalFault};
 use clr_edge::files::logins_from;
 use clr_edge::journals::Journals;
@@ -103,7 +102,7 @@ fn serve_kept<R: Databases + Journals + Loopback, W: CountedFlush, E: CountedFlu
     let mut opened = take_up(alloc, rt, args.database, args.journal)?;
     let served = serve_opened(alloc, rt, &mut opened, args, logins, output, errors);
     let closed = let_go(rt, opened);
-    both(served, closed)
+    first_fault(served, closed)
 }
 
 /// Serves a register that was taken up, on the terms that its staff allows.
@@ -187,16 +186,6 @@ fn logins_of<'a, O: Opens<'a>>(alloc: Global, paths: &O, path: &'a str) -> Resul
     let mut source = paths.at(path);
     let rows = logins_from(alloc, &mut source)?;
     Ok(Logins::new(rows))
-}
-
-/// The fault of a server, or that of closing its database.
-fn both(served: Result<(), Fault>, closed: Result<(), Fault>) -> Result<(), Fault>
-    ensures { result ≡ both served closed }
-{
-    match served {
-        Ok(()) => closed,
-        Err(fault) => Err(fault),
-    }
 }
 
 /// The terms of a server that is asked for, whose logins speak for employees of this staff.

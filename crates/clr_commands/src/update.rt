@@ -10,13 +10,13 @@ ghost use Rattle.clr_commands.specs.Import.{lists_of};
 ghost use Rattle.clr_commands.specs.Paths.{at_paths};
 ghost use Rattle.clr_commands.specs.Update.{IsDone, IsUpdateTo, IsUpdated, RefusesUpdate};
 ghost use Rattle.clr_commands.specs.Update.{ReportsUpdate, UpdatesAt, UpdatesFiles, UpdatesTo};
-ghost use Rattle.clr_commands.specs.Update.{names_said, text_or, text_reported};
+ghost use Rattle.clr_commands.specs.Update.{names_said, text_reported};
 
 use crate::import::{Rows, rows_at};
 use clr_args::asked::UpdateArgs;
 use clr_changes::{Report, Update, report_of};
 use clr_desk::{Desk, DeskBook, DeskFault};
-use clr_edge::database::{Databases, close};
+use clr_edge::database::{Databases, close, first_fault};
 use clr_edge::fault::Fault;
 use clr_edge::paths::Opens;
 use clr_edge::taking_up::unlogged_desk;
@@ -120,7 +120,7 @@ fn update_register<R: Databases>(
     let desk = unlogged_desk(alloc, rt, path)?;
     let (report, store) = update_desk(alloc, desk, update, dry_run);
     let closed = close(rt, store.end());
-    text_or(report, closed)
+    first_fault(report, closed)
 }
 
 /// Ends a desk, with what comes of an update of its register.
@@ -177,18 +177,5 @@ fn text_of(report: Result<Report, DeskFault>) -> Result<String, Fault>
         Ok(Report::Changes(lines)) => Ok(lines),
         Ok(Report::InTheWay(obstacle)) => Err(Fault::Update(obstacle)),
         Err(fault) => Err(Fault::from(fault)),
-    }
-}
-
-/// The first of two faults, or the text.
-fn text_or(report: Result<String, Fault>, closed: Result<(), Fault>) -> Result<String, Fault>
-    ensures { result ≡ text_or report closed }
-{
-    match report {
-        Ok(text) => match closed {
-            Ok(()) => Ok(text),
-            Err(fault) => Err(fault),
-        },
-        Err(fault) => Err(fault),
     }
 }

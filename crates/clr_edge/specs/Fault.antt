@@ -108,6 +108,7 @@ journal_fault_name journal.OpenFailed = codes "OpenFailed"
 journal_fault_name journal.ReadFailed = codes "ReadFailed"
 journal_fault_name journal.TooLong = codes "TooLong"
 journal_fault_name (journal.BadLine number) = codes "BadLine"
+journal_fault_name (journal.OtherRules number) = codes "OtherRules"
 journal_fault_name journal.WriteFailed = codes "WriteFailed"
 journal_fault_name journal.SameFile = codes "SameFile"
 journal_fault_name journal.InDoubt = codes "InDoubt"
@@ -198,6 +199,7 @@ store_fault_detail cause = detail.Nothing
 
 abbrev pub journal_fault_detail : JournalFault → Detail
 journal_fault_detail (journal.BadLine number) = detail.Number number
+journal_fault_detail (journal.OtherRules number) = detail.Number number
 journal_fault_detail (journal.Differs number) = detail.Number number
 journal_fault_detail cause = detail.Nothing
 

@@ -26,6 +26,7 @@ use Rattle.clr_edge.specs.declared.fault.JournalFault.TheVariants as why
 abbrev pub of_chain : ChainFault → Fault
 of_chain chain.OpenFailed = Journal why.OpenFailed
 of_chain chain.NoMemory = Memory
+of_chain (chain.OtherRules number) = Journal (why.OtherRules number)
 of_chain chain.OtherRegister = Journal why.OtherRegister
 of_chain chain.TooShort = Journal why.TooShort
 of_chain (chain.Differs number) = Journal (why.Differs number)

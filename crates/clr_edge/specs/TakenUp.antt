@@ -54,6 +54,7 @@ logs steps log shows = record { steps = steps; log = log; shows = shows }
 
 -- why a journal that was opened was not taken up
 abbrev pub of_opening : OpeningFault → Fault
+of_opening (opening.OtherRules number) = Journal (why.OtherRules number)
 of_opening opening.OtherRegister = Journal why.OtherRegister
 of_opening opening.TooShort = Journal why.TooShort
 of_opening (opening.Differs number) = Journal (why.Differs number)

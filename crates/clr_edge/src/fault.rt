@@ -68,6 +68,8 @@ pub enum JournalFault {
     TooLong,
     /// The line of this number does not hold its sum; 0: there is no first line.
     BadLine(u64),
+    /// It goes by other rules, of this number.
+    OtherRules(u64),
     /// A line was not written, or not synced.
     WriteFailed,
     /// It is another register's: it has another id, or the register has no journal.
@@ -377,6 +379,7 @@ fn journal_fault_name(fault: JournalFault) -> &'static str
         JournalFault::ReadFailed => "ReadFailed",
         JournalFault::TooLong => "TooLong",
         JournalFault::BadLine(_) => "BadLine",
+        JournalFault::OtherRules(_) => "OtherRules",
         JournalFault::WriteFailed => "WriteFailed",
         JournalFault::SameFile => "SameFile",
         JournalFault::InDoubt => "InDoubt",
@@ -393,7 +396,9 @@ fn journal_fault_detail(fault: JournalFault) -> Detail
     ensures { result ≡ journal_fault_detail fault }
 {
     match fault {
-        JournalFault::BadLine(number) | JournalFault::Differs(number) => Detail::Number(number),
+        JournalFault::BadLine(number)
+        | JournalFault::OtherRules(number)
+        | JournalFault::Differs(number) => Detail::Number(number),
         JournalFault::OpenFailed
         | JournalFault::ReadFailed
         | JournalFault::TooLong

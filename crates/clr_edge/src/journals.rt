@@ -259,6 +259,7 @@ fn of_chain(fault: ChainFault) -> Fault
     match fault {
         ChainFault::OpenFailed => Fault::Journal(JournalFault::OpenFailed),
         ChainFault::NoMemory => Fault::Memory,
+        ChainFault::OtherRules(number) => Fault::Journal(JournalFault::OtherRules(number)),
         ChainFault::OtherRegister => Fault::Journal(JournalFault::OtherRegister),
         ChainFault::TooShort => Fault::Journal(JournalFault::TooShort),
         ChainFault::Differs(number) => Fault::Journal(JournalFault::Differs(number)),

@@ -301,6 +301,7 @@ fn of_opening(fault: OpeningFault) -> Fault
     ensures { result ≡ of_opening fault }
 {
     match fault {
+        OpeningFault::OtherRules(number) => Fault::Journal(JournalFault::OtherRules(number)),
         OpeningFault::OtherRegister => Fault::Journal(JournalFault::OtherRegister),
         OpeningFault::TooShort => Fault::Journal(JournalFault::TooShort),
         OpeningFault::Differs(number) => Fault::Journal(JournalFault::Differs(number)),

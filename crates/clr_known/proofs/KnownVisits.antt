@@ -15,7 +15,7 @@ use Rattle.clr_logins.specs.declared.logins.LoginRow.{LoginRow}
 use Rattle.clr_args.specs.declared.asked.ServeArgs.{ServeArgs}
 use Rattle.clr_commands.specs.declared.serve.Terms.{Terms}
 use Rattle.clr_edge.specs.Database.{HasRegister, IsOfLine}
-use Rattle.clr_edge.specs.Visit.{Comes, Done, Ending, Opening, Over, Shutting, both}
+use Rattle.clr_edge.specs.Visit.{Comes, Done, Ending, Opening, Over, Shutting, first_fault}
 use Rattle.clr_edge.specs.declared.fault.Fault.{Fault}
 use Rattle.clr_edge.specs.Keeping.{IsNotReadAlone, Works, plain_keeper, unlogged}
 use Rattle.clr_edge.specs.TakenUp.{Logs}
@@ -36,10 +36,10 @@ abbrev IsWayBackTo : Option Id → Register → Result (List ℕ) Fault → Type
 IsWayBackTo o R known = (way_back_to R o ≡ known) × GivesBackTo R o
 
 -- what holds where the first of two faults is none, and no more where there is one
-of_both : (served closed : Done) (P : Type 0) → OnOk served P → OnOk (both served closed) P
-of_both (Ok value) (Ok other) P holds = holds
-of_both (Ok value) (Err fault) P holds = tt
-of_both (Err fault) closed P holds = tt
+of_first : (served closed : Done) (P : Type 0) → OnOk served P → OnOk (first_fault served closed) P
+of_first (Ok value) (Ok other) P holds = holds
+of_first (Ok value) (Err fault) P holds = tt
+of_first (Err fault) closed P holds = tt
 
 -- what premises give of a result, they give where it is none
 pub given_all : {A B : Type 0} (Z : Type 0) (result : Done) → (A → B → OnOk result Z) → OnOk result (A → B → Z)
@@ -114,10 +114,10 @@ module _ {M D : Type 0} (g : disk.Ghosts D) (clean : IsAlwaysClean g)
           it.did.serves)
 
       -- the database is closed after it, which sends nothing
-      closed_so : (result served closed : Done) (files : Files D) (later new : M) → result ≡ both served closed → ends later files new
+      closed_so : (result served closed : Done) (files : Files D) (later new : M) → result ≡ first_fault served closed → ends later files new
           → OnOk served (IsBoardResponse (response later)) → OnOk result (IsBoardResponse (response new))
       closed_so result served closed files later new is back sent =
-          subst (λ (r : Done). OnOk r (IsBoardResponse (response new))) (sym is) (of_both served closed _
+          subst (λ (r : Done). OnOk r (IsBoardResponse (response new))) (sym is) (of_first served closed _
           (subst (λ (bytes : List ℕ). OnOk served (IsBoardResponse bytes)) (sym (asked.ended _ _ _ back)) sent))
 
       no_visit : (result : Done) (fault : Fault) (P : Type 0) → result ≡ Err fault → OnOk result P

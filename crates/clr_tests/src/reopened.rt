@@ -272,10 +272,17 @@ fn what_is_no_journal_is_refused(rt: HostRuntime) -> Result<(), Fail> {
         let fault = refusal(alloc, text, 0, FIRST_SUM)?;
         assert_eq!(rt; fault, ChainFault::BadLine(0));
     }
-    for lines in [[JONES, KIM], [NEXT_RULES, JONES]] {
-        let fault = refusal_of(alloc, &lines, 0, FIRST_SUM)?;
-        assert_eq!(rt; fault, ChainFault::BadLine(0));
-    }
+    let none = refusal_of(alloc, &[JONES, KIM], 0, FIRST_SUM)?;
+    assert_eq!(rt; none, ChainFault::BadLine(0));
+    Ok(())
+}
+
+/// A journal by other rules, whatever register it is of.
+#[test]
+fn journal_by_other_rules_is_refused(rt: HostRuntime) -> Result<(), Fail> {
+    let alloc = rt.alloc();
+    let next = refusal_of(alloc, &[NEXT_RULES, JONES], 0, FIRST_SUM)?;
+    assert_eq!(rt; next, ChainFault::OtherRules(2));
     Ok(())
 }
 

@@ -11,9 +11,9 @@ returns g c =
     record {
       visit =
           archived_at output output' g.R.Medium.Disk g.R.Databases.opens g.R.Databases.shuts g.R.Databases.ends c.args.args.now c.moment_of.result
-          c.archive_desk-archived.result.0 c.close-closed.result c.both.result c.args.rt.now c.unlogged_desk.new.rt c.close-closed.new.rt c.in_ok-desk.desk
+          c.archive_desk-archived.result.0 c.close-closed.result c.first_fault.result c.args.rt.now c.unlogged_desk.new.rt c.close-closed.new.rt c.in_ok-desk.desk
           c.archive_desk-archived.result.1 c.end.result c.in_ok-desk.ensures.up c.moment_of.ensures c.archive_desk-archived.ensures same c.close-closed.ensures.ends
-          c.close-closed.ensures.fault c.both.ensures;
+          c.close-closed.ensures.fault c.first_fault.ensures;
     }
 
 -- it was not taken up

@@ -51,7 +51,7 @@ returns-in_err-part-clause-printed g c =
     let args = c.args.args.now in
     let old = g.W.CountedWrite.stream c.args.output.now in
     first_failed at args old c.from_residual-in_err-part.result _ (passed_as c.from_residual-in_err-part.result _ _ c.from_residual-in_err-part.ensures.1 refl)
-    c.in_err-part.ensures.fault c.in_err-part.ensures.unread
+    c.in_err-part.ensures.fault c.in_err-part.ensures.refused c.in_err-part.ensures.unread
 
 pub returns-in_err-part-clause-fault : goal.returns-in_err-part-clause-fault
 returns-in_err-part-clause-fault g c =
@@ -68,7 +68,7 @@ returns-in_err-printing-clause-printed g c =
     let middle = g.W.CountedWrite.stream c.print_part.new.output in
     subst (λ (r : Done). PrintsParts at args old middle r) (sym (passed_as c.from_residual-in_err-printing.result _ _ c.from_residual-in_err-printing.ensures.1 refl))
     (within_failed at args old c.in_ok-part.first (left_in g.O.File.Read.remaining c.in_ok-part.part) it c.in_ok-part.ensures.first c.from.ensures.id c.from.ensures.end begun
-    _ middle c.in_err-printing.ensures.fault
+    _ middle
     (later-part g.O.File.Read.remaining g.O.File.CountedRead.failure_count _ c.in_ok-part.part.source _ c.in_ok-part.ensures.opened c.in_err-printing.ensures.unread)
     c.in_err-printing.ensures.failed)
 

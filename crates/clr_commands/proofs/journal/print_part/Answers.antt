@@ -8,7 +8,6 @@ use Rattle.clr_commands.specs.Parts.{ReadsLine, left_in}
 use Rattle.clr_commands.specs.Printing.{FailsOn, FailsWithin, PrintsOn}
 use Rattle.clr_commands.proofs.PartLines.{long-later, passed_on}
 use Rattle.clr_commands.proofs.PrintedParts.{lines_all, lines_cut, lines_failed, lines_more, lines_none}
-use Rattle.clr_commands.proofs.PrintedJournal.{part_other}
 use Rattle.clr_commands.proofs.journal.print_part.Goals as goal
 
 pub lines-init : goal.lines-init
@@ -50,7 +49,7 @@ returns-in_err-line-clause-failed g c =
     let new = g.W.CountedWrite.stream c.lines.output in
     passed_on c.from_residual.result _ (λ fault. FailsWithin all c.args.printing old fault new) c.from_residual.ensures.1
     (lines_failed g.S.CountedRead.failure_count all c.args.printing c.args.part.source old
-    (left_in g.S.Read.remaining c.lines.part) c.lines.printing c.lines.part.source new _ c.lines.invariant (part_other _ c.in_err-line.ensures.fault))
+    (left_in g.S.Read.remaining c.lines.part) c.lines.printing c.lines.part.source new _ c.lines.invariant c.in_err-line.ensures.reading)
 
 -- or not printed
 pub returns-in_err-line-2-clause-failed : goal.returns-in_err-line-2-clause-failed
@@ -65,6 +64,7 @@ returns-in_err-line-2-clause-failed g c =
     passed_on c.from_residual-in_err-line-2.result _ (λ fault. FailsWithin all c.args.printing old fault new) c.from_residual-in_err-line-2.ensures.1
     (lines_cut g.S.CountedRead.failure_count all c.args.printing c.args.part.source old left next c.lines.printing c.lines.part.source c.line.new.self.source
     (g.W.CountedWrite.stream c.lines.output) c.lines.invariant c.in-Some.line reads c.in_err-line-2.field-0.0 new
+    c.in_err-line-2.ensures.fault
     (subst
     (λ (t : List ℕ). FailsOn c.lines.printing (g.W.CountedWrite.stream c.lines.output) ((step_of c.lines.printing.walk.end t).0 ∷ []) c.in_err-line-2.field-0.0 new)
     c.deref.ensures.value c.in_err-line-2.ensures.failed))
@@ -74,7 +74,7 @@ pub returns-clause-failed : goal.returns-clause-failed
 returns-clause-failed g c =
     lines_failed g.S.CountedRead.failure_count (left_in g.S.Read.remaining c.args.part) c.args.printing c.args.part.source (g.W.CountedWrite.stream c.args.output.now)
     (left_in g.S.Read.remaining c.lines.part) c.lines.printing c.lines.part.source (g.W.CountedWrite.stream c.lines.output) (Journal TooLong) c.lines.invariant
-    (part_other (Journal TooLong) (inr (inr (inr (inl refl)))))
+    (inr (inr refl))
 
 pub returns-clause-unread : goal.returns-clause-unread
 returns-clause-unread g c = long-later g.S.CountedRead.failure_count c.args.part.source (Journal TooLong) refl

@@ -45,7 +45,8 @@ returns-in_err-part-clause-failed g c =
     let new = g.W.CountedWrite.stream c.loop-path.output in
     passed_on c.from_residual.result _ (λ fault. FailsMore (known parts) c.args.printing old fault new) c.from_residual.ensures.1
     (parts_stop (known parts) (known (drop c.loop-path.path-index parts)) c.args.printing c.loop-path.printing old new c.loop-path.invariant _
-    (part_other _ c.in_err-part.ensures.fault))
+    (map (λ (path : Bor (List ℕ)). g.O.Opens.bytes_at c.args.paths.now path.now) (drop (c.loop-path.path-index + 1) parts)) _
+    (ap known (drop_more parts c.loop-path.path-index _ c.loop-path-test.true)) (part_other _ c.in_err-part.ensures.fault) c.in_err-part.ensures.refused)
 
 pub returns-in_err-part-clause-fault : goal.returns-in_err-part-clause-fault
 returns-in_err-part-clause-fault g c = passed_on c.from_residual.result _ IsOfPrinting c.from_residual.ensures.1 (inr c.in_err-part.ensures.fault)

@@ -11,12 +11,12 @@ pub returns-clause-visit : goal.returns-clause-visit
 returns-clause-visit g c =
     let same : c.end.result ≡ c.update_desk-report.result.1 = cc in
     updated_at g.R.Medium.Disk g.R.Databases.opens g.R.Databases.shuts g.R.Databases.ends c.args.path.now c.args.dry_run (as_update c.args.update)
-    c.update_desk-report.result.0 c.text_or.result c.close-closed.result c.args.rt.now c.unlogged_desk.new.rt c.close-closed.new.rt c.in_ok-desk.desk c.update_desk-report.result.1 c.end.result
-    c.in_ok-desk.ensures.up c.update_desk-report.ensures.reports c.update_desk-report.ensures.done same c.close-closed.ensures.ends c.close-closed.ensures.fault c.text_or.ensures
+    c.update_desk-report.result.0 c.first_fault.result c.close-closed.result c.args.rt.now c.unlogged_desk.new.rt c.close-closed.new.rt c.in_ok-desk.desk c.update_desk-report.result.1 c.end.result
+    c.in_ok-desk.ensures.up c.update_desk-report.ensures.reports c.update_desk-report.ensures.done same c.close-closed.ensures.ends c.close-closed.ensures.fault c.first_fault.ensures
 
 pub returns-clause-faults : goal.returns-clause-faults
 returns-clause-faults g c =
-    answer_plain c.in_ok-desk.desk.book.register (as_update c.args.update) c.update_desk-report.result.0 c.close-closed.result c.text_or.result c.update_desk-report.ensures.reports c.close-closed.ensures.fault c.text_or.ensures
+    answer_plain c.in_ok-desk.desk.book.register (as_update c.args.update) c.update_desk-report.result.0 c.close-closed.result c.first_fault.result c.update_desk-report.ensures.reports c.close-closed.ensures.fault c.first_fault.ensures
 
 -- it was not taken up
 pub returns-in_err-desk-clause-visit : goal.returns-in_err-desk-clause-visit

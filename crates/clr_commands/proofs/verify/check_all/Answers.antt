@@ -12,7 +12,8 @@ use Rattle.clr_commands.specs.Verify.{FailsFrom, IsRefusedBy}
 use Rattle.clr_commands.proofs.CheckedParts.{parts_more, parts_none, parts_said, passed_check}
 use Rattle.clr_commands.proofs.PartLines.{later-part, passed_on}
 use Rattle.clr_commands.proofs.PrintedParts.{fails_any}
-use Rattle.clr_commands.proofs.RefusedParts.{check_any, first_by, if_err, part_by, part_stops, said_any, said_refused}
+use Rattle.clr_commands.proofs.BrokenParts.{no_next}
+use Rattle.clr_commands.proofs.RefusedParts.{check_any, first_by, if_err, next_refused, part_by, part_stops, said_any, said_refused}
 use Rattle.clr_commands.proofs.verify.check_all.Goals as goal
 
 -- the first part was checked
@@ -66,14 +67,25 @@ returns-in_err-checking-clause-refused g c =
 pub returns-in_err-part-clause-refused : goal.returns-in_err-part-clause-refused
 returns-in_err-part-clause-refused g c =
     let known = λ (parts : List (Bor (List ℕ))). all_known (map (λ (path : Bor (List ℕ)). g.O.Opens.bytes_at c.args.paths.now path.now) parts) in
-    passed_on _ _ (IsRefusedBy c.args.checking (left_in g.O.File.Read.remaining c.args.part) (known c.args.parts.now)) c.from_residual-in_err-part.ensures.1
-    (inl c.in_err-part.ensures.fault)
+    let left = left_in g.O.File.Read.remaining c.args.part in
+    let walk = c.loop-path.checking.walk in
+    passed_on _ _ (IsRefusedBy c.args.checking left (known c.args.parts.now)) c.from_residual-in_err-part.ensures.1
+    (next_refused left (known c.args.parts.now) (known (drop c.loop-path.path-index c.args.parts.now)) c.args.checking c.loop-path.checking c.loop-path.invariant _
+    (map (λ (path : Bor (List ℕ)). g.O.Opens.bytes_at c.args.paths.now path.now) (drop (c.loop-path.path-index + 1) c.args.parts.now)) _
+    (ap known (drop_more c.args.parts.now c.loop-path.path-index _ c.loop-path-test.true))
+    (no_next walk.id walk.end _ _ c.in_err-part.ensures.refused))
 
 pub returns-in-Err-clause-refused : goal.returns-in-Err-clause-refused
 returns-in-Err-clause-refused g c =
     let known = λ (parts : List (Bor (List ℕ))). all_known (map (λ (path : Bor (List ℕ)). g.O.Opens.bytes_at c.args.paths.now path.now) parts) in
-    subst (λ (f : Fault). IsRefusedBy c.args.checking (left_in g.O.File.Read.remaining c.args.part) (known c.args.parts.now) f) (sym c.of_check.ensures)
-    (inl (part_stops c.in-Err.fault _ _ c.in-Err.ensures.refused))
+    let left = left_in g.O.File.Read.remaining c.args.part in
+    let walk = c.loop-path.checking.walk in
+    subst (λ (f : Fault). IsRefusedBy c.args.checking left (known c.args.parts.now) f) (sym c.of_check.ensures)
+    (next_refused left (known c.args.parts.now) (known (drop c.loop-path.path-index c.args.parts.now)) c.args.checking c.loop-path.checking c.loop-path.invariant _
+    (map (λ (path : Bor (List ℕ)). g.O.Opens.bytes_at c.args.paths.now path.now) (drop (c.loop-path.path-index + 1) c.args.parts.now)) _
+    (ap known (drop_more c.args.parts.now c.loop-path.path-index _ c.loop-path-test.true))
+    (part_stops walk.id walk.end _ (left_in g.O.File.Read.remaining c.in_ok-part.part) c.in_ok-part.line c.deref.result.now c.in-Err.fault c.deref.ensures.value
+    c.in_ok-part.ensures.line c.in_ok-part.ensures.rules c.in-Err.ensures.refused))
 
 pub returns-in_err-checking-2-clause-refused : goal.returns-in_err-checking-2-clause-refused
 returns-in_err-checking-2-clause-refused g c =

@@ -27,7 +27,7 @@ returns-in-Err-clause-fault g c = inr (inr (c.in-Err.fault, c.of_check.ensures))
 
 pub returns-in_err-part-clause-checked : goal.returns-in_err-part-clause-checked
 returns-in_err-part-clause-checked g c =
-    checks_part_from _ _ _ _ _ _ c.from_residual.result _ (is_fault _ _ c.from_residual.ensures.1) c.in_err-part.ensures.fault
+    checks_part_from _ _ _ _ _ _ c.from_residual.result _ (is_fault _ _ c.from_residual.ensures.1) c.in_err-part.ensures.refused
 
 pub returns-in_err-part-clause-fault : goal.returns-in_err-part-clause-fault
 returns-in_err-part-clause-fault g c = passed_check _ _ c.from_residual.ensures.1 (inl c.in_err-part.ensures.fault)

@@ -50,7 +50,7 @@ returns-in-Err-clause-fault g c = inr (inr (c.in-Err.fault, c.of_check.ensures))
 
 pub returns-in_err-line-clause-refused : goal.returns-in_err-line-clause-refused
 returns-in_err-line-clause-refused g c =
-    passed_on _ _ (IsRefusedIn c.args.checking (left_in g.S.Read.remaining c.args.part)) c.from_residual.ensures.1 (inl c.in_err-line.ensures.fault)
+    passed_on _ _ (IsRefusedIn c.args.checking (left_in g.S.Read.remaining c.args.part)) c.from_residual.ensures.1 (inl c.in_err-line.ensures.reading)
 
 pub returns-in-Err-clause-refused : goal.returns-in-Err-clause-refused
 returns-in-Err-clause-refused g c =
@@ -65,7 +65,7 @@ returns-in-Err-clause-refused g c =
 
 -- there are too many
 pub returns-clause-refused : goal.returns-clause-refused
-returns-clause-refused g c = inl (inr (inr (inr (inl refl))))
+returns-clause-refused g c = inl (inr (inr refl))
 
 pub returns-clause-fault : goal.returns-clause-fault
 returns-clause-fault g c = inl (inr (inr (inr (inl refl))))

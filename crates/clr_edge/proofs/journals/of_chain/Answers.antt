@@ -8,6 +8,9 @@ returns-in-OpenFailed-clause-opening c = (chain.OpenFailed, refl)
 pub returns-in-NoMemory-clause-opening : goal.returns-in-NoMemory-clause-opening
 returns-in-NoMemory-clause-opening c = (chain.NoMemory, refl)
 
+pub returns-in-OtherRules-clause-opening : goal.returns-in-OtherRules-clause-opening
+returns-in-OtherRules-clause-opening c = (chain.OtherRules c.in-OtherRules.number, refl)
+
 pub returns-in-OtherRegister-clause-opening : goal.returns-in-OtherRegister-clause-opening
 returns-in-OtherRegister-clause-opening c = (chain.OtherRegister, refl)
 

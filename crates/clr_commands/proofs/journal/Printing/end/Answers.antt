@@ -18,7 +18,7 @@ returns-in-Some-clause-printed g c = λ args began steps is.
     (λ same. ends_badly steps c.in-Some.number (sym c.in-Some.is ∙ same)) is
 
 pub returns-in-Some-clause-fault : goal.returns-in-Some-clause-fault
-returns-in-Some-clause-fault g c = inr (inr (inr (inr (inr (inr (c.in-Some.number, refl))))))
+returns-in-Some-clause-fault g c = inr (inr (inr (inr (inr (inr (inl (c.in-Some.number, refl)))))))
 
 -- each held its sum
 pub returns-clause-printed : goal.returns-clause-printed
