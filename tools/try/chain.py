@@ -47,8 +47,8 @@ def written(value):
     return json.dumps(value, sort_keys=True, separators=(",", ":"), ensure_ascii=False).encode()
 
 
-def first_text(place):
-    return written({"journal": place.id, "number": place.number, "rules": RULES, "sum": place.sum})
+def first_text(place, rules=RULES):
+    return written({"journal": place.id, "number": place.number, "rules": rules, "sum": place.sum})
 
 
 def carried(command, login, number, received, reply):
@@ -148,16 +148,29 @@ def accepts(entry):
     return isinstance(reply, dict) and reply.get("reply") in ("accepted", "added")
 
 
-def first_in(text):
-    """The place that a first line says, if it is one in its own form."""
+def place_in(text):
+    """The place that a first line says, whatever its form and its rules are."""
     value = value_in(text) if len(text) < FRONT else None
     if value is None or not is_whole(value.get("number")):
         return None
     names = [value.get(name) for name in ("journal", "sum")]
     if not all(isinstance(name, str) for name in names):
         return None
-    place = Place(names[0], value["number"], names[1])
-    return place if text == first_text(place) else None
+    return Place(names[0], value["number"], names[1])
+
+
+def first_in(text):
+    """The place that a first line says, if it is one in its own form."""
+    place = place_in(text)
+    return place if place and text == first_text(place) else None
+
+
+def unread(lines):
+    """The words of the fault where there is no first line by these rules: it may be one by others."""
+    place = place_in(lines[0]) if lines else None
+    number = value_in(lines[0]).get("rules") if place else None
+    is_other = is_whole(number) and number != RULES and lines[0] == first_text(place, number)
+    return f"journal OtherRules {number}" if is_other else "journal BadLine 0"
 
 
 def is_next(end, entry):
@@ -175,12 +188,26 @@ def next_link(end, text):
     return (entry, End(entry["number"], accepts(entry), own)) if text == written(entry | {"sum": own}) else None
 
 
+def sum_in_place(text):
+    """The bytes of a command's line where it has its sum: the last 64 before its last two."""
+    return text[:-2][-64:]
+
+
 def said_by(end, text):
-    """Where a chain goes on after a line that does not hold its sum: where the line says."""
+    """Where a chain goes on after a line that does not hold its sum: where it says; at these bytes, if it cannot be read."""
     entry, own = entry_in(text), (value_in(text) or {}).get("sum")
-    if entry is None or not isinstance(own, str):
+    if entry is not None and isinstance(own, str):
+        return End(entry["number"], accepts(entry), own)
+    try:
+        return End(end.last + 1, False, sum_in_place(text).decode())
+    except UnicodeDecodeError:
         return End(end.last + 1, False, end.sum)
-    return End(entry["number"], accepts(entry), own)
+
+
+def is_bad_alone(number, text, damaged):
+    """A line of a command that was damaged, though not in its sum and not so that it says another number."""
+    entry = entry_in(damaged)
+    return damaged[-66:-2] == text[-66:-2] and (entry is None or entry["number"] == number)
 
 
 def walk(place, texts):
@@ -207,7 +234,7 @@ def found(place, data):
     lines = lines_in(data)
     first = first_in(lines[0]) if lines else None
     if not data or first is None:
-        return "journal BadLine 0" if data else "journal OpenFailed"
+        return unread(lines) if data else "journal OpenFailed"
     if first.id != place.id:
         return "journal OtherRegister"
     for at in range(len(lines) - 1, 0, -1):

@@ -19,7 +19,7 @@ import tempfile
 import time
 
 from chain import Ahead, Chain, Place, accepts, bad_lines, carried, carried_out, first_in, first_place, first_text, found
-from chain import lines_in, place_after, place_of, rows_of, text_of, walk, written
+from chain import is_bad_alone, lines_in, place_after, place_of, rows_of, text_of, unread, walk, written
 from looks import FILES, TOP, Server, copied, fault, get, look, main, post, register, replied, run, same, shift
 
 IS_FULL = "--full" in sys.argv[1:]
@@ -228,21 +228,26 @@ def own_form(folder):
         same(f"{title}: bad lines", bad_lines(data), list(bad))
         status, output, errors = run("journal", folder / "other")
         ends = [one for one in output.splitlines(keepends=True) if one.endswith("does not hold its sum\n")]
-        wanted = ([BAD_LINE.format(one) for one in bad] if bad != (0,) else [], 1, f"fault: journal BadLine {bad[0]}\n")
-        same(f"{title}: journal", (ends, status, errors), wanted)
-        same(f"{title}: verify", run("verify", path, folder / "other", *FILES), (1, "", f"fault: journal BadLine {bad[0]}\n"))
+        fault = f"fault: {unread(lines_in(data))}\n" if bad == (0,) else f"fault: journal BadLine {bad[0]}\n"
+        same(f"{title}: journal", (ends, status, errors), ([BAD_LINE.format(one) for one in bad if one], 1, fault))
+        same(f"{title}: verify", run("verify", path, folder / "other", *FILES), (1, "", fault))
 
     for number in (0, 3, 6, 7):
         text, bad = lines[number], (number,)
         changed(number, text.replace(b',"number"', b',"more":1,"number"'), *bad)
         changed(number, text.replace(b',"number"', b', "number"'), *bad)
-        changed(number, text.replace(b'"number":', b'"number":0'), *(bad if number == 0 else (number, number + 1)))
+        changed(number, text.replace(b'"number":', b'"number":0'), *bad)
         changed(number, re.sub(rb'("number":\d)', rb"\1,\1", text), *bad)
         changed(number, text + b" ", *bad)
         changed(number, text + b"\r", *bad)
     changed(0, lines[0].replace(b'"rules":1', b'"rules":2'), 0)
     changed(3, lines[3].replace(b'"reply":"accepted"', b'"reply":7'), 3)
-    changed(3, lines[3].replace(b'"login":null', b'"login":7'), 3, 4)
+    changed(3, lines[3].replace(b'"login":null', b'"login":7'), 3)
+    changed(3, lines[3].replace(b'"sum":', b'"sun":'), 3)
+    changed(3, lines[3][1:], 3)
+    changed(3, b"\xff" + lines[3], 3)
+    changed(3, lines[3][:-3] + b'x"}', 3, 4)
+    changed(3, lines[3][:-3] + b'\xff"}', 3, 4)
     changed(4, b"a word", 4, 5)
     changed(4, b"", 4, 5)
     changed(4, lines[4] + b"\n" + lines[4], 5)
@@ -382,13 +387,16 @@ def flips(folder):
         one = copied(whole.path, other.with_name(f"{other.name}.db"))
         status, output, errors = run("verify", one, other, *FILES)
         is_cut = number == len(whole.lines) - 1 and not data.endswith(b"\n")
-        lines = ["journal BadLine 0", "verify Files"] if number == 0 else [f"journal BadLine {number}"]
+        lines = [unread(lines_in(data)), "verify Files"] if number == 0 else [f"journal BadLine {number}"]
         look(f"{title}: verify", (status, output) == (1, "") and errors in [f"fault: {one}\n" for one in lines] or is_cut and status == 0, (errors, data[-60:]))
         bad = bad_lines(data)
         status, output, errors = run("journal", other)
         ends = [one.split()[0] for one in output.splitlines() if one.endswith("does not hold its sum")]
-        wanted = (1, f"fault: journal BadLine {bad[0]}\n") if bad else (0, "")
+        fault = unread(lines_in(data)) if bad == [0] else f"journal BadLine {bad[0]}" if bad else None
+        wanted = (1, f"fault: {fault}\n") if fault else (0, "")
         same(f"{title}: journal", ((status, errors), ends), (wanted, [str(one) for one in bad if one]))
+        if number and len(lines_in(data)) == len(whole.lines) and is_bad_alone(number, whole.lines[number], lines_in(data)[number]):
+            same(f"{title}: it alone is named", ends, [str(number)])
         others, joined = columns(whole.log) - columns(output), len(whole.lines) - len(lines_in(data))
         look(f"{title}: the other lines are printed", bad == [0] or len(others) <= len(bad) + joined, others)
         one.unlink()

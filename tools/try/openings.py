@@ -15,7 +15,7 @@ import random
 import sys
 import tempfile
 
-from chain import Ahead, accepts, bad_lines, carried_out, entry_in, files_sum, first_in, found, lines_in, place_after
+from chain import Ahead, accepts, bad_lines, carried_out, entry_in, files_sum, first_in, found, lines_in, place_after, unread
 from chain import place_of, text_of, walk
 from looks import copied, look, main, outcomes_counted, register, run
 from random_registers import BEGIN, commands_follow, random_files
@@ -163,7 +163,7 @@ def verify_wanted(made, data, place):
     lines = lines_in(data)
     first = first_in(lines[0]) if lines else None
     if first is None:
-        return "journal BadLine 0"
+        return unread(lines)
     if first.number or files_sum(made.texts, first.id) != first.sum:
         return "verify Files"
     if first.id != place.id:
@@ -188,7 +188,8 @@ def look_at(made, data, place, path):
     bad = bad_lines(data)
     status, output, errors = run("journal", journal)
     named = [int(line.split()[0]) for line in output.splitlines() if line.endswith("does not hold its sum")]
-    wanted = (1, f"fault: journal BadLine {bad[0]}\n") if bad else (0, "")
+    fault = unread(lines_in(data)) if bad == [0] else f"journal BadLine {bad[0]}" if bad else None
+    wanted = (1, f"fault: {fault}\n") if fault else (0, "")
     expect((status, errors) == wanted and named == (bad if bad != [0] else []), f"journal: {status}, {errors}, {named}, to be {bad}")
     return journal
 

@@ -18,7 +18,7 @@ import sys
 import tempfile
 from concurrent.futures import ThreadPoolExecutor
 
-from chain import lines_in, place_of
+from chain import lines_in, place_of, unread
 from looks import TOP, copied, look, main, register, run, same
 
 FLIPS = int(sys.argv[1]) if sys.argv[1:] else 40
@@ -102,7 +102,8 @@ def of_lines(folder, path, journal, files, chance):
         text[at] ^= 1 << bit
         other.write_bytes(text)
         line = data[:at].count(b"\n")
-        wanted = [f"journal BadLine {line}", *(["verify Files"] if line == 0 else []), *(["journal TooShort"] if at == len(data) - 1 else [])]
+        wanted = [unread(lines_in(bytes(text))), "verify Files"] if line == 0 else [f"journal BadLine {line}"]
+        wanted += ["journal TooShort"] if at == len(data) - 1 else []
         one = copied(path, folder / f"room-{number}.db")
         found = run("verify", one, other, *files)
         look(f"a flipped bit of line {line}", found in [(1, "", f"fault: {one}\n") for one in wanted], (found, at, bit))
