@@ -9,7 +9,7 @@ use Rattle.clr_journal.specs.Journals.{next_place, turn_after, withdraws}
 use Rattle.clr_journal.specs.Line.{Entry, carried, read_line, withdrawn}
 use Rattle.clr_chain.proofs.Parts.{text_of-append, there_is_a_rest}
 use Rattle.clr_chain.specs.Chain.{ReadOn, all_but_first, links_of, onto, read_on}
-use Rattle.clr_chain.specs.Finding.{Found, Sought, ahead, bad_line, differs, end_of, found_after, found_at_first, found_by, found_from, found_in, found_short, found_unread, first_of, met, or_earlier, other_register, other_rules, other_rules_of, passed, says_accepted, sought, sought_at, sought_below, too_short, unmet}
+use Rattle.clr_chain.specs.Finding.{Found, Sought, ahead, bad_line, differs, end_of, found_after, found_at_first, found_by, found_from, found_in, found_short, found_unread, first_of, met, or_earlier, other_register, other_rules, other_rules_of, passed, says_accepted, sought, sought_at, sought_below, sought_here, too_short, unmet}
 use Rattle.clr_chain.specs.First.{end_at}
 use Rattle.clr_chain.specs.Link.{end_after, is_own, next_link}
 use Rattle.clr_chain.specs.Reading.{IsCut, IsFound, IsFoundWith, seen_unread}
@@ -62,13 +62,17 @@ below_ends : (place : Place) (number : ℕ) (text : List ℕ) (rest : List (List
 below_ends place number text rest =
     either_sought (text ∷ rest) (nat_lt number place.number) (passed number rest) unmet (one_more text rest rest (all_left rest)) tt
 
+here_ends : (b : Bool) (entry : Entry) (text : List ℕ) (rest : List (List ℕ)) → SoughtEnds (text ∷ rest) (sought_here b entry rest)
+here_ends true entry text rest = one_more text rest rest (all_left rest)
+here_ends false (carried receipt q reply) text rest = one_more text rest rest (all_left rest)
+here_ends false (withdrawn n) text rest = tt
+
 at_ends : (place : Place) (text : List ℕ) (rest : List (List ℕ)) (found : Option Entry) → SoughtEnds (text ∷ rest) (sought_at place text rest found)
 at_ends place text rest None = tt
-at_ends place text rest (Some (carried receipt q reply)) =
-    either_sought (text ∷ rest) (receipt.number == place.number)
-    (met (is_own (carried receipt q reply) place.sum text) (turn_after (carried receipt q reply)) rest) (sought_below place receipt.number rest)
-    (one_more text rest rest (all_left rest)) (below_ends place receipt.number text rest)
-at_ends place text rest (Some (withdrawn n)) = below_ends place n text rest
+at_ends place text rest (Some entry) =
+    either_sought (text ∷ rest) ((turn_after entry).last == place.number)
+    (sought_here (is_own entry place.sum text) entry rest) (sought_below place (turn_after entry).last rest)
+    (here_ends (is_own entry place.sum text) entry text rest) (below_ends place (turn_after entry).last text rest)
 
 later_ends : (text : List ℕ) (rest : List (List ℕ)) (later here : Sought) → SoughtEnds rest later → SoughtEnds (text ∷ rest) here → SoughtEnds (text ∷ rest) (or_earlier later here)
 later_ends text rest (met is_own turn after) here more one = one_more text rest after more

@@ -12,7 +12,7 @@ use Rattle.clr_journal.specs.Journals.{carried_out, in_turn, onto_some, own_pair
 use Rattle.clr_journal.specs.Line.{Entry, carried, withdrawn, is_accepted}
 use Rattle.clr_chain.specs.First.{first_turn_at}
 use Rattle.clr_chain.specs.Laws.{LinesKeepLevel, LostTailsAreMadeGood, NewJournalsAreLevel, StepsKeepLevel, line_at}
-use Rattle.clr_chain.specs.Level.{IsRunOf, ends_with_command, is_command}
+use Rattle.clr_chain.specs.Level.{IsRunOf}
 
 -- ---- what was carried out of lines and of those after them
 
@@ -98,7 +98,6 @@ new_journals R start = record {
   all = refl;
   turns = refl;
   is_at = refl;
-  at_command = refl;
   kept = refl;
   run = record { register = refl; replied = refl };
 }
@@ -110,7 +109,6 @@ lines_keep first R start place entries entry level next kept = record {
   all = ap (λ es. es ++ entry ∷ []) level.all ∙ append_assoc level.had level.more (entry ∷ []);
   turns = (lines_grow (first_turn_at start) entries entry level.turns next).0;
   is_at = level.is_at;
-  at_command = level.at_command;
   kept = kept;
   run = level.run;
 }
@@ -119,11 +117,6 @@ front_kept : (xs ys : List Entry) → withdraws (xs ++ ys) ≡ false → withdra
 front_kept [] ys h = refl
 front_kept (carried receipt q reply ∷ xs) ys h = refl
 front_kept (withdrawn n ∷ xs) ys h = h
-
-ends_so : (xs : List Entry) (entry : Entry) → is_command entry ≡ true → ends_with_command (xs ++ entry ∷ []) ≡ true
-ends_so [] entry h = h
-ends_so (x ∷ []) entry h = h
-ends_so (x ∷ y ∷ xs) entry h = ends_so (y ∷ xs) entry h
 
 regrouped : (had idle rest : List Entry) (entry : Entry) → had ++ (idle ++ entry ∷ rest) ≡ ((had ++ idle) ++ entry ∷ []) ++ rest
 regrouped had idle rest entry =
@@ -154,7 +147,6 @@ steps_keep first R start place entries level idle rest receipt q is none accepte
       all = level.all ∙ ap (λ more. level.had ++ more) is ∙ regrouped level.had idle rest entry;
       turns = level.turns;
       is_at = refl;
-      at_command = ends_so (level.had ++ idle) entry refl;
       kept = kept;
       run = subst (λ all. IsRunOf first all (after R q)) (sym pairs) (joined first R (after R q) (carried_out level.had) ((q, reply) ∷ []) level.run (one_more R q));
     }

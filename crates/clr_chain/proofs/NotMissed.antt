@@ -8,7 +8,7 @@ use Rattle.clr_journal.specs.Line.{Entry, carried, read_line, withdrawn}
 use Rattle.clr_chain.proofs.Cutting.{EndsWith, read_on-ends}
 use Rattle.clr_chain.proofs.ReadingOn.{reads}
 use Rattle.clr_chain.specs.Chain.{ReadOn, onto, read_on}
-use Rattle.clr_chain.specs.Finding.{Found, Sought, ahead, bad_line, differs, end_of, found_after, found_at_first, found_by, found_short, met, or_earlier, passed, says_accepted, sought, sought_at, sought_below, too_short, unmet}
+use Rattle.clr_chain.specs.Finding.{Found, Sought, ahead, bad_line, differs, end_of, found_after, found_at_first, found_by, found_short, met, or_earlier, passed, says_accepted, sought, sought_at, sought_below, sought_here, too_short, unmet}
 use Rattle.clr_chain.specs.First.{end_at}
 use Rattle.clr_chain.specs.Link.{end_after, is_own, next_link}
 use Rattle.clr_chain.specs.Near.{SayNothing, is_unmet, stopped}
@@ -96,19 +96,22 @@ below_by : (b : Bool) (number : ℕ) (rest rest' : List (List ℕ)) → cond b (
 below_by true number rest rest' h = cc h
 below_by false number rest rest' h = refl
 
-carried_by : (b : Bool) (m m' s s' : Sought) → (m ≡ unmet → m' ≡ unmet) → (s ≡ unmet → s' ≡ unmet) → cond b m s ≡ unmet → cond b m' s' ≡ unmet
-carried_by true m m' s s' one two h = one h
-carried_by false m m' s s' one two h = two h
+either_by : (b : Bool) (m m' s s' : Sought) → (m ≡ unmet → m' ≡ unmet) → (s ≡ unmet → s' ≡ unmet) → cond b m s ≡ unmet → cond b m' s' ≡ unmet
+either_by true m m' s s' one two h = one h
+either_by false m m' s s' one two h = two h
+
+here_unmet : (b : Bool) (entry : Entry) (rest rest' : List (List ℕ)) → sought_here b entry rest ≡ unmet → sought_here b entry rest' ≡ unmet
+here_unmet true entry rest rest' h = cc h
+here_unmet false (carried receipt q reply) rest rest' h = cc h
+here_unmet false (withdrawn n) rest rest' h = refl
 
 at_unmet : (place : Place) (text : List ℕ) (rest rest' : List (List ℕ)) (found : Option Entry) → sought_at place text rest found ≡ unmet → sought_at place text rest' found ≡ unmet
 at_unmet place text rest rest' None h = refl
-at_unmet place text rest rest' (Some (carried receipt q reply)) h =
-    carried_by (receipt.number == place.number)
-    (met (is_own (carried receipt q reply) place.sum text) (turn_after (carried receipt q reply)) rest)
-    (met (is_own (carried receipt q reply) place.sum text) (turn_after (carried receipt q reply)) rest')
-    (sought_below place receipt.number rest) (sought_below place receipt.number rest') (λ e. cc e)
-    (below_by (nat_lt receipt.number place.number) receipt.number rest rest') h
-at_unmet place text rest rest' (Some (withdrawn n)) h = below_by (nat_lt n place.number) n rest rest' h
+at_unmet place text rest rest' (Some entry) h =
+    let number = (turn_after entry).last in
+    let own = is_own entry place.sum text in
+    either_by (number == place.number) (sought_here own entry rest) (sought_here own entry rest') (sought_below place number rest) (sought_below place number rest')
+    (here_unmet own entry rest rest') (below_by (nat_lt number place.number) number rest rest') h
 
 unmet_left : (place : Place) (kept left : List (List ℕ)) → sought place (kept ++ left) ≡ unmet → sought place left ≡ unmet
 unfolding sought
@@ -155,16 +158,20 @@ either_swaps : (left others : List (List ℕ)) (b : Bool) (m m' s s' : Sought) �
 either_swaps left others true m m' s s' one two = one
 either_swaps left others false m m' s s' one two = two
 
+here_swaps : (left others : List (List ℕ)) (b : Bool) (entry : Entry) (kept : List (List ℕ)) → SoughtSwaps left others (sought_here b entry (kept ++ left)) (sought_here b entry (kept ++ others))
+here_swaps left others true entry kept = (kept, refl, refl)
+here_swaps left others false (carried receipt q reply) kept = (kept, refl, refl)
+here_swaps left others false (withdrawn n) kept = refl
+
 at_swaps : (left others : List (List ℕ)) (place : Place) (text : List ℕ) (kept : List (List ℕ)) (found : Option Entry)
     → SoughtSwaps left others (sought_at place text (kept ++ left) found) (sought_at place text (kept ++ others) found)
 at_swaps left others place text kept None = refl
-at_swaps left others place text kept (Some (carried receipt q reply)) =
-    either_swaps left others (receipt.number == place.number)
-    (met (is_own (carried receipt q reply) place.sum text) (turn_after (carried receipt q reply)) (kept ++ left))
-    (met (is_own (carried receipt q reply) place.sum text) (turn_after (carried receipt q reply)) (kept ++ others))
-    (sought_below place receipt.number (kept ++ left)) (sought_below place receipt.number (kept ++ others)) (kept, refl, refl)
-    (below_swaps left others (nat_lt receipt.number place.number) receipt.number (kept ++ left) (kept ++ others))
-at_swaps left others place text kept (Some (withdrawn n)) = below_swaps left others (nat_lt n place.number) n (kept ++ left) (kept ++ others)
+at_swaps left others place text kept (Some entry) =
+    let number = (turn_after entry).last in
+    let own = is_own entry place.sum text in
+    either_swaps left others (number == place.number) (sought_here own entry (kept ++ left)) (sought_here own entry (kept ++ others))
+    (sought_below place number (kept ++ left)) (sought_below place number (kept ++ others)) (here_swaps left others own entry kept)
+    (below_swaps left others (nat_lt number place.number) number (kept ++ left) (kept ++ others))
 
 later_swaps : (left others : List (List ℕ)) (s s' h h' : Sought) → SoughtSwaps left others s s' → SoughtSwaps left others h h'
     → SoughtSwaps left others (or_earlier s h) (or_earlier s' h')
@@ -194,13 +201,18 @@ either_fewer n false s t one two = two
 below_fewer : (n : ℕ) (place : Place) (number : ℕ) (rest : List (List ℕ)) → LeavesFewer n (sought_below place number rest)
 below_fewer n place number rest = either_fewer n (nat_lt number place.number) (passed number rest) unmet tt tt
 
+here_fewer : (b : Bool) (entry : Entry) (text : List ℕ) (rest : List (List ℕ)) → LeavesFewer (length (text ∷ rest)) (sought_here b entry rest)
+here_fewer true entry text rest = omega arith
+here_fewer false (carried receipt q reply) text rest = omega arith
+here_fewer false (withdrawn n) text rest = tt
+
 at_fewer : (place : Place) (text : List ℕ) (rest : List (List ℕ)) (found : Option Entry) → LeavesFewer (length (text ∷ rest)) (sought_at place text rest found)
 at_fewer place text rest None = tt
-at_fewer place text rest (Some (carried receipt q reply)) =
-    either_fewer (length (text ∷ rest)) (receipt.number == place.number)
-    (met (is_own (carried receipt q reply) place.sum text) (turn_after (carried receipt q reply)) rest) (sought_below place receipt.number rest)
-    (omega arith) (below_fewer (length (text ∷ rest)) place receipt.number rest)
-at_fewer place text rest (Some (withdrawn n)) = below_fewer (length (text ∷ rest)) place n rest
+at_fewer place text rest (Some entry) =
+    let number = (turn_after entry).last in
+    let own = is_own entry place.sum text in
+    either_fewer (length (text ∷ rest)) (number == place.number) (sought_here own entry rest) (sought_below place number rest)
+    (here_fewer own entry text rest) (below_fewer (length (text ∷ rest)) place number rest)
 
 later_fewer : (text : List ℕ) (rest : List (List ℕ)) (later here : Sought) → LeavesFewer (length rest) later → LeavesFewer (length (text ∷ rest)) here
     → LeavesFewer (length (text ∷ rest)) (or_earlier later here)

@@ -26,15 +26,21 @@ abbrev pub sought_below : Place → ℕ → List (List ℕ) → Sought
 sought_below place number after =
     if nat_lt number place.number then passed number after else unmet
 
--- what one line is for a place: a line that withdraws is no line of the register's number
+-- what a line of the register's number is: one that withdraws the command may come after the
+-- register's line, where it does not have the register's sum
+abbrev pub sought_here : Bool → Entry → List (List ℕ) → Sought
+sought_here true entry after = met true (turn_after entry) after
+sought_here false (carried receipt q reply) after =
+    met false (turn_after (carried receipt q reply)) after
+sought_here false (withdrawn n) after = unmet
+
+-- what one line is for a place
 abbrev pub sought_at : Place → List ℕ → List (List ℕ) → Option Entry → Sought
 sought_at place text after None = unmet
-sought_at place text after (Some (carried receipt q reply)) =
-    if receipt.number == place.number
-    then met (is_own (carried receipt q reply) place.sum text)
-    (turn_after (carried receipt q reply)) after
-    else sought_below place receipt.number after
-sought_at place text after (Some (withdrawn n)) = sought_below place n after
+sought_at place text after (Some entry) =
+    if (turn_after entry).last == place.number
+    then sought_here (is_own entry place.sum text) entry after
+    else sought_below place (turn_after entry).last after
 
 -- the later one counts
 abbrev pub or_earlier : Sought → Sought → Sought

@@ -1,5 +1,5 @@
 -- LEVEL: a register, its place and a journal belong together.
-use Rattle.std.specs.Prelude.{◌≡◌, Bool, true, false, List, [], ◌∷◌, ◌++◌, map}
+use Rattle.std.specs.Prelude.{◌≡◌, Bool, true, false, List, ◌++◌, map}
 use Rattle.serde_json.specs.Data.{Data}
 use Rattle.clr_rules.specs.Register.{Register}
 use Rattle.clr_rules.specs.Run.{after_all, replies}
@@ -7,7 +7,7 @@ use Rattle.clr_rules.specs.declared.command.Command.{Command}
 use Rattle.clr_text.specs.Replies.{reply_data}
 use Rattle.clr_journal.specs.Journals.{carried_out, in_turn, turn_after, withdraws}
 use Rattle.clr_journal.specs.Laws.{turn_behind}
-use Rattle.clr_journal.specs.Line.{Entry, carried, withdrawn}
+use Rattle.clr_journal.specs.Line.{Entry}
 use Rattle.clr_chain.specs.First.{first_turn_at}
 use Rattle.clr_chain.specs.Sums.{sum_after, sum_behind}
 use Rattle.clr_place.specs.declared.place.Place.{Place}
@@ -17,16 +17,6 @@ pub record IsRunOf (R : Register) (pairs : List (Command × Data)) (S : Register
   pub register : S ≡ after_all R (map (λ pair. pair.0) pairs)
   pub replied : map (λ pair. pair.1) pairs
       ≡ map reply_data (replies R (map (λ pair. pair.0) pairs))
-
-abbrev pub is_command : Entry → Bool
-is_command (carried receipt q reply) = true
-is_command (withdrawn n) = false
-
--- the last of these lines is that of a command, if there is one
-abbrev pub ends_with_command : List Entry → Bool
-ends_with_command [] = true
-ends_with_command (entry ∷ []) = is_command entry
-ends_with_command (entry ∷ next ∷ rest) = ends_with_command (next ∷ rest)
 
 -- where a chain with this first line has come to, after these lines
 abbrev pub place_after : Place → List Entry → Place
@@ -59,6 +49,5 @@ pub record IsLevel (first : Register) (start : Place) (entries : List Entry) (pl
   pub all : entries ≡ had ++ more
   pub turns : in_turn (first_turn_at start) entries ≡ true
   pub is_at : place ≡ place_after start had
-  pub at_command : ends_with_command had ≡ true
   pub kept : withdraws more ≡ false
   pub run : IsRunOf first (carried_out had) R

@@ -1,8 +1,9 @@
 //! The line of a register's number, from the last line of a journal back.
 ghost use Rattle.std.specs.Prelude.{◌≡◌, ℕ, IfOk, List, Option};
 ghost use Rattle.clr_append.specs.Lines.{ended_lines, unfinished};
-ghost use Rattle.clr_journal.specs.Line.{read_line};
+ghost use Rattle.clr_journal.specs.Line.{entry_of, read_line};
 ghost use Rattle.clr_chain.specs.Finding.{or_earlier, sought, sought_at, sought_below};
+ghost use Rattle.clr_chain.specs.Finding.{sought_here};
 ghost use Rattle.clr_chain.specs.Reading.{EndsAlike, seen_sought};
 
 use crate::values::is_own;
@@ -73,15 +74,28 @@ fn sought_at<'a>(
     let Some(line) = read_line(alloc, text)? else {
         return Ok(Sought::Unmet);
     };
-    let number = match &line {
-        Line::Carried(carried) => carried.receipt.number,
-        Line::Withdrawn(number) => return Ok(sought_below(place, *number, after)),
-    };
+    let number = Turn::after(&line).last;
     if number != place.number {
         return Ok(sought_below(place, number, after));
     }
     let is_own = is_own(alloc, &line, place.sum.as_str(), text)?;
-    Ok(Sought::Met(is_own, Turn::after(&line), after))
+    Ok(sought_here(is_own, &line, after))
+}
+
+/// What a line of the register's number is, by whether it has the register's sum.
+fn sought_here<'a>(is_own: bool, line: &Line, after: &'a [u8]) -> Sought<'a>
+    ensures found { seen_sought result
+        ≡ sought_here is_own (entry_of line.now) (ended_lines after.now) }
+    ensures rest { EndsAlike (unfinished after.now) result }
+{
+    let turn = Turn::after(line);
+    if is_own {
+        return Sought::Met(true, turn, after);
+    }
+    match line {
+        Line::Carried(_) => Sought::Met(false, turn, after),
+        Line::Withdrawn(_) => Sought::Unmet,
+    }
 }
 
 /// A line with this number, where that is lower than the register's.

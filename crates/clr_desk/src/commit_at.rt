@@ -1,5 +1,5 @@
 //! What keeps a place with the changes of a desk.
-ghost use Rattle.std.specs.Prelude.{◌≡◌, IfErr, Option, option_map, true};
+ghost use Rattle.std.specs.Prelude.{◌≡◌, [], IfErr, Option, option_map, true};
 ghost use Rattle.sqlite.specs.Tree.{Trees};
 ghost use Rattle.clr_answer.specs.Decision.{is_accepted};
 ghost use Rattle.clr_place.specs.declared.place.Place.{Place};
@@ -14,6 +14,7 @@ use clr_place::Place;
 use clr_rules::{Change, Command, Reply};
 use clr_store::Store;
 use sqlite::Alter;
+use std::alloc::Global;
 
 /// Keeps, beside what accepted commands change, the place that the register has in its journal.
 pub trait CommitAt: Commit {
@@ -34,6 +35,12 @@ pub trait CommitAt: Commit {
             change.now.edits.items place.now result }
         ensures fault { IfErr result (IsOfKeeper Self.fails) }
         ensures taken { Self.takes self.old command.now reply.now result self.new };
+
+    /// Keeps a place, where no command changes anything. Where it is not kept, all stays as it is.
+    fn move_to(&mut self, alloc: Global, place: &Place) -> Result<(), DeskFault>
+        ensures commits { CommitsAt has_place (Self.kept self.old) (Self.kept self.new)
+            [] place.now result }
+        ensures fault { IfErr result (IsOfKeeper Self.fails) };
 }
 
 /// A store keeps the place in a table of its own, in the transaction of the change.
@@ -48,6 +55,14 @@ impl<S: Alter + Drop> CommitAt for Store<S> {
         place: &Place,
     ) -> Result<(), DeskFault> {
         self.commit_at(change, place)?;
+        Ok(())
+    }
+
+    fn move_to(&mut self, alloc: Global, place: &Place) -> Result<(), DeskFault> {
+        let none = Change {
+            edits: Vec::new(alloc),
+        };
+        self.commit_at(&none, place)?;
         Ok(())
     }
 }
