@@ -2,7 +2,7 @@
 use Rattle.std.proofs.Common.{◌≡◌, ◌∙◌, ◌==◌, ◌&&◌, ◌+◌, ℕ, Bool, true, false, cond, List, [], ◌∷◌, ◌++◌, Option, None, Some, refl, ap, sym, subst, option_and_then, bytes_eq}
 use Rattle.std.proofs.lemmas.Bool.{and_from, and_parts, eqb-true, true≢false}
 use Rattle.std.proofs.lemmas.Slice.Eq.{bytes_eq-Decides}
-use Rattle.clr_journal.specs.Journals.{in_turn, is_next, next_place}
+use Rattle.clr_journal.specs.Journals.{in_turn, is_next, next_place, turn_after}
 use Rattle.clr_journal.specs.Laws.{turn_behind}
 use Rattle.clr_journal.specs.Line.{Entry, carried, withdrawn, read_line}
 use Rattle.clr_journal.specs.declared.reading.Turn.{Turn}
@@ -134,8 +134,18 @@ line_more first texts entries walked text entry lines ends is =
       subst (λ (r : ReadOn). EndsAt (end_after walked entry) r.end) (sym more) (ends_after walked read.end entry ends),
     )
 
+-- and where they have come to with it
+pub turn_there : (first : Place) (texts : List (List ℕ)) (entries : List Entry) (walked : ChainEnd) (text : List ℕ) (entry : Entry)
+    → AreLines first texts entries → EndsAt walked (read_on (end_at first) texts).end → next_link walked text ≡ Some entry
+    → (read_on (end_at first) (texts ++ text ∷ [])).end.turn ≡ turn_after entry
+turn_there first texts entries walked text entry lines ends is =
+    let read : ReadOn = read_on (end_at first) texts in
+    let there : next_link read.end text ≡ Some entry =
+    holds_line read.end text entry (holds_there walked read.end text entry ends (line_holds walked text entry is)) in
+    ap (λ (r : ReadOn). r.end.turn) (read_more (end_at first) texts text entry lines.all there)
+
 number_there : (read : ChainEnd) (entry : Entry) (number : ℕ) → read.turn.last ≡ number → is_next read.turn entry ≡ true → IsOfLast entry number
-number_there read (carried receipt q reply) number is next = tt
+number_there read (carried receipt q reply) number is next = eqb-true receipt.number (read.turn.last + 1) next ∙ ap (λ (n : ℕ). n + 1) is
 number_there read (withdrawn n) number is next = eqb-true n read.turn.last (and_parts read.turn.is_open (n == read.turn.last) next).1 ∙ is
 
 opens_there : (first : Place) (entries : List Entry) (turn : Turn) (entry : Entry) → turn ≡ turn_behind (first_turn_at first) entries → is_next turn entry ≡ true

@@ -6,7 +6,7 @@ use Rattle.clr_journal.specs.Line.{Entry, carried, withdrawn}
 use Rattle.clr_journal.specs.declared.reading.Turn.{Turn}
 use Rattle.clr_place.specs.declared.place.Place.{Place}
 use Rattle.clr_chain.specs.First.{first_turn_at}
-use Rattle.clr_chain.specs.Level.{ends_with_command, is_command, place_after}
+use Rattle.clr_chain.specs.Level.{place_after}
 use Rattle.clr_chain.specs.Sums.{sum_after, sum_behind}
 use Rattle.clr_checking.specs.Checking.{NoneHas}
 use Rattle.clr_checking.specs.CheckingOn.{IsOfOpen}
@@ -40,12 +40,7 @@ place_on start xs ys =
     let sum : sum_behind (sum_behind start.sum xs) ys ≡ sum_behind start.sum (xs ++ ys) = sum_on start.sum xs ys in
     λ i. record { id = start.id; number = number i; sum = sum i }
 
--- ---- which line is the first, and which the last
-
-pub ends_so : (xs : List Entry) (entry : Entry) → is_command entry ≡ true → ends_with_command (xs ++ entry ∷ []) ≡ true
-ends_so [] entry is = is
-ends_so (x ∷ []) entry is = is
-ends_so (x ∷ y ∷ xs) entry is = ends_so (y ∷ xs) entry is
+-- ---- which line is the first
 
 pub same_withdraws : (xs ys : List Entry) → withdraws ys ≡ false → withdraws (xs ++ ys) ≡ withdraws xs
 same_withdraws [] ys kept = kept
@@ -64,7 +59,7 @@ kept_more (withdrawn n ∷ xs) entry kept none = kept
 pub none_more : (number : ℕ) (xs : List Entry) (entry : Entry) → NoneHas number xs → NoneHas number (entry ∷ []) → NoneHas number (xs ++ entry ∷ [])
 none_more number [] entry none one = one
 none_more number (carried receipt q reply ∷ xs) entry none one = (none.0, none_more number xs entry none.1 one)
-none_more number (withdrawn n ∷ xs) entry none one = none_more number xs entry none one
+none_more number (withdrawn n ∷ xs) entry none one = (none.0, none_more number xs entry none.1 one)
 
 -- ---- whether a command is open
 

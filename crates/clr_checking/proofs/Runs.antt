@@ -81,7 +81,6 @@ is_level began R first place entries turns flat it = record {
     all = it.all;
     turns = turns;
     is_at = it.is_at;
-    at_command = it.at_command;
     kept = it.kept;
     run = is_run (each_front IsFlat it.had it.more (subst (λ (es : List Entry). Each IsFlat es) it.all flat)) it.answered;
   };

@@ -16,9 +16,10 @@ use Rattle.clr_text.specs.Replies.{reply_data}
 use Rattle.clr_journal.specs.Journals.{commands_of, next_place, withdraws}
 use Rattle.clr_journal.specs.Line.{Entry, carried, withdrawn, is_accepted}
 use Rattle.clr_journal.specs.declared.line.Receipt.{Receipt}
+use Rattle.clr_journal.specs.declared.reading.Turn.{Turn}
 use Rattle.clr_chain.specs.Chain.{read_on}
 use Rattle.clr_chain.specs.First.{end_at}
-use Rattle.clr_chain.specs.Level.{IsLevel, ends_with_command, place_after}
+use Rattle.clr_chain.specs.Level.{IsLevel, place_after}
 use Rattle.clr_chain.specs.Link.{next_link}
 use Rattle.clr_chain.specs.declared.chain_end.ChainEnd.{ChainEnd}
 use Rattle.clr_verify.specs.Registers.{IsFirstDifference}
@@ -90,7 +91,6 @@ pub record IsCheckedFrom (copied : Register) (at : Place) (first : Place)
   pub entries : List Entry
   pub lines : AreLines first texts (before ++ entries)
   pub is_at : at ≡ place_after first before
-  pub at_command : ends_with_command before ≡ true
   pub kept : withdraws entries ≡ false
   pub level : IsLevelByTables copied at entries place R
   pub left : Register
@@ -99,15 +99,14 @@ pub record IsCheckedFrom (copied : Register) (at : Place) (first : Place)
 
 -- ---- why not
 
--- A PLACE IS MET by the run of these lines: after the first of them, over which it leads to a
--- register of which this holds
+-- A PLACE IS MET by the run of these lines: after the first of them, of which none is withdrawn
+-- by the line after them, it leads to a register of which this holds
 pub record Meets (began : Register) (first : Place) (entries : List Entry) (place : Place)
     (Is : Register → Type 0) : Type 0 where
   pub had : List Entry
   pub more : List Entry
   pub all : entries ≡ had ++ more
   pub is_at : place ≡ place_after first had
-  pub at_command : ends_with_command had ≡ true
   pub kept : withdraws more ≡ false
   pub register : Register
   pub answered : AreAnswered began had register
@@ -130,32 +129,30 @@ pub record RepliesElse (began : Register) (entries : List Entry) (number : ℕ) 
   pub answered : AreAnswered began had register
   pub other : reply ≢ reply_data (Answer.reply (answer register q))
 
--- AT THE NUMBER OF A PLACE THE SUM IS ANOTHER
+-- AT THE NUMBER OF A PLACE THE SUM IS ANOTHER: after the last line that has it
 pub record HasOtherSum (first : Place) (entries : List Entry) (place : Place) (number : ℕ)
     : Type 0 where
   pub had : List Entry
   pub more : List Entry
   pub all : entries ≡ had ++ more
-  pub at_command : ends_with_command had ≡ true
+  pub kept : withdraws more ≡ false
   pub number_is : number ≡ place.number
   pub there : (place_after first had).number ≡ number
   pub other : place.sum ≢ (place_after first had).sum
 
--- THE COMMAND AT A PLACE IS WITHDRAWN: that of the register's, or that after which the run begins
-pub record IsWithdrawn (entries : List Entry) (place : Place) (number : ℕ) : Type 0 where
-  pub had : List Entry
+-- THE COMMAND AFTER WHICH THE RUN BEGINS IS WITHDRAWN
+pub record IsWithdrawn (entries : List Entry) (number : ℕ) : Type 0 where
   pub more : List Entry
-  pub all : entries ≡ had ++ withdrawn number ∷ more
-  pub which : (had ≡ []) ⊎ (number ≡ place.number)
+  pub all : entries ≡ withdrawn number ∷ more
 
--- NO LINE OF A COMMAND HAS THIS NUMBER
+-- NO LINE HAS THIS NUMBER
 abbrev pub NoneHas : ℕ → List Entry → Type 0
 NoneHas number [] = ⊤
 NoneHas number (carried receipt q reply ∷ rest) =
     (receipt.number ≢ number) × NoneHas number rest
-NoneHas number (withdrawn n ∷ rest) = NoneHas number rest
+NoneHas number (withdrawn n ∷ rest) = (n ≢ number) × NoneHas number rest
 
--- A PLACE IS NOT THERE: its number is that of no command, and not that of the first line
+-- A PLACE IS NOT THERE: no line has its number, nor has the first
 abbrev pub IsNotThere : Place → List Entry → Place → Type 0
 IsNotThere first entries place =
     (first.number ≢ place.number) × NoneHas place.number entries
@@ -166,7 +163,7 @@ RefusesRun began first entries place R OtherRegister = place.id ≢ first.id
 RefusesRun began first entries place R (BadLine n) = ⊥
 RefusesRun began first entries place R (Reply n) = RepliesElse began entries n
 RefusesRun began first entries place R (Differs n) =
-    HasOtherSum first entries place n ⊎ IsWithdrawn entries place n
+    HasOtherSum first entries place n ⊎ IsWithdrawn entries n
 RefusesRun began first entries place R (Tables found) =
     Meets began first entries place (λ S. IsFirstDifference R S (Some found))
 RefusesRun began first entries place R TooShort = ⊥
@@ -224,13 +221,23 @@ pub record IsBadAfter (first : Place) (texts : List (List ℕ)) (text : List ℕ
   pub bad : next_link end text ≡ None
   pub number : n ≡ next_place end.turn.last
 
--- WHY A LINE IS REFUSED, after these: it does not hold its sum; or with it there is no yes
+-- no line more withdraws the command of this number: it is not the last, or it is not open
+abbrev pub IsSettled : Turn → ℕ → Type 0
+IsSettled turn number = turn.last ≡ number → turn.is_open ≡ false
+
+-- the same, at the end of these texts
+abbrev pub IsSettledBy : Place → List (List ℕ) → ℕ → Type 0
+IsSettledBy first texts number = IsSettled (read_on (end_at first) texts).end.turn number
+
+-- WHY A LINE IS REFUSED, after these: it does not hold its sum; or with it there is no yes, and
+-- where the sum of a place is another, no line more withdraws the command there
 abbrev pub RefusesLine : Place → List (List ℕ) → List ℕ → (CheckFault → Type 0) → CheckFault
     → Type 0
 RefusesLine first texts text Is (BadLine n) = IsBadAfter first texts text n
 RefusesLine first texts text Is OtherRegister = Is OtherRegister
 RefusesLine first texts text Is (Reply n) = Is (Reply n)
-RefusesLine first texts text Is (Differs n) = Is (Differs n)
+RefusesLine first texts text Is (Differs n) =
+    Is (Differs n) × IsSettledBy first (texts ++ text ∷ []) n
 RefusesLine first texts text Is (Tables found) = Is (Tables found)
 RefusesLine first texts text Is TooShort = ⊥
 RefusesLine first texts text Is NoMemory = ⊤

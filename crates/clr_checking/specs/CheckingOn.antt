@@ -1,6 +1,6 @@
 -- HOW FAR A REGISTER WAS CHECKED against its journal.
 use Rattle.std.specs.Prelude.{◌≡◌, ◌≢◌, ◌⊎◌, ℕ, Bool, true, false, List, [], ◌∷◌, ◌++◌, IfSome}
-use Rattle.std.specs.Prelude.{None, Option, Some, length, ⊤}
+use Rattle.std.specs.Prelude.{◌+◌, IsSome, None, Option, Some, length, ⊤}
 use Rattle.serde_json.specs.View.{view}
 use Rattle.clr_rules.specs.Answer.{Answer, answer}
 use Rattle.clr_rules.specs.Good.{IsGood}
@@ -12,11 +12,13 @@ use Rattle.clr_journal.specs.Journals.{commands_of, withdraws}
 use Rattle.clr_journal.specs.Laws.{turn_behind}
 use Rattle.clr_journal.specs.Line.{Entry, carried, withdrawn}
 use Rattle.clr_journal.specs.declared.line.Carried.{Carried}
+use Rattle.clr_journal.specs.declared.reading.Turn.{Turn}
 use Rattle.clr_chain.specs.Chain.{read_on}
 use Rattle.clr_chain.specs.First.{end_at, first_turn_at}
-use Rattle.clr_chain.specs.Level.{ends_with_command, place_after}
+use Rattle.clr_chain.specs.Level.{place_after}
 use Rattle.clr_chain.specs.Sums.{sum_behind}
-use Rattle.clr_checking.specs.Checking.{AreAnswered, AreLines, EndsAt, IsNotThere, Meets, NoneHas}
+use Rattle.clr_checking.specs.Checking.{AreAnswered, AreLines, EndsAt, IsNotThere, IsSettled, Meets}
+use Rattle.clr_checking.specs.Checking.{NoneHas}
 use Rattle.clr_verify.specs.Registers.{IsFirstDifference}
 use Rattle.clr_verify.specs.Replay.{IsAccepted, open_entries}
 use Rattle.clr_checking.specs.declared.fault.CheckFault.{CheckFault}
@@ -42,21 +44,31 @@ abbrev pub IsMet : Register → Place → List Entry → Place → Register → 
 IsMet began first entries place R =
     Meets began first entries place (λ S. tables_of R ≡ tables_of S)
 
--- at the number of the register's place the open command is that of the place
-abbrev pub IsOpenAt : Place → Place → List Entry → Option Carried → Type 0
-IsOpenAt first place entries None = ⊤
-IsOpenAt first place entries (Some one) =
+-- THE LINES HAVE COME TO THE NUMBER OF A PLACE, and its sum is another
+pub record IsMissed (first : Place) (entries : List Entry) (place : Place) (number : ℕ)
+    : Type 0 where
+  pub number_is : number ≡ place.number
+  pub there : (place_after first entries).number ≡ number
+  pub other : place.sum ≢ (place_after first entries).sum
+
+-- at the number of the register's place the open command is that of the place, unless the sum there
+-- is another
+abbrev pub IsOpenAt : Place → Place → List Entry → Option Carried → Option ℕ → Type 0
+IsOpenAt first place entries last (Some number) = IsMissed first entries place number
+IsOpenAt first place entries None None = ⊤
+IsOpenAt first place entries (Some one) None =
     one.receipt.number ≡ place.number → place ≡ place_after first entries
 
 -- THESE LINES WERE RUN, all but the open command, and each had the reply that is due. So many were
 -- carried out, and they lead to a register
 pub record Ran (began : Register) (first place : Place) (R : Register) (last : Option Carried)
-    (S : Register) (count : ℕ) (is_met : Bool) (entries : List Entry) : Type 0 where
+    (missed : Option ℕ) (S : Register) (count : ℕ) (is_met : Bool) (entries : List Entry)
+    : Type 0 where
   pub done : List Entry
   pub entries_are : entries ≡ done ++ open_entries last
   pub answered : AreAnswered began done S
   pub count_is : count ≡ length (commands_of done)
-  pub open_at : IsOpenAt first place entries last
+  pub open_at : IsOpenAt first place entries last missed
   pub met : is_met ≡ true → IsMet began first entries place R
   pub unmet : is_met ≡ false → NoneHas place.number done
 
@@ -64,21 +76,24 @@ pub record Ran (began : Register) (first place : Place) (R : Register) (last : O
 pub record RanOver (began : Register) (first place : Place) (R : Register) (it : Checking)
     (entries : List Entry) : Type 0 where
   pub of : IsOf place R it
-  pub ran : Ran began first place R it.last it.desk.book.register it.count it.is_met entries
+  pub ran : Ran began first place R it.last it.missed it.desk.book.register it.count it.is_met
+      entries
 
 -- between two lines: no command is open where the last line has none that was accepted; and where
--- the place is not met, it is not that which the run began after
+-- the place is not met, it is not that which the run began after, unless the next line may withdraw
+-- the command there
 pub record RunsOn (began : Register) (first place : Place) (R : Register) (it : Checking)
     (entries : List Entry) : Type 0 where
   pub over : RanOver began first place R it entries
   pub shut : it.last ≡ None → (turn_behind (first_turn_at first) entries).is_open ≡ false
-  pub later : it.is_met ≡ false → first.number ≢ place.number
+  pub later : it.is_met ≡ false
+      → (first.number ≢ place.number) ⊎ ((entries ≡ []) × IsSome it.missed)
 
 -- ---- the lines before the place of a copy
 
--- the place of a copy is still to be met, and nothing was run over its register
+-- the place of a copy is still to be met after these lines, and nothing was run over its register
 pub record Waits (copied : Register) (at first place : Place) (R : Register) (it : Checking)
-    : Type 0 where
+    (before : List Entry) : Type 0 where
   pub of : IsOf place R it
   pub same_id : at.id ≡ first.id
   pub from : it.from ≡ Some at
@@ -86,13 +101,13 @@ pub record Waits (copied : Register) (at first place : Place) (R : Register) (it
   pub register : it.desk.book.register ≡ copied
   pub count : it.count ≡ 0
   pub met : it.is_met ≡ false
+  pub missed : IfSome it.missed (IsMissed first before at)
 
 -- it was met after these lines, and the lines after it were run
 pub record RunsFrom (copied : Register) (at first place : Place) (R : Register) (it : Checking)
     (before entries : List Entry) : Type 0 where
   pub begun : it.from ≡ None
   pub is_at : at ≡ place_after first before
-  pub at_command : ends_with_command before ≡ true
   pub kept : withdraws entries ≡ false
   pub ran : RunsOn copied at place R it entries
 
@@ -100,7 +115,7 @@ pub record RunsFrom (copied : Register) (at first place : Place) (R : Register) 
 abbrev pub ComesFrom : Register → Place → Place → Place → Register → Checking → List Entry
     → List Entry → Type 0
 ComesFrom copied at first place R it before entries =
-    ((entries ≡ []) × Waits copied at first place R it)
+    ((entries ≡ []) × Waits copied at first place R it before)
     ⊎ RunsFrom copied at first place R it before entries
 
 -- ---- the chain
@@ -129,13 +144,13 @@ pub record CheckedToFrom (copied : Register) (at first place : Place) (R : Regis
   pub entries : List Entry
   pub over : GoesOver first place it texts (before ++ entries)
   pub come : ComesFrom copied at first place R it before entries
-  pub sought : it.from ≡ Some at → IsNotThere first before at
+  pub sought : it.from ≡ Some at → it.missed ≡ None → IsNotThere first before at
 
 -- ---- a line more
 
--- a line that withdraws does so with the command of this number
+-- a command has the number after this one; a line that withdraws does so with the command of it
 abbrev pub IsOfLast : Entry → ℕ → Type 0
-IsOfLast (carried receipt q reply) number = ⊤
+IsOfLast (carried receipt q reply) number = receipt.number ≡ number + 1
 IsOfLast (withdrawn n) number = n ≡ number
 
 -- the lines before it, if there are any, leave its command open
@@ -153,11 +168,10 @@ pub record IsAfter (first place : Place) (sum : List ℕ) (entry : Entry) (entri
   pub sum_is : sum ≡ sum_behind first.sum (entries ++ entry ∷ [])
   pub same_id : place.id ≡ first.id
 
--- the chain has come to a command, of this number, or to its first line
-pub record IsAtCommand (first place : Place) (number : ℕ) (sum : List ℕ) (entries : List Entry)
+-- the chain has come to this number, after these lines
+pub record IsAt (first place : Place) (number : ℕ) (sum : List ℕ) (entries : List Entry)
     : Type 0 where
   pub here : place_after first entries ≡ record { id = first.id; number = number; sum = sum }
-  pub at_command : ends_with_command entries ≡ true
   pub same_id : place.id ≡ first.id
 
 -- ---- why not
@@ -172,6 +186,16 @@ AnswersElse R one (Differs n) = ⊥
 AnswersElse R one (Tables found) = ⊥
 AnswersElse R one TooShort = ⊥
 AnswersElse R one NoMemory = ⊤
+
+-- where the sum of a place is another after a line, no line more withdraws the command there
+abbrev pub Settles : Turn → CheckFault → Type 0
+Settles turn OtherRegister = ⊤
+Settles turn (BadLine n) = ⊤
+Settles turn (Reply n) = ⊤
+Settles turn (Differs n) = IsSettled turn n
+Settles turn (Tables found) = ⊤
+Settles turn TooShort = ⊤
+Settles turn NoMemory = ⊤
 
 -- the tables differ at this number, which is that of the register's place
 abbrev pub ComparesElse : Checking → ℕ → CheckFault → Type 0

@@ -1,6 +1,6 @@
 //! A register is checked against its journal, whose lines are run again one by one.
 ghost use Rattle.std.specs.Prelude.{◌≡◌, ◌≢◌, ◌⊎◌, ◌+◌, ◌∷◌, ◌++◌, [], ℕ, IfErr, IfOk, IsSome};
-ghost use Rattle.std.specs.Prelude.{List, None, OnErr, OnOk, Some, false, true};
+ghost use Rattle.std.specs.Prelude.{IfSome, List, None, OnErr, OnOk, Some, false, true};
 ghost use Rattle.serde_json.specs.View.{view};
 ghost use Rattle.clr_rules.specs.Answer.{Answer, answer};
 ghost use Rattle.clr_rules.specs.Good.{IsGood};
@@ -8,16 +8,17 @@ ghost use Rattle.clr_rules.specs.Register.{Register};
 ghost use Rattle.clr_rules.specs.Run.{after};
 ghost use Rattle.clr_place.specs.declared.place.Place.{Place as AnyPlace};
 ghost use Rattle.clr_tables.specs.Tables.{tables_of};
-ghost use Rattle.clr_journal.specs.Journals.{withdraws};
-ghost use Rattle.clr_journal.specs.Line.{Entry, carried, entry_of, is_accepted};
+ghost use Rattle.clr_journal.specs.Journals.{turn_after, withdraws};
+ghost use Rattle.clr_journal.specs.Line.{Entry, carried, entry_of, is_accepted, withdrawn};
+ghost use Rattle.clr_journal.specs.declared.reading.Turn.{Turn};
 ghost use Rattle.clr_chain.specs.First.{end_at, read_first};
 ghost use Rattle.clr_chain.specs.Walking.{part_of, step_of};
 ghost use Rattle.clr_checking.specs.Checking.{IsChecked, IsCheckedFrom, IsRefused, IsRefusedFrom};
 ghost use Rattle.clr_checking.specs.Checking.{NoneHas, Refuses, RefusesFrom, RefusesOfCopy};
 ghost use Rattle.clr_checking.specs.Checking.{RefusesRun, is_brief};
 ghost use Rattle.clr_checking.specs.CheckingOn.{AnswersElse, CheckedTo, CheckedToFrom, ComesFrom};
-ghost use Rattle.clr_checking.specs.CheckingOn.{ComparesElse, IsAfter, IsAtCommand, IsReady, RanOver};
-ghost use Rattle.clr_checking.specs.CheckingOn.{RunsOn, Waits};
+ghost use Rattle.clr_checking.specs.CheckingOn.{ComparesElse, IsAfter, IsAt, IsReady, RanOver};
+ghost use Rattle.clr_checking.specs.CheckingOn.{RunsOn, Settles, Waits};
 ghost use Rattle.clr_verify.specs.Replies.{IsReply};
 
 use crate::fault::CheckFault;
@@ -44,6 +45,9 @@ pub struct Checking<'a> {
     is_met: bool,
     /// The last command that was accepted: it is carried out unless the next line withdraws it.
     last: Option<Carried>,
+    /// The number of the place that is sought, where the sum at the last command is another: the
+    /// next line may withdraw that command, and have the sum.
+    missed: Option<u64>,
     count: usize,
 }
 
@@ -72,6 +76,7 @@ impl<'a> Checking<'a> {
             book,
             is_met: false,
             last: None,
+            missed: None,
             count: 0,
         };
         checking.met_at_first(alloc)
@@ -102,6 +107,7 @@ impl<'a> Checking<'a> {
             book,
             is_met: false,
             last: None,
+            missed: None,
             count: 0,
         };
         checking.met_at_first(alloc)
@@ -110,6 +116,7 @@ impl<'a> Checking<'a> {
     /// Looks whether the places are of this journal, and whether the first line is at them.
     fn met_at_first(self, alloc: Global) -> Result<Checking<'a>, CheckFault>
         requires ready { IsReady self }
+        requires settled { self.missed ≡ None }
         ensures ready { IfOk result IsReady }
         ensures same_id { OnOk result (self.entry.place.id ≡ self.entry.walk.id) }
         ensures went { IfOk result (λ met. (began : Register) (first place : AnyPlace)
@@ -119,7 +126,7 @@ impl<'a> Checking<'a> {
         ensures went_from { IfOk result (λ met. (copied : Register) (at first place : AnyPlace)
             (R : Register) → self.entry.walk.id ≡ first.id → self.entry.walk.end ≡ end_at first
             → self.entry.from ≡ Some at
-            → (at.id ≡ first.id → Waits copied at first place R self.entry)
+            → (at.id ≡ first.id → Waits copied at first place R self.entry [])
             → CheckedToFrom copied at first place R met []) }
         ensures refused { IfErr result (λ fault. (began : Register) (first place : AnyPlace)
             (R : Register) → self.entry.walk.id ≡ first.id → self.entry.walk.end ≡ end_at first
@@ -129,7 +136,7 @@ impl<'a> Checking<'a> {
             (at first place : AnyPlace) (R : Register) → self.entry.walk.id ≡ first.id
             → self.entry.walk.end ≡ end_at first → self.entry.from ≡ Some at
             → self.entry.place ≡ place
-            → (at.id ≡ first.id → Waits copied at first place R self.entry)
+            → (at.id ≡ first.id → Waits copied at first place R self.entry [])
             → RefusesFrom copied at first [] [] place R fault) }
     {
         if !self.is_of_journal() {
@@ -137,7 +144,7 @@ impl<'a> Checking<'a> {
         }
         let mut checking = self;
         let number = checking.walk.end.turn.last;
-        checking.begin_at(alloc, number)?;
+        checking.begin_at(alloc, number, false)?;
         Ok(checking)
     }
 
@@ -217,6 +224,7 @@ impl<'a> Checking<'a> {
             → IsRefusedFrom copied at first texts place R fault) }
     {
         let mut checking = self;
+        checking.settled()?;
         checking.close(alloc)?;
         if !checking.is_met {
             return Err(CheckFault::TooShort);
@@ -234,14 +242,18 @@ impl<'a> Checking<'a> {
             (R : Register) (entries : List Entry) → self.old.from ≡ None
             → IsAfter first place self.old.walk.end.sum (entry_of line) entries
             → RunsOn began first place R self.old entries
-            → RefusesRun began first (entries ++ entry_of line ∷ []) place R fault) }
+            → RefusesRun began first (entries ++ entry_of line ∷ []) place R fault
+            × Settles (turn_after (entry_of line)) fault) }
         ensures refused_from { IfErr result (λ fault. (copied : Register)
             (at first place : AnyPlace) (R : Register) (before : List Entry)
             → IsAfter first place self.old.walk.end.sum (entry_of line) before
-            → Waits copied at first place R self.old
-            → RefusesFrom copied at first (before ++ entry_of line ∷ []) [] place R fault) }
+            → Waits copied at first place R self.old before
+            → RefusesFrom copied at first (before ++ entry_of line ∷ []) [] place R fault
+            × Settles (turn_after (entry_of line)) fault) }
         ensures passed { OnOk result ((at : AnyPlace) → self.new.from ≡ Some at
-            → NoneHas at.number (entry_of line ∷ [])) }
+            → self.new.missed ≡ None → NoneHas at.number (entry_of line ∷ [])) }
+        ensures settled { OnOk result
+            ((self.old.missed ≡ None) ⊎ (withdraws (entry_of line ∷ []) ≡ true)) }
         ensures ready { OnOk result (IsReady self.new) }
         ensures walk { self.new.walk ≡ self.old.walk }
         ensures begun { self.old.from ≡ None → self.new.from ≡ None }
@@ -256,7 +268,7 @@ impl<'a> Checking<'a> {
         ensures waited { OnOk result ((copied : Register) (at first place : AnyPlace)
             (R : Register) (before : List Entry)
             → IsAfter first place self.old.walk.end.sum (entry_of line) before
-            → Waits copied at first place R self.old
+            → Waits copied at first place R self.old before
             → ComesFrom copied at first place R self.new (before ++ entry_of line ∷ []) []) }
     {
         match &self.from {
@@ -271,21 +283,30 @@ impl<'a> Checking<'a> {
         ensures refused { IfErr result (λ fault. (copied : Register)
             (at first place : AnyPlace) (R : Register) (before : List Entry)
             → IsAfter first place self.old.walk.end.sum (entry_of line) before
-            → Waits copied at first place R self.old
-            → RefusesFrom copied at first (before ++ entry_of line ∷ []) [] place R fault) }
+            → Waits copied at first place R self.old before
+            → RefusesFrom copied at first (before ++ entry_of line ∷ []) [] place R fault
+            × Settles (turn_after (entry_of line)) fault) }
         ensures passed { OnOk result ((at : AnyPlace) → self.new.from ≡ Some at
-            → NoneHas at.number (entry_of line ∷ [])) }
+            → self.new.missed ≡ None → NoneHas at.number (entry_of line ∷ [])) }
+        ensures settled { OnOk result
+            ((self.old.missed ≡ None) ⊎ (withdraws (entry_of line ∷ []) ≡ true)) }
         ensures ready { OnOk result (IsReady self.new) }
         ensures walk { self.new.walk ≡ self.old.walk }
         ensures waited { OnOk result ((copied : Register) (at first place : AnyPlace)
             (R : Register) (before : List Entry)
             → IsAfter first place self.old.walk.end.sum (entry_of line) before
-            → Waits copied at first place R self.old
+            → Waits copied at first place R self.old before
             → ComesFrom copied at first place R self.new (before ++ entry_of line ∷ []) []) }
     {
         match line {
-            Line::Withdrawn(_) => Ok(()),
-            Line::Carried(one) => self.begin_at(alloc, one.receipt.number),
+            Line::Withdrawn(number) => {
+                self.missed = None;
+                self.begin_at(alloc, number, false)
+            }
+            Line::Carried(one) => match self.missed {
+                Some(number) => Err(CheckFault::Differs(number)),
+                None => self.begin_at(alloc, one.receipt.number, is_accepted(&one.reply)),
+            },
         }
     }
 
@@ -297,7 +318,10 @@ impl<'a> Checking<'a> {
             (R : Register) (entries : List Entry)
             → IsAfter first place self.old.walk.end.sum (entry_of line) entries
             → RunsOn began first place R self.old entries
-            → RefusesRun began first (entries ++ entry_of line ∷ []) place R fault) }
+            → RefusesRun began first (entries ++ entry_of line ∷ []) place R fault
+            × Settles (turn_after (entry_of line)) fault) }
+        ensures settled { OnOk result
+            ((self.old.missed ≡ None) ⊎ (withdraws (entry_of line ∷ []) ≡ true)) }
         ensures ready { OnOk result (IsReady self.new) }
         ensures walk { self.new.walk ≡ self.old.walk }
         ensures begun { self.old.from ≡ None → self.new.from ≡ None }
@@ -310,10 +334,13 @@ impl<'a> Checking<'a> {
             → RunsOn began first place R self.old [] → withdraws (entry_of line ∷ []) ≡ false) }
     {
         match line {
-            Line::Withdrawn(number) => self.withdraw(number),
-            Line::Carried(one) => match self.close(alloc) {
-                Ok(()) => self.take_command(alloc, one),
-                Err(fault) => Err(fault),
+            Line::Withdrawn(number) => self.withdraw(alloc, number),
+            Line::Carried(one) => match self.missed {
+                Some(number) => Err(CheckFault::Differs(number)),
+                None => match self.close(alloc) {
+                    Ok(()) => self.take_command(alloc, one),
+                    Err(fault) => Err(fault),
+                },
             },
         }
     }
@@ -323,6 +350,7 @@ impl<'a> Checking<'a> {
     fn take_command(&mut self, alloc: Global, one: Carried) -> Result<(), CheckFault>
         requires ready { IsReady self.old }
         requires closed { self.old.last ≡ None }
+        requires settled { self.old.missed ≡ None }
         requires begun { self.old.from ≡ None }
         ensures refused { IfErr result (λ fault. (began : Register) (first place : AnyPlace)
             (R : Register) (entries : List Entry)
@@ -336,6 +364,7 @@ impl<'a> Checking<'a> {
         ensures from { self.new.from ≡ self.old.from }
         ensures stays { self.old.is_met ≡ true → self.new.is_met ≡ true }
         ensures shut { OnOk result (self.new.last ≡ None → is_accepted (view one.reply) ≡ false) }
+        ensures unopened { OnErr result (is_accepted (view one.reply) ≡ false) }
         ensures went { OnOk result ((began : Register) (first place : AnyPlace) (R : Register)
             (entries : List Entry)
             → IsAfter first place self.old.walk.end.sum
@@ -345,84 +374,152 @@ impl<'a> Checking<'a> {
             ++ carried one.receipt one.command (view one.reply) ∷ [])) }
     {
         let number = one.receipt.number;
+        if is_accepted(&one.reply) {
+            self.take_accepted(one);
+            return Ok(());
+        }
         if !self.is_expected(number) {
             return Err(CheckFault::Differs(number));
-        }
-        if is_accepted(&one.reply) {
-            self.last = Some(one);
-            return Ok(());
         }
         let refused = self.refuse(alloc, one)?;
         self.compare_at(alloc, refused)
     }
 
-    /// A line that withdraws the command of a number. That of a place is none; where no command is
-    /// open, it is that of the copy's place.
-    fn withdraw(&mut self, number: u64) -> Result<(), CheckFault>
-        ensures fault { IfErr result (λ fault. (fault ≡ CheckFault.Differs number)
-            × ((self.old.last ≡ None) ⊎ (number ≡ self.old.place.number))) }
-        ensures others { self.new ≡ record self.old { last = self.new.last } }
-        ensures gone { OnOk result (self.new.last ≡ None) }
-        ensures other { OnOk result
-            ((number ≢ self.old.place.number) × IsSome self.old.last) }
+    /// A command that was accepted, where none is open.
+    fn take_accepted(&mut self, one: Carried)
+        requires settled { self.old.missed ≡ None }
+        ensures last { self.new.last ≡ Some one }
+        ensures others { self.new ≡ record self.old {
+          last = self.new.last;
+          missed = self.new.missed;
+        } }
+        ensures expected { self.new.missed ≡ None → one.receipt.number ≡ self.old.place.number
+            → self.old.place.sum ≡ self.old.walk.end.sum }
+        ensures missed { IfSome self.new.missed (λ number. (number ≡ one.receipt.number)
+            × (number ≡ self.old.place.number) × (self.old.place.sum ≢ self.old.walk.end.sum)) }
     {
-        if self.last.is_none() || number == self.place.number {
+        let number = one.receipt.number;
+        if !self.is_expected(number) {
+            self.missed = Some(number);
+        }
+        self.last = Some(one);
+    }
+
+    /// A line that withdraws the command of a number. Where none is open, it is the one after which
+    /// the run begins, that of the copy's place.
+    fn withdraw(&mut self, alloc: Global, number: u64) -> Result<(), CheckFault>
+        requires ready { IsReady self.old }
+        requires begun { self.old.from ≡ None }
+        ensures refused { IfErr result (λ fault. (began : Register) (first place : AnyPlace)
+            (R : Register) (entries : List Entry)
+            → IsAfter first place self.old.walk.end.sum (withdrawn number) entries
+            → RunsOn began first place R self.old entries
+            → RefusesRun began first (entries ++ withdrawn number ∷ []) place R fault) }
+        ensures ready { OnOk result (IsReady self.new) }
+        ensures walk { self.new.walk ≡ self.old.walk }
+        ensures from { self.new.from ≡ self.old.from }
+        ensures was_open { OnOk result (IsSome self.old.last) }
+        ensures went { OnOk result ((began : Register) (first place : AnyPlace) (R : Register)
+            (entries : List Entry)
+            → IsAfter first place self.old.walk.end.sum (withdrawn number) entries
+            → RunsOn began first place R self.old entries
+            → RunsOn began first place R self.new (entries ++ withdrawn number ∷ [])) }
+    {
+        if self.last.is_none() {
             return Err(CheckFault::Differs(number));
         }
         self.last = None;
-        Ok(())
-    }
-
-    /// At a number before which nothing is run: where the lines come to the copy's place, or begin,
-    /// the register's place may be the same.
-    fn begin_at(&mut self, alloc: Global, number: u64) -> Result<(), CheckFault>
-        ensures refused { IfErr result (λ fault. (began : Register) (first place : AnyPlace)
-            (R : Register) → IsAtCommand first place number self.old.walk.end.sum []
-            → self.old.from ≡ None → RanOver began first place R self.old []
-            → RefusesRun began first [] place R fault) }
-        ensures refused_from { IfErr result (λ fault. (copied : Register)
-            (at first place : AnyPlace) (R : Register) (before : List Entry)
-            → IsAtCommand first place number self.old.walk.end.sum before
-            → Waits copied at first place R self.old
-            → RefusesFrom copied at first before [] place R fault) }
-        ensures passed { OnOk result ((at : AnyPlace) → self.new.from ≡ Some at
-            → number ≢ at.number) }
-        ensures begun { self.old.from ≡ None → self.new.from ≡ None }
-        ensures others { self.new ≡ record self.old {
-          from = self.new.from;
-          is_met = self.new.is_met;
-        } }
-        ensures went { OnOk result ((began : Register) (first place : AnyPlace) (R : Register)
-            → IsAtCommand first place number self.old.walk.end.sum []
-            → self.old.from ≡ None → RanOver began first place R self.old []
-            → RunsOn began first place R self.new []) }
-        ensures waited { OnOk result ((copied : Register) (at first place : AnyPlace)
-            (R : Register) (before : List Entry)
-            → IsAtCommand first place number self.old.walk.end.sum before
-            → Waits copied at first place R self.old
-            → ComesFrom copied at first place R self.new before []) }
-    {
-        if !self.come_to(number) {
-            return Err(CheckFault::Differs(number));
-        }
-        if self.from.is_some() {
-            return Ok(());
-        }
+        self.missed = None;
         if !self.is_expected(number) {
             return Err(CheckFault::Differs(number));
         }
         self.compare_at(alloc, number)
     }
 
+    /// At a number before which nothing is run: where the lines come to the copy's place, or begin,
+    /// the register's place may be the same.
+    fn begin_at(&mut self, alloc: Global, number: u64, is_open: bool) -> Result<(), CheckFault>
+        requires settled { self.old.missed ≡ None }
+        ensures refused { IfErr result (λ fault. (began : Register) (first place : AnyPlace)
+            (R : Register) → IsAt first place number self.old.walk.end.sum []
+            → self.old.from ≡ None → RanOver began first place R self.old []
+            → RefusesRun began first [] place R fault) }
+        ensures refused_from { IfErr result (λ fault. (copied : Register)
+            (at first place : AnyPlace) (R : Register) (before : List Entry)
+            → IsAt first place number self.old.walk.end.sum before
+            → Waits copied at first place R self.old before
+            → RefusesFrom copied at first before [] place R fault) }
+        ensures shut { IfErr result (Settles (record { last = number; is_open = is_open })) }
+        ensures passed { OnOk result ((at : AnyPlace) → self.new.from ≡ Some at
+            → self.new.missed ≡ None → number ≢ at.number) }
+        ensures begun { self.old.from ≡ None → self.new.from ≡ None }
+        ensures others { self.new ≡ record self.old {
+          from = self.new.from;
+          is_met = self.new.is_met;
+          missed = self.new.missed;
+        } }
+        ensures went { OnOk result ((began : Register) (first place : AnyPlace) (R : Register)
+            → IsAt first place number self.old.walk.end.sum []
+            → self.old.from ≡ None → RanOver began first place R self.old []
+            → RunsOn began first place R self.new []) }
+        ensures waited { OnOk result ((copied : Register) (at first place : AnyPlace)
+            (R : Register) (before : List Entry)
+            → IsAt first place number self.old.walk.end.sum before
+            → Waits copied at first place R self.old before
+            → ComesFrom copied at first place R self.new before []) }
+    {
+        if !self.come_to(number) {
+            return self.miss(number, is_open);
+        }
+        if self.from.is_some() {
+            return Ok(());
+        }
+        if !self.is_expected(number) {
+            return self.miss(number, is_open);
+        }
+        self.compare_at(alloc, number)
+    }
+
+    /// At the number of a place, where the sum is another: if the command is open, the next line
+    /// may withdraw it.
+    fn miss(&mut self, number: u64, is_open: bool) -> Result<(), CheckFault>
+        ensures others { self.new ≡ record self.old { missed = self.new.missed } }
+        ensures missed { OnOk result ((is_open ≡ true) × (self.new.missed ≡ Some number)) }
+        ensures fault { IfErr result (λ fault. (fault ≡ CheckFault.Differs number)
+            × (is_open ≡ false)) }
+    {
+        if is_open {
+            self.missed = Some(number);
+            Ok(())
+        } else {
+            Err(CheckFault::Differs(number))
+        }
+    }
+
+    /// Refuses, where the sum at a place was another and no line withdrew the command there.
+    fn settled(&self) -> Result<(), CheckFault>
+        ensures none { OnOk result (self.now.missed ≡ None) }
+        ensures some { IfErr result (λ fault. (number : ℕ) × (self.now.missed ≡ Some number)
+            × (fault ≡ CheckFault.Differs number)) }
+    {
+        match self.missed {
+            None => Ok(()),
+            Some(number) => Err(CheckFault::Differs(number)),
+        }
+    }
+
     /// Carries out the open command, if there is one, and looks at its reply; and compares the
     /// tables, if it is that of the register's place.
     fn close(&mut self, alloc: Global) -> Result<(), CheckFault>
-        requires { IsReady self.old }
+        requires ready { IsReady self.old }
+        requires settled { self.old.missed ≡ None }
         ensures refused { IfErr result (λ fault. (began : Register) (first place : AnyPlace)
             (R : Register) (entries : List Entry) → self.old.from ≡ None
             → RanOver began first place R self.old entries
             → RefusesRun began first entries place R fault) }
         ensures some { OnErr result (IsSome self.old.last) }
+        ensures shut { IfErr result (λ fault. (turn : Turn) → Settles turn fault) }
+        ensures missed { self.new.missed ≡ self.old.missed }
         ensures stays { self.old.is_met ≡ true → self.new.is_met ≡ true }
         ensures ready { OnOk result (IsReady self.new) }
         ensures closed { self.new.last ≡ None }
@@ -510,6 +607,7 @@ impl<'a> Checking<'a> {
         ensures other { result ≡ false → (at : AnyPlace) → self.old.from ≡ Some at
             → (number ≡ at.number) × (at.sum ≢ self.old.walk.end.sum) }
         ensures some { result ≡ false → IsSome self.old.from }
+        ensures stays { result ≡ false → self.new.from ≡ self.old.from }
         ensures others { self.new ≡ record self.old { from = self.new.from } }
     {
         let Some(from) = &self.from else {
@@ -561,6 +659,8 @@ impl<'a> Checking<'a> {
             → (number ≡ self.old.place.number) × (self.old.from ≡ None)
             × (tables_of self.old.book.now.register
             ≡ tables_of self.old.desk.book.register)) }
+        ensures same { OnOk result (number ≡ self.old.place.number → self.old.from ≡ None
+            → tables_of self.old.book.now.register ≡ tables_of self.old.desk.book.register) }
         ensures others { self.new ≡ record self.old { is_met = self.new.is_met } }
         ensures stays { self.old.is_met ≡ true → self.new.is_met ≡ true }
     {

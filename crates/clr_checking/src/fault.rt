@@ -14,7 +14,8 @@ pub enum CheckFault {
     BadLine(u64),
     /// The command of this number has another reply in the run than in its line.
     Reply(u64),
-    /// At this number, that of a place, the journal has another sum, or withdraws the command.
+    /// After the last line of this number, that of a place, the journal has another sum; or it
+    /// withdraws the command that the copy is at.
     Differs(u64),
     /// The tables of the register differ, first in this row.
     Tables(Difference),

@@ -1,5 +1,6 @@
 -- Why a register was not found to be what its journal says, part by part.
 use Rattle.std.proofs.Common.{◌≡◌, ◌≢◌, ◌∙◌, ◌⊎◌, ap, inl, inr, refl, subst, sym, ℕ, false, true, List, [], ◌∷◌, ◌++◌, append_assoc, append-nil, Result, Ok, Err}
+use Rattle.std.proofs.lemmas.Bool.{true≢false}
 use Rattle.std.specs.Borrow.{Bor}
 use Rattle.std.specs.Prelude.{IfErr, IfOk, IfSome, IsErrAnd, None, Option, Some, String, Vec, string_bytes}
 use Rattle.std.specs.declared.alloc.Global.{Global}
@@ -24,7 +25,7 @@ use Rattle.clr_checking.specs.declared.fault.CheckFault.TheVariants.{BadLine, Di
 use Rattle.clr_commands.specs.Journal.{FailsAny, all_known}
 use Rattle.clr_commands.specs.Parts.{Breaks, BreaksAfter, FailsLater, FirstIs, IsNoFirst, IsNoNext, IsOfReading, IsOpened, IsUnreadOr, IsUnreadPart, ReadsLine, walked}
 use Rattle.clr_commands.specs.Paths.{AtPaths, at_paths}
-use Rattle.clr_commands.specs.Verify.{AreOthers, AreRefused, BeginOn, BeginsWith, Checks, ChecksAll, ChecksFrom, FailsFrom, FailsSome, GoOn, HasLines, IsNo, IsOfFiles, IsRefusedBy, IsRefusedIn, IsWhole, RefusesAll, RefusesPart, RefusesSome, of_check}
+use Rattle.clr_commands.specs.Verify.{AreOthers, AreRefused, BeginOn, BeginsWith, Checks, ChecksAll, ChecksFrom, FailsFrom, FailsSome, GoOn, HasLines, IsNo, IsOfEnd, IsOfFiles, IsRefusedBy, IsRefusedIn, IsWhole, RefusesAll, RefusesPart, RefusesSome, of_check}
 use Rattle.clr_commands.proofs.BrokenParts.{first_breaks, next_breaks, not_next}
 use Rattle.clr_commands.proofs.CheckedParts.{CheckedLines, CheckedParts, Known, begin_on-none, begin_on-part, begins_at, checks_yes, checks_yes_from, go_on-none}
 use Rattle.clr_commands.proofs.PartLines.{before-more, before-some, known-next, later-part}
@@ -45,22 +46,23 @@ abbrev IsNotMemory : CheckFault → Type 0
 IsNotMemory cause = cause ≡ NoMemory → ⊥
 
 as_refused : (first : Place) (texts : List (List ℕ)) (text : List ℕ) (Is : CheckFault → Type 0) (cause : CheckFault) → IsNotMemory cause
-    → RefusesLine first texts text Is cause → (cause ≢ TooShort) × AreRefused first (texts ++ text ∷ []) Is cause
-as_refused first texts text Is OtherRegister other is = (λ same. cc same, inl is)
-as_refused first texts text Is (BadLine n) other is = (λ same. cc same, inr (texts, text, n, refl, refl, is))
-as_refused first texts text Is (Reply n) other is = (λ same. cc same, inl is)
-as_refused first texts text Is (Differs n) other is = (λ same. cc same, inl is)
-as_refused first texts text Is (Tables found) other is = (λ same. cc same, inl is)
+    → RefusesLine first texts text Is cause → (IsOfEnd first (texts ++ text ∷ []) cause → ⊥) × AreRefused first (texts ++ text ∷ []) Is cause
+as_refused first texts text Is OtherRegister other is = (λ never. never, inl is)
+as_refused first texts text Is (BadLine n) other is = (λ never. never, inr (texts, text, n, refl, refl, is))
+as_refused first texts text Is (Reply n) other is = (λ never. never, inl is)
+as_refused first texts text Is (Differs n) other is = (λ of_end. absurd (true≢false (sym of_end.1 ∙ is.1 of_end.0)), inl is.0)
+as_refused first texts text Is (Tables found) other is = (λ never. never, inl is)
 as_refused first texts text Is TooShort other is = absurd is
 as_refused first texts text Is NoMemory other is = absurd (other refl)
 
 module _ (left now next : Option (List ℕ)) (old it : Checking) (text : Vec ℕ Global) (seen : List ℕ) (same : seen ≡ text.items) (had : CheckedLines left now old it)
     (reads : IfSome now (ReadsLine (Some text) next)) where
   to_more : (Is : List (List ℕ) → CheckFault → Type 0) (first : Place) (texts : List (List ℕ)) (cause : CheckFault)
-      → (cause ≢ TooShort) × AreRefused first ((texts ++ had.lines) ++ seen ∷ []) (Is ((texts ++ had.lines) ++ seen ∷ [])) cause
-      → (cause ≢ TooShort) × AreRefused first (texts ++ (had.lines ++ text.items ∷ [])) (Is (texts ++ (had.lines ++ text.items ∷ []))) cause
+      → (IsOfEnd first ((texts ++ had.lines) ++ seen ∷ []) cause → ⊥) × AreRefused first ((texts ++ had.lines) ++ seen ∷ []) (Is ((texts ++ had.lines) ++ seen ∷ [])) cause
+      → (IsOfEnd first (texts ++ (had.lines ++ text.items ∷ [])) cause → ⊥)
+      × AreRefused first (texts ++ (had.lines ++ text.items ∷ [])) (Is (texts ++ (had.lines ++ text.items ∷ []))) cause
   to_more Is first texts cause is =
-      subst (λ (l : List (List ℕ)). (cause ≢ TooShort) × AreRefused first l (Is l) cause)
+      subst (λ (l : List (List ℕ)). (IsOfEnd first l cause → ⊥) × AreRefused first l (Is l) cause)
       (ap (λ (t : List ℕ). (texts ++ had.lines) ++ t ∷ []) same ∙ append_assoc texts had.lines (text.items ∷ [])) is
 
   line_kept : (cause : CheckFault) → IsNotMemory cause → RefusesText it seen cause → RefusesTextFrom it seen cause
@@ -156,15 +158,15 @@ module _ (first : Option (List ℕ)) (all left : Option (List (List ℕ))) (old 
             cause = is.cause;
             fault_is = is.fault_is;
             why = λ began place R S was.
-                let no = is.why began place R S (ended_lines file ++ more) (went began place R S (ended_lines file ++ more) (to began place R S was)) in (
-                  λ short. absurd (no.0 short),
-                  subst (λ (l : List (List ℕ)). AreRefused place l (IsRefused began place l R S) is.cause) (append_assoc (ended_lines file) more is.lines) no.1,
-                );
+                let no = subst (λ (l : List (List ℕ)). (IsOfEnd place l is.cause → ⊥) × AreRefused place l (IsRefused began place l R S) is.cause)
+                (append_assoc (ended_lines file) more is.lines)
+                (is.why began place R S (ended_lines file ++ more) (went began place R S (ended_lines file ++ more) (to began place R S was))) in
+                (λ of_end. absurd (no.0 of_end), no.1);
             why_from = λ copied at place R S was.
-                let no = is.why_from copied at place R S (ended_lines file ++ more) (went_from copied at place R S (ended_lines file ++ more) (to_from copied at place R S was)) in (
-                  λ short. absurd (no.0 short),
-                  subst (λ (l : List (List ℕ)). AreRefused place l (IsRefusedFrom copied at place l R S) is.cause) (append_assoc (ended_lines file) more is.lines) no.1,
-                );
+                let no = subst (λ (l : List (List ℕ)). (IsOfEnd place l is.cause → ⊥) × AreRefused place l (IsRefusedFrom copied at place l R S) is.cause)
+                (append_assoc (ended_lines file) more is.lines)
+                (is.why_from copied at place R S (ended_lines file ++ more) (went_from copied at place R S (ended_lines file ++ more) (to_from copied at place R S was))) in
+                (λ of_end. absurd (no.0 of_end), no.1);
           }
 
   -- all were read, and there is no yes
@@ -198,8 +200,8 @@ module _ (first : Option (List ℕ)) (all left : Option (List (List ℕ))) (old 
             );
             cause = cause;
             fault_is = refl;
-            why = λ began place R S was. (λ short. all_read, inl (why began place R S (ended_lines file ++ more) (to began place R S was)));
-            why_from = λ copied at place R S was. (λ short. all_read, inl (why_from copied at place R S (ended_lines file ++ more) (to_from copied at place R S was)));
+            why = λ began place R S was. (λ of_end. all_read, inl (why began place R S (ended_lines file ++ more) (to began place R S was)));
+            why_from = λ copied at place R S was. (λ of_end. all_read, inl (why_from copied at place R S (ended_lines file ++ more) (to_from copied at place R S was)));
           }
 
   -- a further part is refused by its first line
@@ -260,15 +262,13 @@ first_refused (Some file) (Some parts) it fault is = record {
   cause = is.cause;
   fault_is = is.fault_is;
   why = λ began place R S was.
-      let no = is.why began place R S [] was in (
-        λ short. absurd (no.0 short),
-        subst (λ (l : List (List ℕ)). AreRefused place l (IsRefused began place l R S) is.cause) (sym (append-nil is.lines)) no.1,
-      );
+      let no = subst (λ (l : List (List ℕ)). (IsOfEnd place l is.cause → ⊥) × AreRefused place l (IsRefused began place l R S) is.cause) (sym (append-nil is.lines))
+      (is.why began place R S [] was) in
+      (λ of_end. absurd (no.0 of_end), no.1);
   why_from = λ copied at place R S was.
-      let no = is.why_from copied at place R S [] was in (
-        λ short. absurd (no.0 short),
-        subst (λ (l : List (List ℕ)). AreRefused place l (IsRefusedFrom copied at place l R S) is.cause) (sym (append-nil is.lines)) no.1,
-      );
+      let no = subst (λ (l : List (List ℕ)). (IsOfEnd place l is.cause → ⊥) × AreRefused place l (IsRefusedFrom copied at place l R S) is.cause) (sym (append-nil is.lines))
+      (is.why_from copied at place R S [] was) in
+      (λ of_end. absurd (no.0 of_end), no.1);
 }
 
 -- what is passed on
@@ -395,7 +395,7 @@ module _ (one after : List ℕ) (parts : List (List ℕ)) (first place : Place) 
         texts_are = refl;
       }
 
-  no_of : (IsAt : Place → List (List ℕ) → CheckFault → Type 0) → (is.cause ≡ TooShort → IsWhole it is.had is.after is.more parts)
+  no_of : (IsAt : Place → List (List ℕ) → CheckFault → Type 0) → (IsOfEnd first (is.had ++ is.more) is.cause → IsWhole it is.had is.after is.more parts)
       × AreRefused first (is.had ++ is.more) (IsAt first (is.had ++ is.more)) is.cause → IsNo one parts IsAt fault
   no_of IsAt refused = record {
     first = first;
@@ -404,7 +404,7 @@ module _ (one after : List ℕ) (parts : List (List ℕ)) (first place : Place) 
     cause = is.cause;
     fault_is = is.fault_is;
     refused = refused.1;
-    whole = λ short. has_all (refused.0 short);
+    whole = λ of_end. has_all (refused.0 of_end);
   }
 
   pub is_no : (began R : Register) → CheckedTo began first place R it [] → IsNo one parts (λ first texts. IsRefused began first texts place R) fault
@@ -472,6 +472,17 @@ nothing_read : (first : Place) → AreLines first [] []
 unfolding read_on
 nothing_read first = record { read = refl; all = refl }
 
+-- where no line was read, none is open
+never_end : (first : Place) (cause : CheckFault) → (cause ≡ TooShort → ⊥) → IsOfEnd first [] cause → ⊥
+unfolding read_on
+never_end first OtherRegister short of_end = of_end
+never_end first (BadLine n) short of_end = of_end
+never_end first (Reply n) short of_end = of_end
+never_end first (Differs n) short of_end = true≢false (sym of_end.1)
+never_end first (Tables found) short of_end = of_end
+never_end first TooShort short of_end = short refl
+never_end first NoMemory short of_end = of_end
+
 first_front : (one after : List ℕ) (parts : List (List ℕ)) (first : Place) → FirstIs first (Some after) one → BeginsWith one parts first []
 first_front one after parts first begins = record {
   text = begins.0;
@@ -498,7 +509,7 @@ checks_first files began R (Some one) (Some after) (Some parts) first place resu
       cause = cause;
       fault_is = refl;
       refused = inl (record { entries = []; lines = nothing_read first; cause = inl why });
-      whole = λ short. absurd (subst (λ (f : CheckFault). RefusesRun began first [] place R f) short why);
+      whole = λ of_end. absurd (never_end first cause (λ short. subst (λ (f : CheckFault). RefusesRun began first [] place R f) short why) of_end);
     }))))
 
 never_short : (copied R : Register) (at first place : Place) (cause : CheckFault) → RefusesFrom copied at first [] [] place R cause → cause ≡ TooShort → ⊥
@@ -519,7 +530,7 @@ checks_first_from copied R at (Some one) (Some after) (Some parts) first place r
       cause = cause;
       fault_is = refl;
       refused = inl (record { before = []; entries = []; lines = nothing_read first; cause = inl why });
-      whole = λ short. absurd (never_short copied R at first place cause why short);
+      whole = λ of_end. absurd (never_end first cause (never_short copied R at first place cause why) of_end);
     })))
 
 -- a further part is refused by its first line

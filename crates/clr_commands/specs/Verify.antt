@@ -3,7 +3,7 @@
 use Rattle.std.specs.Prelude.{◌≡◌, ◌≢◌, ◌⊎◌, ℕ, true, List, [], ◌∷◌, ◌++◌, None, Option, Some}
 use Rattle.std.specs.Prelude.{Result, Ok, Err}
 use Rattle.std.specs.Prelude.{IfErr, IfSome, IsSomeAnd, OnErr, String, codes, decimal, map}
-use Rattle.std.specs.Prelude.{slice_get, string_bytes}
+use Rattle.std.specs.Prelude.{slice_get, string_bytes, ⊤}
 use Rattle.std.specs.Borrow.{Bor}
 use Rattle.std.specs.declared.alloc.Global.{Global}
 use Rattle.sqlite.specs.Files.{over_files}
@@ -14,6 +14,7 @@ use Rattle.clr_append.specs.Lines.{ended_lines}
 use Rattle.clr_book.specs.Book.{Shelved}
 use Rattle.clr_rules.specs.Register.{Register}
 use Rattle.clr_place.specs.declared.place.Place.{Place}
+use Rattle.clr_chain.specs.Chain.{read_on}
 use Rattle.clr_chain.specs.First.{end_at, read_first}
 use Rattle.clr_chain.specs.Sums.{Files, first_sum}
 use Rattle.clr_chain.specs.Walking.{part_of}
@@ -145,8 +146,20 @@ abbrev pub AreRefused : Place → List (List ℕ) → (CheckFault → Type 0) �
 AreRefused first texts Is cause = Is cause ⊎ ((had : List (List ℕ)) × (text : List ℕ) × (n : ℕ)
     × (texts ≡ had ++ text ∷ []) × (cause ≡ check.BadLine n) × IsBadAfter first had text n)
 
--- WHY THERE IS NO YES of a journal: of its lines as far as they were read; of all of them, where one
--- has no place
+-- only the end of all lines shows it: no line has a place; or at the last one, which may be
+-- withdrawn, the sum of a place is another
+abbrev pub IsOfEnd : Place → List (List ℕ) → CheckFault → Type 0
+IsOfEnd first texts check.OtherRegister = ⊥
+IsOfEnd first texts (check.BadLine n) = ⊥
+IsOfEnd first texts (check.Reply n) = ⊥
+IsOfEnd first texts (check.Differs n) = ((read_on (end_at first) texts).end.turn.last ≡ n)
+    × ((read_on (end_at first) texts).end.turn.is_open ≡ true)
+IsOfEnd first texts (check.Tables found) = ⊥
+IsOfEnd first texts check.TooShort = ⊤
+IsOfEnd first texts check.NoMemory = ⊥
+
+-- WHY THERE IS NO YES of a journal: of its lines as far as they were read; of all of them, where
+-- only their end shows it
 pub record IsNo (one : List ℕ) (parts : List (List ℕ))
     (Is : Place → List (List ℕ) → CheckFault → Type 0) (fault : Fault) : Type 0 where
   pub first : Place
@@ -155,7 +168,7 @@ pub record IsNo (one : List ℕ) (parts : List (List ℕ))
   pub cause : CheckFault
   pub fault_is : fault ≡ of_check cause
   pub refused : AreRefused first texts (Is first texts) cause
-  pub whole : cause ≡ check.TooShort → HasLines one parts first texts
+  pub whole : IsOfEnd first texts cause → HasLines one parts first texts
 
 -- its first line is not of these files
 pub record IsOfOthers (files : Files) (one : List ℕ) (fault : Fault) : Type 0 where
@@ -175,11 +188,11 @@ pub record RefusesPart (it : Checking) (bytes : List ℕ) (fault : Fault) : Type
   pub cause : CheckFault
   pub fault_is : fault ≡ of_check cause
   pub why : (began : Register) (first place : Place) (R : Register) (texts : List (List ℕ))
-      → CheckedTo began first place R it texts → (cause ≢ check.TooShort)
+      → CheckedTo began first place R it texts → (IsOfEnd first (texts ++ lines) cause → ⊥)
       × AreRefused first (texts ++ lines) (IsRefused began first (texts ++ lines) place R) cause
   pub why_from : (copied : Register) (at first place : Place) (R : Register)
       (texts : List (List ℕ)) → CheckedToFrom copied at first place R it texts
-      → (cause ≢ check.TooShort) × AreRefused first (texts ++ lines)
+      → (IsOfEnd first (texts ++ lines) cause → ⊥) × AreRefused first (texts ++ lines)
       (IsRefusedFrom copied at first (texts ++ lines) place R) cause
 
 -- they are all lines
@@ -198,12 +211,13 @@ pub record RefusesAll (it : Checking) (lines parts : List (List ℕ)) (fault : F
   pub cause : CheckFault
   pub fault_is : fault ≡ of_check cause
   pub why : (began : Register) (first place : Place) (R : Register)
-      → CheckedTo began first place R it [] → (cause ≡ check.TooShort → IsWhole it had after more parts)
+      → CheckedTo began first place R it []
+      → (IsOfEnd first (had ++ more) cause → IsWhole it had after more parts)
       × AreRefused first (had ++ more) (IsRefused began first (had ++ more) place R) cause
   pub why_from : (copied : Register) (at first place : Place) (R : Register)
       → CheckedToFrom copied at first place R it []
-      → (cause ≡ check.TooShort → IsWhole it had after more parts) × AreRefused first (had ++ more)
-      (IsRefusedFrom copied at first (had ++ more) place R) cause
+      → (IsOfEnd first (had ++ more) cause → IsWhole it had after more parts)
+      × AreRefused first (had ++ more) (IsRefusedFrom copied at first (had ++ more) place R) cause
 
 -- why a part was not checked: it was not read, or a line of it is refused
 abbrev pub IsRefusedIn : Checking → Option (List ℕ) → Fault → Type 0

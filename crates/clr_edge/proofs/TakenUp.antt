@@ -169,7 +169,7 @@ module _ {M J C T : Type 0} (g : Ghosts T) (logs : Logs M J C) (path : List ℕ)
   -- it was given the journal that was opened at its place
   pub given_by : (clock : C) (it : Keeper (Held T) J C) (S : Register) → logs.steps.opens_journal old path place opened ahead new → logs.steps.has_time new clock
       → logs.log.found opened ≡ logs.log.text opened → it.journal ≡ opened → it.clock ≡ clock → it.login ≡ None → it.last ≡ Settled
-      → Keeps (state g read) X (state g it.keeper) S → (IsGood X → RollsForward g read X place (entries_of ahead) S)
+      → Keeps (state g read) X (state g it.keeper) S → (IsGood X → RollsForward g read X place (entries_of ahead) it S)
       → OpensLevel g logs.log.text read X place (entries_of ahead) it S
       → (HasText logs.log.text logs.log.found it.journal → OpensSound logs it)
       → IsGiven g logs path old new desk R it S

@@ -126,11 +126,12 @@ abbrev pub OpensSound : {M J C K : Type 0} → Logs M J C → Keeper K J C → T
 OpensSound logs it = IsSound logs.log.text logs.log.found logs.log.may_leave it
 
 -- AND WHAT WAS ACCEPTED AFTER THE PLACE, and not withdrawn, was carried out with these replies,
--- whatever came before it
-abbrev pub RollsForward : {T : Type 0} → Ghosts T → Held T → Register → Place → List Entry
-    → Register → Type 0
-RollsForward g opened R place lines S = withdraws lines ≡ false → AreShallow lines
-    → IsAt store_place (state g opened) place → IsRunOf R (carried_out lines) S
+-- whatever came before it; and the place is where the journal has come to
+abbrev pub RollsForward : {T J C : Type 0} → Ghosts T → Held T → Register → Place → List Entry
+    → Keeper (Held T) J C → Register → Type 0
+RollsForward g opened R place lines it S = withdraws lines ≡ false → AreShallow lines
+    → IsAt store_place (state g opened) place
+    → IsRunOf R (carried_out lines) S × IsAt store_place (state g it.keeper) it.at
 
 -- ---- the same over a desk, whose register was read before
 
@@ -174,7 +175,7 @@ pub record IsGiven {M J C T : Type 0} (g : Ghosts T) (logs : Logs M J C) (path :
   pub unheard : it.login ≡ None
   pub settled : it.last ≡ Settled
   pub kept : Keeps (state g read) R (state g it.keeper) S
-  pub rolled : IsGood R → RollsForward g read R place (entries_of ahead) S
+  pub rolled : IsGood R → RollsForward g read R place (entries_of ahead) it S
   pub level : OpensLevel g logs.log.text read R place (entries_of ahead) it S
   pub sound : OpensSound logs it
 
@@ -211,7 +212,8 @@ pub record IsTakenUp {M J C T : Type 0} (g : Ghosts T) (logs : Logs M J C) (path
   pub timed : logs.steps.has_time new it.clock
   pub unheard : it.login ≡ None
   pub settled : it.last ≡ Settled
-  pub rolled : RollsForward g (IsKept.opened kept) (IsKept.first kept) place (entries_of ahead) S
+  pub rolled : RollsForward g (IsKept.opened kept) (IsKept.first kept) place (entries_of ahead)
+      it S
   pub level : OpensLevel g logs.log.text (IsKept.opened kept) (IsKept.first kept) place
       (entries_of ahead) it S
   pub sound : OpensSound logs it

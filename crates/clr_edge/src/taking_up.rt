@@ -268,7 +268,8 @@ fn taken_up<S: Alter + Drop, J: Journal + Drop, C: Clock>(
     ensures sound { IfOk result (λ taken. HasText J.text J.found taken.store.journal
         → IsSound J.text J.found J.may_leave taken.store) }
     ensures rolled { IfOk result (λ taken. IsGood desk.book.register → RollsForward S.Store
-        desk.store desk.book.register place (entries_of opened.ahead) taken.book.register) }
+        desk.store desk.book.register place (entries_of opened.ahead) taken.store
+        taken.book.register) }
     ensures kept { IfOk result (λ taken. Keeps (state S.Store desk.store) desk.book.register
         (state S.Store taken.store.keeper) taken.book.register) }
     ensures stops { IfErr result (λ back. IsGood desk.book.register

@@ -12,7 +12,7 @@ pub begun_level : (has_place : Placing) (s : State) → BegunIsLevel has_place s
 unfolding carried_out after_all replies in_turn
 begun_level has_place s R start at = record {
   entries = [];
-  level = record { had = []; more = []; all = refl; turns = refl; is_at = refl; at_command = refl; kept = refl; run = record { register = refl; replied = refl } };
+  level = record { had = []; more = []; all = refl; turns = refl; is_at = refl; kept = refl; run = record { register = refl; replied = refl } };
   text_is = sym (append-nil (with_feed (first_text start)));
   more_is = refl;
   placed = at;

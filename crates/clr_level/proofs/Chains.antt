@@ -19,7 +19,7 @@ use Rattle.clr_journal.proofs.JournalsRead.{commands_grow}
 use Rattle.clr_place.specs.declared.place.Place.{Place}
 use Rattle.clr_chain.specs.Chain.{chain_text, link_texts}
 use Rattle.clr_chain.specs.First.{first_text, first_turn_at}
-use Rattle.clr_chain.specs.Level.{IsRunOf, ends_with_command, is_command, place_after, place_with}
+use Rattle.clr_chain.specs.Level.{IsRunOf, place_after, place_with}
 use Rattle.clr_chain.specs.Link.{link_text}
 use Rattle.clr_chain.specs.Sums.{sum_after, sum_behind}
 use Rattle.clr_level.specs.Journaling.{with_link}
@@ -100,17 +100,6 @@ kept_on [] (carried receipt q reply) ys kept = refl
 kept_on [] (withdrawn n) ys kept = kept
 kept_on (carried receipt q reply ∷ xs) entry ys kept = refl
 kept_on (withdrawn n ∷ xs) entry ys kept = kept
-
-pub ends_so : (xs : List Entry) (entry : Entry) → is_command entry ≡ true → ends_with_command (xs ++ entry ∷ []) ≡ true
-ends_so [] entry is = is
-ends_so (x ∷ []) entry is = is
-ends_so (x ∷ y ∷ xs) entry is = ends_so (y ∷ xs) entry is
-
-pub ends_on : (xs ys : List Entry) → ends_with_command xs ≡ true → ends_with_command ys ≡ true → ends_with_command (xs ++ ys) ≡ true
-ends_on [] ys one two = two
-ends_on (x ∷ []) [] one two = one
-ends_on (x ∷ []) (y ∷ ys) one two = two
-ends_on (x ∷ y ∷ xs) ys one two = ends_on (y ∷ xs) ys one two
 
 -- ---- what was carried out
 

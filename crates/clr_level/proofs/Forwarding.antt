@@ -20,18 +20,18 @@ use Rattle.clr_journal.specs.declared.line.Carried.{Carried}
 use Rattle.clr_journal.specs.declared.line.Line.{Line}
 use Rattle.clr_journal.specs.declared.line.Line.TheVariants as line
 use Rattle.clr_journal.proofs.JournalsRead.{withdrawn_is_left_out}
-use Rattle.clr_chain.specs.Level.{IsRunOf, ends_with_command, place_after, place_with}
+use Rattle.clr_chain.specs.Level.{IsRunOf, place_after, place_with}
 use Rattle.clr_chain.proofs.LevelKept.{carried_out-append}
 use Rattle.clr_desk.specs.Given.{LeadsTo}
 use Rattle.clr_desk.specs.Taking.{Hearing, Taking}
 use Rattle.clr_desk.specs.declared.desk.Desk.{Desk}
 use Rattle.clr_desk.proofs.Givings.{leads_itself}
-use Rattle.clr_level.specs.Forward.{AreAnswered, AreShallow, HasCome, HasStopped, IsAccepted, StopsAt, Went, entry_with, open_after, open_entries, opened_by}
+use Rattle.clr_level.specs.Forward.{AreAnswered, AreShallow, Arrives, HasCome, HasStopped, IsAccepted, StopsAt, Went, entry_with, open_after, open_entries, opened_by}
 use Rattle.clr_desk.specs.Placing.{Placing}
 use Rattle.clr_level.specs.Placing.{ComesTo, IsAt, StaysShown}
 use Rattle.clr_level.specs.declared.fault.OpeningFault.{OpeningFault}
 use Rattle.clr_level.proofs.Accepting.{accepted_data}
-use Rattle.clr_level.proofs.Chains.{accepted_out, ends_so, front_kept, no_run, place_more, refused_out, reply_in_run, run_more, withdrawn_out}
+use Rattle.clr_level.proofs.Chains.{accepted_out, front_kept, no_run, place_more, refused_out, reply_in_run, run_more, withdrawn_out}
 use Rattle.clr_level.proofs.Places.{at_moves, at_stays}
 
 -- a run leaves a good register good
@@ -51,7 +51,6 @@ module _ (has_place : Placing) (R : Register) (place : Place) (lines : List Entr
     had = [];
     idle = [];
     all_is = refl;
-    at_command = refl;
     begins = kept;
     none = refl;
     accepted = tt;
@@ -60,6 +59,12 @@ module _ (has_place : Placing) (R : Register) (place : Place) (lines : List Entr
     placed = at;
     shallow = shallow;
   }
+
+  -- where there is none
+  pub begun_there : (s : State) → lines ≡ [] → withdraws lines ≡ false → AreShallow lines → IsAt has_place s place
+      → HasCome has_place R place lines R s place None [] × IsAt has_place s place
+  begun_there s none kept shallow at =
+      (subst (λ es. HasCome has_place R place lines R s place None es) none (begun s kept shallow at), at)
 
   -- ---- a line more
 
@@ -84,7 +89,6 @@ module _ (has_place : Placing) (R : Register) (place : Place) (lines : List Entr
         had = come.had;
         idle = idle;
         all_is = come.all_is ∙ regrouped come.had before (idle ++ open_entries next) rest entry is;
-        at_command = come.at_command;
         begins = ap withdraws (ap (λ es. es ++ rest) is ∙ append_assoc before (entry ∷ []) rest) ∙ come.begins;
         none = none;
         accepted = accepted;
@@ -143,7 +147,7 @@ module _ (has_place : Placing) (R : Register) (place : Place) (lines : List Entr
 
   pub carried_on : (S T : Register) (s t : State) (at : Place) (one : Carried) (rest : List Entry) → HasCome has_place R place lines S s at (Some one) rest
       → withdraws rest ≡ false → view one.reply ≡ reply_data (Answer.reply (answer S one.command)) → T ≡ after S one.command → ComesTo has_place s t at
-      → HasCome has_place R place lines T t at None rest
+      → HasCome has_place R place lines T t at None rest × IsAt has_place t at
   unfolding carried_out
   carried_on S T s t at one rest come kept is went comes =
       let entry = entry_of (line.Carried one) in
@@ -152,21 +156,50 @@ module _ (has_place : Placing) (R : Register) (place : Place) (lines : List Entr
       carried_out-append come.had now (front_kept now rest come.begins)
       ∙ ap (λ es. carried_out come.had ++ es) (accepted_out come.idle one.receipt one.command (view one.reply) come.none come.accepted)
       ∙ ap (λ (d : Data). carried_out come.had ++ (one.command, d) ∷ []) is in
-      record {
-        had = come.had ++ now;
-        idle = [];
-        all_is = come.all_is ∙ whole come.had come.idle rest entry;
-        at_command = ap ends_with_command (sym (append_assoc come.had come.idle (entry ∷ []))) ∙ ends_so (come.had ++ come.idle) entry refl;
-        begins = kept;
-        none = refl;
-        accepted = tt;
-        run = subst (λ (X : Register). IsRunOf R (carried_out (come.had ++ now)) X) (sym went)
-            (subst (λ pairs. IsRunOf R pairs (after S one.command)) (sym pairs)
-            (run_more R S (carried_out come.had) one.command come.run));
-        at_is = come.at_is ∙ ap (place_after place) (sym (append-nil (come.had ++ now)));
-        placed = subst (IsAt has_place t) come.at_is (at_moves has_place s t (place_after place come.had) at come.placed comes);
-        shallow = come.shallow.1;
-      }
+      let here : IsAt has_place t at = at_moves has_place s t (place_after place come.had) at come.placed comes in (
+        record {
+          had = come.had ++ now;
+          idle = [];
+          all_is = come.all_is ∙ whole come.had come.idle rest entry;
+          begins = kept;
+          none = refl;
+          accepted = tt;
+          run = subst (λ (X : Register). IsRunOf R (carried_out (come.had ++ now)) X) (sym went)
+              (subst (λ pairs. IsRunOf R pairs (after S one.command)) (sym pairs)
+              (run_more R S (carried_out come.had) one.command come.run));
+          at_is = come.at_is ∙ ap (place_after place) (sym (append-nil (come.had ++ now)));
+          placed = subst (IsAt has_place t) come.at_is here;
+          shallow = come.shallow.1;
+        },
+        here,
+      )
+
+  -- ---- the place moved over idle lines
+
+  pub moved_on : (S T : Register) (s t : State) (at : Place) → HasCome has_place R place lines S s at None [] → T ≡ S → ComesTo has_place s t at
+      → HasCome has_place R place lines T t at None [] × IsAt has_place t at
+  unfolding carried_out
+  moved_on S T s t at come same comes =
+      let here : IsAt has_place t at = at_moves has_place s t (place_after place come.had) at come.placed comes in
+      let none : (come.idle ++ []) ++ [] ≡ come.idle = append-nil (come.idle ++ []) ∙ append-nil come.idle in
+      let kept : withdraws come.idle ≡ false = ap withdraws (sym none) ∙ come.begins in
+      let pairs : carried_out (come.had ++ come.idle) ≡ carried_out come.had =
+      carried_out-append come.had come.idle kept ∙ ap (λ ps. carried_out come.had ++ ps) come.none ∙ append-nil (carried_out come.had) in
+      let end_is : at ≡ place_after place (come.had ++ come.idle) = come.at_is ∙ ap (λ es. place_after place (come.had ++ es)) (append-nil come.idle) in (
+        record {
+          had = come.had ++ come.idle;
+          idle = [];
+          all_is = come.all_is ∙ ap (λ es. come.had ++ es) none ∙ sym (append-nil (come.had ++ come.idle));
+          begins = refl;
+          none = refl;
+          accepted = tt;
+          run = subst (λ (X : Register). IsRunOf R (carried_out (come.had ++ come.idle)) X) (sym same) (subst (λ ps. IsRunOf R ps S) (sym pairs) come.run);
+          at_is = end_is ∙ ap (place_after place) (sym (append-nil (come.had ++ come.idle)));
+          placed = subst (IsAt has_place t) end_is here;
+          shallow = tt;
+        },
+        here,
+      )
 
   -- where it was not, nothing is shown but what was
   pub stayed : (S T : Register) (s t : State) (at : Place) (open_one : Option Carried) (rest : List Entry) → HasCome has_place R place lines S s at open_one rest
@@ -175,7 +208,6 @@ module _ (has_place : Placing) (R : Register) (place : Place) (lines : List Entr
     had = come.had;
     idle = come.idle;
     all_is = come.all_is;
-    at_command = come.at_command;
     begins = come.begins;
     none = come.none;
     accepted = come.accepted;
@@ -201,7 +233,7 @@ module _ (has_place : Placing) (R : Register) (place : Place) (lines : List Entr
   pub answered_on : (S T : Register) (s t : State) (at : Place) (one : Carried) (rest : List Entry) (reply : Reply) → IsGood R → AreAnswered R lines
       → HasCome has_place R place lines S s at (Some one) rest → withdraws rest ≡ false
       → (IsGood S → reply ≡ Answer.reply (answer S one.command)) → (IsGood S → T ≡ after S one.command)
-      → (accepts reply ≡ true → ComesTo has_place s t at) → HasCome has_place R place lines T t at None rest
+      → (accepts reply ≡ true → ComesTo has_place s t at) → HasCome has_place R place lines T t at None rest × IsAt has_place t at
   answered_on S T s t at one rest reply good answered come kept replied went comes =
       let fine = still_good R S (carried_out come.had) good come.run in
       let is = said S s at one rest answered come kept in
@@ -244,6 +276,24 @@ module _ {K : Type 0} (kept : K → State) (has_place : Placing) (R : Register) 
       → HasCome has_place R place lines desk.book.register (kept desk.store) at one rest
   goes_on came done desk at one rest is went =
       subst (λ (r : Result (Unit {0}) OpeningFault). Went kept has_place R place lines r desk at one rest) is went
+
+  -- it has come where it arrives
+  pub went_on : (came : Result (Unit {0}) OpeningFault) (desk : Desk K) (at : Place) (rest : List Entry) → Arrives kept has_place R place lines came desk at rest
+      → Went kept has_place R place lines came desk at None rest
+  went_on (Ok done) desk at rest arrives = arrives.0
+  went_on (Err fault) desk at rest arrives = arrives
+
+  pub stops_there : (came : Result (Unit {0}) OpeningFault) (fault : OpeningFault) (desk : Desk K) (at : Place) (rest : List Entry)
+      → came ≡ Err fault → Arrives kept has_place R place lines came desk at rest
+      → StopsAt has_place R place lines fault desk.book.register (kept desk.store)
+  stops_there came fault desk at rest is arrives =
+      subst (λ (r : Result (Unit {0}) OpeningFault). Arrives kept has_place R place lines r desk at rest) is arrives
+
+  pub arrives_on : (came : Result (Unit {0}) OpeningFault) (done : Unit {0}) (desk : Desk K) (at : Place) (rest : List Entry)
+      → came ≡ Ok done → Arrives kept has_place R place lines came desk at rest
+      → HasCome has_place R place lines desk.book.register (kept desk.store) at None rest × IsAt has_place (kept desk.store) at
+  arrives_on came done desk at rest is arrives =
+      subst (λ (r : Result (Unit {0}) OpeningFault). Arrives kept has_place R place lines r desk at rest) is arrives
 
   pub went_closed : (came : Result (Unit {0}) OpeningFault) (desk : Desk K) (at : Place) (one : Option Carried) (rest : List Entry)
       → OnOk came (one ≡ None) → Went kept has_place R place lines came desk at None rest → Went kept has_place R place lines came desk at one rest

@@ -23,7 +23,7 @@ use Rattle.clr_place.specs.declared.place.Place.{Place}
 use Rattle.clr_chain.specs.Chain.{chain_text}
 use Rattle.clr_chain.specs.First.{first_turn_at}
 use Rattle.clr_chain.specs.Laws.{line_at}
-use Rattle.clr_chain.specs.Level.{IsLevel, IsRunOf, ends_with_command, place_after, place_with}
+use Rattle.clr_chain.specs.Level.{IsLevel, IsRunOf, place_after, place_with}
 use Rattle.clr_chain.proofs.LevelKept.{carried_out-append, steps_keep}
 use Rattle.clr_desk.specs.Asking.{near_answer}
 use Rattle.clr_desk.specs.Given.{AreGiven, Given, IsAnswered, command, login}
@@ -39,7 +39,7 @@ use Rattle.clr_level.specs.declared.keeper.Keeper.{Keeper}
 use Rattle.clr_level.specs.declared.last.Last.{Last}
 use Rattle.clr_level.specs.declared.last.Last.TheVariants.{Doubtful, Owed, Settled}
 use Rattle.clr_level.proofs.Accepting.{accepted_data}
-use Rattle.clr_level.proofs.Chains.{accepted_out, chain_more, command_kept, ends_so, kept_on, nothing_out, place_more, refused_out, run_more, same_number, turn_more}
+use Rattle.clr_level.proofs.Chains.{accepted_out, chain_more, command_kept, kept_on, nothing_out, place_more, refused_out, run_more, same_number, turn_more}
 use Rattle.clr_level.proofs.Places.{at_moves, at_stays, shown_itself}
 
 -- ---- lines, with the place of a register among them
@@ -49,7 +49,6 @@ pub record IsUpTo (first : Register) (start place : Place) (R : Register) (bytes
   pub had : List Entry
   pub turns : in_turn (first_turn_at start) (had ++ more) ≡ true
   pub is_at : place ≡ place_after start had
-  pub at_command : ends_with_command had ≡ true
   pub kept : withdraws more ≡ false
   pub run : IsRunOf first (carried_out had) R
   pub text_is : bytes ≡ chain_text start (had ++ more)
@@ -85,7 +84,6 @@ module _ (first : Register) (start place : Place) (R : Register) where
         had = up.had;
         turns = ap (in_turn (first_turn_at start)) (sym together) ∙ (lines_grow (first_turn_at start) all entry up.turns next).0;
         is_at = up.is_at;
-        at_command = up.at_command;
         kept = kept;
         run = up.run;
         text_is = ap₂ (λ (t : List ℕ) (p : Place). with_link t p.sum entry) up.text_is up.end_is ∙ sym (chain_more start all entry)
@@ -148,7 +146,6 @@ module _ (first : Register) (start place : Place) (R : Register) where
         had = all;
         turns = ap (in_turn (first_turn_at start)) whole ∙ up.turns;
         is_at = up.end_is;
-        at_command = ap ends_with_command (sym (append_assoc up.had more (line ∷ []))) ∙ ends_so (up.had ++ more) line refl;
         kept = refl;
         run = subst (λ (T : Register). IsRunOf first (carried_out all) T) (sym register)
             (subst (λ (ps : List (Command × Data)). IsRunOf first ps (after R q)) (sym pairs) (run_more first R (carried_out up.had) q up.run));
@@ -230,7 +227,6 @@ module _ {K J C : Type 0} (kept : K → State) (has_place : Placing) (text : J �
       all = refl;
       turns = up.turns;
       is_at = up.is_at;
-      at_command = up.at_command;
       kept = up.kept;
       run = up.run;
     };
@@ -248,7 +244,6 @@ module _ {K J C : Type 0} (kept : K → State) (has_place : Placing) (text : J �
         had = its.had;
         turns = ap (in_turn (first_turn_at start)) (sym its.all) ∙ its.turns;
         is_at = its.is_at;
-        at_command = its.at_command;
         kept = its.kept;
         run = its.run;
         text_is = level.text_is ∙ ap (chain_text start) its.all;

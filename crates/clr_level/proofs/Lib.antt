@@ -7,6 +7,7 @@ pub mod InBrief
 pub mod Levels
 pub mod Openings
 pub mod Places
+pub mod Rolling
 pub mod Sounds
 pub mod Taken
 pub mod Tried

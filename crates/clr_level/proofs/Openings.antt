@@ -14,7 +14,7 @@ use Rattle.clr_level.specs.Placing.{IsAt}
 use Rattle.clr_level.specs.declared.keeper.Keeper.{Keeper}
 use Rattle.clr_level.specs.declared.last.Last.{Last}
 use Rattle.clr_level.specs.declared.last.Last.TheVariants.{Settled}
-use Rattle.clr_level.proofs.Chains.{ends_on, front_kept, place_on, run_on}
+use Rattle.clr_level.proofs.Chains.{front_kept, place_on, run_on}
 
 nothing_open : (had idle : List Entry) → had ++ ((idle ++ []) ++ []) ≡ had ++ idle
 nothing_open had idle = ap (λ es. had ++ es) (append-nil (idle ++ []) ∙ append-nil idle)
@@ -28,6 +28,12 @@ rolled has_place R place lines S T s at come register =
     ap carried_out (come.all_is ∙ nothing_open come.had come.idle) ∙ carried_out-append come.had come.idle idle_kept
     ∙ ap (λ ps. carried_out come.had ++ ps) come.none ∙ append-nil (carried_out come.had) in
     subst (λ (X : Register). IsRunOf R (carried_out lines) X) (sym register) (subst (λ ps. IsRunOf R ps S) (sym pairs) come.run)
+
+-- at another state of a keeper that is the same
+pub placed_as : {K : Type 0} (has_place : Placing) (kept : K → State) (k l : K) (at at' : Place) → l ≡ k → at' ≡ at → IsAt has_place (kept k) at
+    → IsAt has_place (kept l) at'
+placed_as {K} has_place kept k l at at' keeper place here =
+    subst (λ (x : K). IsAt has_place (kept x) at') (sym keeper) (subst (IsAt has_place (kept k)) (sym place) here)
 
 module _ (has_place : Placing) (first R : Register) (start place : Place) (lines : List Entry) where
   -- level at the place that was come to
@@ -43,7 +49,6 @@ module _ (has_place : Placing) (first R : Register) (start place : Place) (lines
         all = level.all ∙ ap (λ es. level.had ++ es) more ∙ sym (append_assoc level.had come.had come.idle);
         turns = level.turns;
         is_at = ap (λ p. place_after p come.had) level.is_at ∙ place_on start level.had come.had;
-        at_command = ends_on level.had come.had level.at_command come.at_command;
         kept = front_kept come.idle [] (front_kept (come.idle ++ []) [] come.begins);
         run = subst (λ ps. IsRunOf first ps S) (sym pairs) (run_on first R S (carried_out level.had) (carried_out come.had) level.run come.run);
       }

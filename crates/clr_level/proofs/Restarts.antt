@@ -3,15 +3,12 @@ use Rattle.std.proofs.Common.{◌≡◌, ◌∙◌, ◌==◌, ◌&&◌, ◌||◌
 use Rattle.std.proofs.lemmas.Bool.{and_from, and_parts}
 use Rattle.std.proofs.lemmas.Slice.Eq.{bytes_eq-Decides}
 use Rattle.std.specs.List.{list_any}
-use Rattle.serde_json.specs.Data.{Data}
 use Rattle.clr_append.specs.Lines.{ended_lines, text_of, with_feed}
 use Rattle.clr_rules.specs.Register.{Register}
-use Rattle.clr_rules.specs.declared.command.Command.{Command}
 use Rattle.clr_place.specs.declared.place.Place.{Place}
 use Rattle.clr_journal.specs.Journals.{in_turn, is_next, next_place, turn_after, withdraws}
 use Rattle.clr_journal.specs.Laws.{turn_behind}
 use Rattle.clr_journal.specs.Line.{Entry, carried, read_line, withdrawn}
-use Rattle.clr_journal.specs.declared.line.Receipt.{Receipt}
 use Rattle.clr_journal.specs.declared.reading.Turn.{Turn}
 use Rattle.clr_chain.proofs.Begun.{firsts_back}
 use Rattle.clr_chain.proofs.Cutting.{found_there}
@@ -21,14 +18,14 @@ use Rattle.clr_chain.proofs.NotMissed.{from_first, stays_met}
 use Rattle.clr_chain.proofs.Parts.{AreLines, Parted, lines_then, parted, text_of-append}
 use Rattle.clr_chain.proofs.ReadingOn.{reads}
 use Rattle.clr_chain.specs.Chain.{ReadOn, all_but_first, chain_text, link_texts, links_of, read_on}
-use Rattle.clr_chain.specs.Finding.{Sought, ahead, bad_line, differs, first_of, found_after, found_by, found_in, met, or_earlier, says_accepted, sought, sought_at, sought_below, unmet}
+use Rattle.clr_chain.specs.Finding.{Sought, ahead, bad_line, differs, first_of, found_after, found_by, found_in, met, or_earlier, says_accepted, sought, sought_at, sought_below, sought_here, unmet}
 use Rattle.clr_chain.specs.First.{first_text, first_turn_at}
-use Rattle.clr_chain.specs.Level.{ends_with_command, place_after}
+use Rattle.clr_chain.specs.Level.{place_after}
 use Rattle.clr_chain.specs.Link.{end_after, has_fraction, if_holds, if_own, is_own, link_text, next_link, read_link}
 use Rattle.clr_chain.specs.Opening.{CanBegin}
 use Rattle.clr_chain.specs.Sums.{sum_after, sum_behind}
 use Rattle.clr_chain.specs.declared.chain_end.ChainEnd.{ChainEnd}
-use Rattle.clr_level.proofs.Chains.{ends_so, place_more, same_number, turn_more}
+use Rattle.clr_level.proofs.Chains.{place_more, same_number, turn_more}
 use Rattle.clr_level.specs.Restarting.{HasLines, IsReadAt, IsRefused, OpensLevel, RestartsKeepLevel, at_first, at_last, not_cut, rest_after, withdraws_own}
 
 -- ---- the texts of lines
@@ -79,16 +76,14 @@ own_line : (sum text : List ℕ) (entry : Entry) → read_link sum text ≡ Some
 unfolding read_link
 own_line sum text entry h = own_by (read_line text) sum text entry h
 
-met_here : (place : Place) (receipt : Receipt) (q : Command) (reply : Data) (text : List ℕ) (left : List (List ℕ))
-    → (receipt.number == place.number) ≡ true → read_link place.sum text ≡ Some (carried receipt q reply) → sought place left ≡ unmet
-    → sought place (text ∷ left) ≡ met true (turn_after (carried receipt q reply)) left
+met_here : (place : Place) (entry : Entry) (text : List ℕ) (left : List (List ℕ)) → ((turn_after entry).last == place.number) ≡ true
+    → read_link place.sum text ≡ Some entry → sought place left ≡ unmet → sought place (text ∷ left) ≡ met true (turn_after entry) left
 unfolding sought
-met_here place receipt q reply text left number read none =
-    let entry : Entry = carried receipt q reply in
+met_here place entry text left number read none =
     let own = own_line place.sum text entry read in
     ap (λ (s : Sought). or_earlier s (sought_at place text left (read_line text))) none
     ∙ ap (sought_at place text left) own.0
-    ∙ ap₂ (λ (b c : Bool). cond b (met c (turn_after entry) left) (sought_below place receipt.number left)) number own.1
+    ∙ ap₂ (λ (b c : Bool). cond b (sought_here c entry left) (sought_below place (turn_after entry).last left)) number own.1
 
 -- where a chain has come to
 abbrev end_behind : Place → List Entry → ChainEnd
@@ -108,34 +103,32 @@ behind_none start left none =
     ap (found_by place start left) none
     ∙ from_first place start left (found_after place.number (read_on (end_behind start []) left)) (same_number start.number start.number refl) (same_bytes start.sum) refl
 
-behind_one : (start : Place) (before : List Entry) (receipt : Receipt) (q : Command) (reply : Data) (left : List (List ℕ))
-    → read_link (place_after start (before ++ carried receipt q reply ∷ [])).sum (link_text (carried receipt q reply) (place_after start (before ++ carried receipt q reply ∷ [])).sum)
-    ≡ Some (carried receipt q reply)
-    → FindsBehind start (before ++ carried receipt q reply ∷ []) left
-behind_one start before receipt q reply left read none =
-    let entry : Entry = carried receipt q reply in
+behind_one : (start : Place) (before : List Entry) (entry : Entry) (left : List (List ℕ))
+    → read_link (place_after start (before ++ entry ∷ [])).sum (link_text entry (place_after start (before ++ entry ∷ [])).sum) ≡ Some entry
+    → FindsBehind start (before ++ entry ∷ []) left
+behind_one start before entry left read none =
     let had : List Entry = before ++ entry ∷ [] in
     let place : Place = place_after start had in
     let text : List ℕ = link_text entry place.sum in
     let front : List (List ℕ) = link_texts start.sum before in
     let turn : turn_behind (first_turn_at start) had ≡ turn_after entry = turn_more (first_turn_at start) before entry in
-    let number : (receipt.number == place.number) ≡ true = same_number receipt.number place.number (ap (λ (t : Turn). t.last) (sym turn)) in
+    let number : ((turn_after entry).last == place.number) ≡ true = same_number (turn_after entry).last place.number (ap (λ (t : Turn). t.last) (sym turn)) in
     let sum : place.sum ≡ sum_after (sum_behind start.sum before) entry = ap (λ (p : Place). p.sum) (place_more start before entry) in
     let texts : link_texts start.sum had ++ left ≡ front ++ text ∷ left =
     ap (λ (ts : List (List ℕ)). ts ++ left) (links_both start.sum before (entry ∷ []) ∙ ap (λ (s : List ℕ). front ++ link_text entry s ∷ []) (sym sum))
     ∙ append_assoc front (text ∷ []) left in
     let here : sought place (link_texts start.sum had ++ left) ≡ met true (turn_after entry) left =
     ap (sought place) texts
-    ∙ stays_met place front (text ∷ left) (met true (turn_after entry) left) (met_here place receipt q reply text left number read none) refl in
+    ∙ stays_met place front (text ∷ left) (met true (turn_after entry) left) (met_here place entry text left number read none) refl in
     ap (found_by place start (link_texts start.sum had ++ left)) here
     ∙ ap (λ (t : Turn). found_after place.number (read_on (record { turn = t; sum = place.sum }) left)) (sym turn)
 
 behind : (start : Place) (had : List Entry) (left : List (List ℕ)) → IsReadAt (place_after start had) had → FindsBehind start had left
 behind start had left (at_first is) = subst (λ (es : List Entry). FindsBehind start es left) (sym is) (behind_none start left)
-behind start had left (at_last before receipt q reply is read) =
+behind start had left (at_last before entry is read) =
     subst (λ (es : List Entry). FindsBehind start es left) (sym is)
-    (behind_one start before receipt q reply left
-    (subst (λ (es : List Entry). read_link (place_after start es).sum (link_text (carried receipt q reply) (place_after start es).sum) ≡ Some (carried receipt q reply)) is read))
+    (behind_one start before entry left
+    (subst (λ (es : List Entry). read_link (place_after start es).sum (link_text entry (place_after start es).sum) ≡ Some entry) is read))
 
 -- so what is found is what comes after these lines
 found_behind : (start : Place) (had : List Entry) (rest : List ℕ) → CanBegin start → IsReadAt (place_after start had) had
@@ -204,10 +197,6 @@ turns_on turn (x ∷ xs) ys one two =
 
 -- ---- what is found
 
-ends_with_it : (place : Place) (had : List Entry) → IsReadAt place had → ends_with_command had ≡ true
-ends_with_it place had (at_first is) = ap ends_with_command is
-ends_with_it place had (at_last before receipt q reply is read) = ap ends_with_command is ∙ ends_so before (carried receipt q reply) refl
-
 or_true : (b : Bool) → (b || true) ≡ true
 or_true true = refl
 or_true false = refl
@@ -229,9 +218,9 @@ module _ (first S : Register) (start : Place) (had : List Entry) (rest : List �
   abbrev End : ChainEnd
   End = end_behind start had
 
-  opens : HasLines first start had S → IsReadAt Here had → (read : ReadOn) → IsReadOn End (ended_lines rest) read → withdraws read.entries ≡ false
+  opens : HasLines first start had S → (read : ReadOn) → IsReadOn End (ended_lines rest) read → withdraws read.entries ≡ false
       → found_in Here Bytes ≡ ahead read → OpensLevel first start Bytes Here S
-  opens has read_at read is keeps found =
+  opens has read is keeps found =
       let links : List (List ℕ) = link_texts (sum_behind start.sum had) read.entries in
       let parts : Parted rest links read.left = parted rest links read.left is.texts_are in
       record {
@@ -242,7 +231,6 @@ module _ (first S : Register) (start : Place) (had : List Entry) (rest : List �
           all = refl;
           turns = turns_on (first_turn_at start) had read.entries has.turns is.turns;
           is_at = refl;
-          at_command = ends_with_it Here had read_at;
           kept = keeps;
           run = has.run;
         };
@@ -263,19 +251,19 @@ module _ (first S : Register) (start : Place) (had : List Entry) (rest : List �
   withdraws_first (withdrawn n ∷ es) left h is found =
       withdraws_own n (link_texts (sum_after Here.sum (withdrawn n)) es ++ left) found is
 
-  ends_by : HasLines first start had S → IsReadAt Here had → (read : ReadOn) (b c : Bool) → withdraws read.entries ≡ b → list_any says_accepted read.left ≡ c
+  ends_by : HasLines first start had S → (read : ReadOn) (b c : Bool) → withdraws read.entries ≡ b → list_any says_accepted read.left ≡ c
       → IsReadOn End (ended_lines rest) read
       → found_in Here Bytes ≡ cond b (differs Here.number) (cond c (bad_line (next_place read.end.turn.last)) (ahead read)) → Ends Bytes
-  ends_by has read_at read true c keeps none is found = inr (withdraws_first read.entries read.left keeps is.texts_are found)
-  ends_by has read_at read false true keeps none is found =
+  ends_by has read true c keeps none is found = inr (withdraws_first read.entries read.left keeps is.texts_are found)
+  ends_by has read false true keeps none is found =
       inr (not_cut (next_place read.end.turn.last) found
       (ap (list_any says_accepted) is.texts_are ∙ any_later (link_texts (sum_behind start.sum had) read.entries) read.left none))
-  ends_by has read_at read false false keeps none is found = inl (opens has read_at read is keeps found)
+  ends_by has read false false keeps none is found = inl (opens has read is keeps found)
 
   ends : HasLines first start had S → CanBegin start → IsReadAt Here had → sought Here (ended_lines rest) ≡ unmet → Ends Bytes
   ends has can read_at none =
       let read : ReadOn = read_on End (ended_lines rest) in
-      ends_by has read_at read (withdraws read.entries) (list_any says_accepted read.left) refl refl (is_read_on (ended_lines rest) End)
+      ends_by has read (withdraws read.entries) (list_any says_accepted read.left) refl refl (is_read_on (ended_lines rest) End)
       (found_behind start had rest can read_at none)
 
 pub restarts_level : RestartsKeepLevel

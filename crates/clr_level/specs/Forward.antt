@@ -1,5 +1,5 @@
 -- ROLLING FORWARD: what an opening carries out of the lines after a register's place.
-use Rattle.std.specs.Prelude.{◌≡◌, ◌≢◌, ◌≤◌, ℕ, true, false, List, [], ◌∷◌, ◌++◌, Option}
+use Rattle.std.specs.Prelude.{◌≡◌, ◌≢◌, ◌≤◌, ◌⊎◌, ℕ, true, false, List, [], ◌∷◌, ◌++◌, Option}
 use Rattle.std.specs.Prelude.{None, Some, IfSome, Result, Ok, Err, ⊤, if◌then◌else◌, ◌&&◌, not}
 use Rattle.serde_json.specs.Data.{depth}
 use Rattle.serde_json.specs.View.{view}
@@ -17,14 +17,15 @@ use Rattle.clr_journal.specs.declared.line.Carried.{Carried}
 use Rattle.clr_journal.specs.declared.line.Line.{Line}
 use Rattle.clr_journal.specs.declared.line.Line.TheVariants as line
 use Rattle.clr_chain.specs.Chain.{chain_text}
-use Rattle.clr_chain.specs.Level.{IsLevel, IsRunOf, ends_with_command, place_after}
+use Rattle.clr_chain.specs.Level.{IsLevel, IsRunOf, place_after}
 use Rattle.clr_chain.specs.declared.finding.Ahead.{Ahead}
 use Rattle.clr_chain.specs.declared.finding.Found.{Found}
 use Rattle.clr_chain.specs.declared.finding.Found.TheVariants as found
+use Rattle.clr_desk.specs.Given.{LeadsTo}
+use Rattle.clr_desk.specs.Placing.{CommitsAt, Placing}
 use Rattle.clr_desk.specs.Taking.{Came, Hearing, Taking}
 use Rattle.clr_desk.specs.declared.desk.Desk.{Desk}
 use Rattle.clr_desk.specs.declared.desk_fault.DeskFault.{DeskFault}
-use Rattle.clr_desk.specs.Placing.{Placing}
 use Rattle.clr_level.specs.Placing.{ComesTo, IsAt, StaysShown}
 use Rattle.clr_level.specs.declared.fault.OpeningFault.{OpeningFault}
 use Rattle.clr_level.specs.declared.fault.OpeningFault.TheVariants.{OtherRegister, OtherRules}
@@ -67,7 +68,6 @@ pub record HasCome (has_place : Placing) (R : Register) (place : Place) (lines :
   pub had : List Entry
   pub idle : List Entry
   pub all_is : lines ≡ had ++ ((idle ++ open_entries open_one) ++ rest)
-  pub at_command : ends_with_command had ≡ true
   pub begins : withdraws ((idle ++ open_entries open_one) ++ rest) ≡ false
   pub none : carried_out idle ≡ []
   pub accepted : IfSome open_one IsAccepted
@@ -155,6 +155,30 @@ Went kept has_place R place lines (Ok done) desk at open_one rest =
     HasCome has_place R place lines desk.book.register (kept desk.store) at open_one rest
 Went kept has_place R place lines (Err fault) desk at open_one rest =
     StopsAt has_place R place lines fault desk.book.register (kept desk.store)
+
+-- IT HAS ARRIVED: no command is open, and the keeper has the place that was come to
+abbrev pub Arrives : {K : Type 0} → (K → State) → Placing → Register → Place → List Entry
+    → Result (Unit {0}) OpeningFault → Desk K → Place → List Entry → Type 0
+Arrives kept has_place R place lines (Ok done) desk at rest =
+    HasCome has_place R place lines desk.book.register (kept desk.store) at None rest
+    × IsAt has_place (kept desk.store) at
+Arrives kept has_place R place lines (Err fault) desk at rest =
+    StopsAt has_place R place lines fault desk.book.register (kept desk.store)
+
+-- ---- the place
+
+-- a keeper was called to move its place, and this came of it
+abbrev pub IsMoved : {K : Type 0} → (K → State) → Placing → K → K → Type 0
+IsMoved kept has_place old new = (place : Place) × (came : Came)
+    × CommitsAt has_place (kept old) (kept new) [] place came
+
+-- A DESK IS ROLLED FORWARD: it was given commands, and after them its place may have been moved
+pub record RollsTo {K : Type 0} (kept : K → State) (takes : Taking K) (hears : Hearing K)
+    (has_place : Placing) (old new : Desk K) : Type 0 where
+  pub before : Desk K
+  pub led : LeadsTo kept takes hears old before
+  pub book : new.book ≡ before.book
+  pub store : (new.store ≡ before.store) ⊎ IsMoved kept has_place before.store new.store
 
 -- ---- one command
 

@@ -1,18 +1,15 @@
 -- REGISTER AND JOURNAL ARE OPENED AGAIN, after a crash or after both were let go.
 use Rattle.std.specs.Prelude.{◌≡◌, ◌⊎◌, ℕ, true, List, [], ◌∷◌, ◌++◌, drop, length, Some}
 use Rattle.std.specs.List.{list_any}
-use Rattle.serde_json.specs.Data.{Data}
 use Rattle.sqlite.specs.State.{State}
 use Rattle.clr_append.specs.Journal.{BeginsWith}
 use Rattle.clr_append.specs.Lines.{ended_lines}
 use Rattle.clr_rules.specs.Good.{IsGood}
 use Rattle.clr_rules.specs.Register.{Register}
 use Rattle.clr_rules.specs.Run.{after}
-use Rattle.clr_rules.specs.declared.command.Command.{Command}
 use Rattle.clr_place.specs.declared.place.Place.{Place}
 use Rattle.clr_journal.specs.Journals.{carried_out, in_turn}
-use Rattle.clr_journal.specs.Line.{Entry, carried, withdrawn}
-use Rattle.clr_journal.specs.declared.line.Receipt.{Receipt}
+use Rattle.clr_journal.specs.Line.{Entry, withdrawn}
 use Rattle.clr_chain.specs.Chain.{ReadOn, chain_text}
 use Rattle.clr_chain.specs.Finding.{Found, ahead, bad_line, differs, found_in, says_accepted}
 use Rattle.clr_chain.specs.Finding.{sought, unmet}
@@ -78,15 +75,12 @@ DueIsSafe K J C kept has_place text may_leave = (first R : Register) (start : Pl
 abbrev pub rest_after : Place → List Entry → List ℕ → List ℕ
 rest_after start had bytes = drop (length (chain_text start had)) bytes
 
--- THE LINE OF A PLACE CAN BE READ: the last of these lines is that of a command, and is read from
--- its text, as any that can be written is (LinksReadBack); or there is none but the first
+-- THE LINE OF A PLACE CAN BE READ: the last of these lines is read from its text, as any that can be
+-- written is (LinksReadBack); or there is none but the first
 pub data IsReadAt (place : Place) (had : List Entry) : Type 0 where
   at_first : had ≡ [] → IsReadAt place had
-  at_last : (before : List Entry) (receipt : Receipt) (q : Command) (reply : Data)
-      → had ≡ before ++ carried receipt q reply ∷ []
-      → read_link place.sum (link_text (carried receipt q reply) place.sum)
-      ≡ Some (carried receipt q reply)
-      → IsReadAt place had
+  at_last : (before : List Entry) (entry : Entry) → had ≡ before ++ entry ∷ []
+      → read_link place.sum (link_text entry place.sum) ≡ Some entry → IsReadAt place had
 
 -- A JOURNAL OF THESE BYTES IS OPENED at a place, level with a register there: the lines after the
 -- place are those that are found. What is cut off was never synced

@@ -6,8 +6,8 @@ ghost use Rattle.clr_place.specs.declared.place.Place.{Place};
 ghost use Rattle.clr_journal.specs.Journals.{withdraws};
 ghost use Rattle.clr_journal.specs.Line.{Entry, entry_of};
 ghost use Rattle.clr_desk.specs.Given.{LeadsTo};
-ghost use Rattle.clr_level.specs.Forward.{AreAnswered, AreShallow, HasCome, IsOfCarrying, Went};
-ghost use Rattle.clr_level.specs.Forward.{open_after, opened_by};
+ghost use Rattle.clr_level.specs.Forward.{AreAnswered, AreShallow, Arrives, HasCome, IsOfCarrying};
+ghost use Rattle.clr_level.specs.Forward.{RollsTo, Went, open_after, opened_by};
 ghost use Rattle.clr_level.specs.Placing.{IsAt};
 
 use crate::fault::OpeningFault;
@@ -31,8 +31,8 @@ pub(crate) struct Forward<K: CommitAt> {
 }
 
 /// Carries out what was accepted in these lines and not withdrawn, in order, each command with the
-/// place at its line, and gives the place after all lines. The commands are tried first: nothing is
-/// carried out where one of them is answered otherwise than its line says.
+/// place at its line, and moves the place to the end of the lines, which is given. The commands are
+/// tried first: nothing is carried out where one of them is answered otherwise than its line says.
 pub(crate) fn roll_forward<K: CommitAt>(
     alloc: Global,
     desk: Desk<K>,
@@ -41,11 +41,14 @@ pub(crate) fn roll_forward<K: CommitAt>(
 ) -> (Result<(), OpeningFault>, Desk<K>, Place)
     ensures went { IsGood desk.book.register → withdraws (map entry_of lines.items) ≡ false
         → AreShallow (map entry_of lines.items) → IsAt K.has_place (K.kept desk.store) place
-        → Went K.kept K.has_place desk.book.register place (map entry_of lines.items)
-        result.0 result.1 result.2 None [] }
-    ensures led { LeadsTo K.kept K.takes K.hears desk result.1 }
+        → Arrives K.kept K.has_place desk.book.register place (map entry_of lines.items)
+        result.0 result.1 result.2 [] }
+    ensures led { RollsTo K.kept K.takes K.hears K.has_place desk result.1 }
     ensures unchanged { (n : ℕ) → result.0 ≡ Err (OpeningFault.Differs n) → result.1 ≡ desk }
 {
+    if lines.as_slice().is_empty() {
+        return (Ok(()), desk, place);
+    }
     match first_differing(alloc, desk.book(), lines.as_slice()) {
         Ok(None) => carry_all(alloc, desk, place, lines),
         Ok(Some(number)) => (Err(OpeningFault::Differs(number)), desk, place),
@@ -53,8 +56,7 @@ pub(crate) fn roll_forward<K: CommitAt>(
     }
 }
 
-/// Carries out what was accepted in these lines and not withdrawn, where each command is answered as
-/// its line says.
+/// The same, where each command is answered as its line says.
 fn carry_all<K: CommitAt>(
     alloc: Global,
     desk: Desk<K>,
@@ -64,9 +66,9 @@ fn carry_all<K: CommitAt>(
     ensures went { IsGood desk.book.register → AreAnswered desk.book.register
         (map entry_of lines.items) → withdraws (map entry_of lines.items) ≡ false
         → AreShallow (map entry_of lines.items) → IsAt K.has_place (K.kept desk.store) place
-        → Went K.kept K.has_place desk.book.register place (map entry_of lines.items)
-        result.0 result.1 result.2 None [] }
-    ensures led { LeadsTo K.kept K.takes K.hears desk result.1 }
+        → Arrives K.kept K.has_place desk.book.register place (map entry_of lines.items)
+        result.0 result.1 result.2 [] }
+    ensures led { RollsTo K.kept K.takes K.hears K.has_place desk result.1 }
     ensures fault { IfErr result.0 IsOfCarrying }
 {
     let mut left = lines;
@@ -83,8 +85,7 @@ fn carry_all<K: CommitAt>(
             return (Err(fault), forward.desk, forward.at);
         }
     }
-    let (came, forward) = forward.close();
-    (came, forward.desk, forward.at)
+    forward.arrive(alloc)
 }
 
 impl<K: CommitAt> Forward<K> {
@@ -173,6 +174,49 @@ impl<K: CommitAt> Forward<K> {
             Some(one) => carry_out(desk, at, one),
         }
     }
+
+    /// Ends at the last line: with its command, if that is open, or by a move of the place.
+    fn arrive(self, alloc: Global) -> (Result<(), OpeningFault>, Desk<K>, Place)
+        ensures went { (R : Register) (place : Place) (lines : List Entry) → IsGood R
+            → AreAnswered R lines
+            → HasCome K.has_place R place lines self.desk.book.register (K.kept self.desk.store)
+            self.at self.pending []
+            → Arrives K.kept K.has_place R place lines result.0 result.1 result.2 [] }
+        ensures led { RollsTo K.kept K.takes K.hears K.has_place self.desk result.1 }
+        ensures fault { IfErr result.0 IsOfCarrying }
+    {
+        let Forward { desk, at, pending } = self;
+        match pending {
+            None => move_to(alloc, desk, at),
+            Some(one) => {
+                let (came, forward) = carry_out(desk, at, one);
+                (came, forward.desk, forward.at)
+            }
+        }
+    }
+}
+
+/// Moves the place of a desk to that after its lines.
+fn move_to<K: CommitAt>(
+    alloc: Global,
+    desk: Desk<K>,
+    at: Place,
+) -> (Result<(), OpeningFault>, Desk<K>, Place)
+    ensures went { (R : Register) (place : Place) (lines : List Entry)
+        → HasCome K.has_place R place lines desk.book.register (K.kept desk.store) at None []
+        → Arrives K.kept K.has_place R place lines result.0 result.1 result.2 [] }
+    ensures led { RollsTo K.kept K.takes K.hears K.has_place desk result.1 }
+    ensures fault { IfErr result.0 IsOfCarrying }
+{
+    let faults = desk.faults();
+    let (book, keeper) = desk.parted();
+    let mut keeper = keeper;
+    let came = keeper.move_to(alloc, &at);
+    let desk = Desk::of(book, keeper, faults);
+    match came {
+        Ok(()) => (Ok(()), desk, at),
+        Err(fault) => (Err(OpeningFault::Desk(fault)), desk, at),
+    }
 }
 
 /// Carries out a command.
@@ -184,7 +228,7 @@ fn carry_out<K: CommitAt>(
     ensures went { (R : Register) (place : Place) (lines rest : List Entry) → IsGood R
         → AreAnswered R lines → withdraws rest ≡ false
         → HasCome K.has_place R place lines desk.book.register (K.kept desk.store) at (Some one) rest
-        → Went K.kept K.has_place R place lines result.0 result.1.desk result.1.at None rest }
+        → Arrives K.kept K.has_place R place lines result.0 result.1.desk result.1.at rest }
     ensures closed { OnOk result.0 (result.1.pending ≡ None) }
     ensures led { LeadsTo K.kept K.takes K.hears desk result.1.desk }
     ensures fault { IfErr result.0 IsOfCarrying }

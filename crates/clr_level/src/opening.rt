@@ -6,8 +6,8 @@ ghost use Rattle.clr_place.specs.declared.place.Place.{Place};
 ghost use Rattle.clr_journal.specs.Journals.{carried_out, withdraws};
 ghost use Rattle.clr_journal.specs.Line.{entry_of};
 ghost use Rattle.clr_chain.specs.Level.{IsRunOf};
-ghost use Rattle.clr_desk.specs.Given.{LeadsTo};
-ghost use Rattle.clr_level.specs.Forward.{AreShallow, CanBeOpened, IsAheadOf, IsOver, StopsAt};
+ghost use Rattle.clr_level.specs.Forward.{AreShallow, CanBeOpened, IsAheadOf, IsOver, RollsTo};
+ghost use Rattle.clr_level.specs.Forward.{StopsAt};
 ghost use Rattle.clr_level.specs.Journaling.{HasText, IsSound};
 ghost use Rattle.clr_level.specs.Levelling.{IsKeptLevel};
 ghost use Rattle.clr_level.specs.Placing.{IsAt};
@@ -39,12 +39,13 @@ pub fn ahead_of(found: Found) -> Result<Ahead, OpeningFault>
 
 /// Gives a desk its journal. The register has the commands up to its place; what was accepted in
 /// the lines after it, and not withdrawn, is carried out first, in order, each command with the
-/// place at its line.
+/// place at its line. Where lines come after the last command of these, the place is moved to the
+/// last of them, so that the next opening begins there.
 ///
 /// `Differs` where a command is answered otherwise than its line says. All commands are tried first,
 /// so none is carried out then, and the desk is given back as it was. `Desk` where a command is not
-/// carried out, or memory runs out. A fault gives the desk back, as far as it has come, and the
-/// journal, in which nothing was written.
+/// carried out, the place is not moved, or memory runs out. A fault gives the desk back, as far as
+/// it has come, and the journal, in which nothing was written.
 pub fn with_journal<K: CommitAt, J: Journal + Drop, C: Clock>(
     alloc: Global,
     desk: Desk<K>,
@@ -64,11 +65,16 @@ pub fn with_journal<K: CommitAt, J: Journal + Drop, C: Clock>(
         → IsAt K.has_place (K.kept desk.store) place
         → IsRunOf desk.book.register (carried_out (map entry_of lines.items))
         opened.book.register) }
+    ensures placed { IfOk result (λ opened. IsGood desk.book.register
+        → withdraws (map entry_of lines.items) ≡ false → AreShallow (map entry_of lines.items)
+        → IsAt K.has_place (K.kept desk.store) place
+        → IsAt K.has_place (K.kept opened.store.keeper) opened.store.at) }
     ensures journal { IfOk result (λ opened. opened.store.journal ≡ journal) }
     ensures clock { IfOk result (λ opened. opened.store.clock ≡ clock) }
     ensures login { IfOk result (λ opened. opened.store.login ≡ None) }
     ensures settled { IfOk result (λ opened. opened.store.last ≡ Last.Settled) }
-    ensures led { IfOk result (λ opened. IsOver (LeadsTo K.kept K.takes K.hears) desk opened) }
+    ensures led { IfOk result (λ opened.
+        IsOver (RollsTo K.kept K.takes K.hears K.has_place) desk opened) }
     ensures stops { IfErr result (λ back. IsGood desk.book.register
         → withdraws (map entry_of lines.items) ≡ false → AreShallow (map entry_of lines.items)
         → IsAt K.has_place (K.kept desk.store) place
@@ -76,7 +82,8 @@ pub fn with_journal<K: CommitAt, J: Journal + Drop, C: Clock>(
         back.1.book.register (K.kept back.1.store)) }
     ensures unchanged { IfErr result (λ back. (n : ℕ)
         → back.0 ≡ OpeningFault.Differs n → back.1 ≡ desk) }
-    ensures back { IfErr result (λ back. LeadsTo K.kept K.takes K.hears desk back.1) }
+    ensures back { IfErr result (λ back.
+        RollsTo K.kept K.takes K.hears K.has_place desk back.1) }
     ensures unwritten { IfErr result (λ back. back.2 ≡ journal) }
 {
     let (came, desk, at) = roll_forward(alloc, desk, place, lines);

@@ -1,7 +1,8 @@
-use Rattle.std.proofs.Common.{[], map, refl, reverse, rules}
+use Rattle.std.proofs.Common.{map, reverse, rules}
 use Rattle.clr_desk.proofs.Givings.{leads_on}
 use Rattle.clr_journal.specs.Line.{entry_of}
 use Rattle.clr_level.proofs.Forwarding.{at_last, at_line, goes_on, none_yet, stops_on}
+use Rattle.clr_level.proofs.Rolling.{rolls_by, rolls_on}
 use Rattle.clr_level.proofs.forward.carry_all.Goals as goal
 
 pub loop-line-init : goal.loop-line-init
@@ -21,8 +22,9 @@ returns-in-Err-clause-went g c = λ good answered begins shallow at.
 
 pub returns-in-Err-clause-led : goal.returns-in-Err-clause-led
 returns-in-Err-clause-led g c =
-    leads_on g.K.Commit.kept g.K.Commit.takes g.K.Commit.hears c.args.desk c.loop-line.forward.desk c.line-came.result.1.desk c.loop-line.invariant.led
-    c.line-came.ensures.led
+    let next = c.line-came.result.1.desk in
+    rolls_on g.K.Commit.kept g.K.Commit.takes g.K.Commit.hears g.K.CommitAt.has_place c.args.desk c.loop-line.forward.desk next c.loop-line.invariant.led
+    (rolls_by g.K.Commit.kept g.K.Commit.takes g.K.Commit.hears g.K.CommitAt.has_place c.loop-line.forward.desk next c.line-came.ensures.led)
 
 pub loop-line-preserved : goal.loop-line-preserved
 loop-line-preserved g c =
@@ -42,11 +44,11 @@ loop-line-preserved g c =
 pub returns-clause-went : goal.returns-clause-went
 returns-clause-went g c = λ good answered begins shallow at.
     let l = c.loop-line in
-    c.close-came.ensures.went c.args.desk.book.register c.args.place (map entry_of c.args.lines.items) [] good answered refl
+    c.arrive.ensures.went c.args.desk.book.register c.args.place (map entry_of c.args.lines.items) good answered
     (at_last g.K.Commit.kept g.K.Commit.takes g.K.Commit.hears g.K.CommitAt.has_place c.args.desk c.args.place c.args.lines.items l.forward.desk l.forward.at
     l.forward.pending l.left.items (search rules) l.invariant good answered begins shallow at)
 
 pub returns-clause-led : goal.returns-clause-led
 returns-clause-led g c =
-    leads_on g.K.Commit.kept g.K.Commit.takes g.K.Commit.hears c.args.desk c.loop-line.forward.desk c.close-came.result.1.desk c.loop-line.invariant.led
-    c.close-came.ensures.led
+    rolls_on g.K.Commit.kept g.K.Commit.takes g.K.Commit.hears g.K.CommitAt.has_place c.args.desk c.loop-line.forward.desk c.arrive.result.1
+    c.loop-line.invariant.led c.arrive.ensures.led

@@ -4,7 +4,7 @@ use Rattle.clr_rules.specs.Answer.{Answer, answer}
 use Rattle.clr_rules.specs.Run.{after}
 use Rattle.clr_place.specs.declared.place.Place.{Place}
 use Rattle.clr_level.specs.Forward.{HasCome}
-use Rattle.clr_level.specs.Placing.{ComesTo, StaysShown}
+use Rattle.clr_level.specs.Placing.{ComesTo, IsAt, StaysShown}
 use Rattle.clr_level.proofs.Forwarding.{answered_on, if_ok, on_err, on_ok, stayed, stopped}
 use Rattle.clr_level.proofs.forward.carry_out.Goals as goal
 
@@ -14,7 +14,8 @@ returns-in-Ok-clause-went g c = λ R place lines rest good answered kept come.
     let new = c.carry_at-came.result.1 in
     let s = g.K.Commit.kept old.store in
     let t = g.K.Commit.kept new.store in
-    subst (λ (p : Place). HasCome g.K.CommitAt.has_place R place lines new.book.register t p None rest) (sym c.carry_at-came.ensures.place)
+    subst (λ (p : Place). HasCome g.K.CommitAt.has_place R place lines new.book.register t p None rest × IsAt g.K.CommitAt.has_place t p)
+    (sym c.carry_at-came.ensures.place)
     (answered_on g.K.CommitAt.has_place R place lines old.book.register new.book.register s t c.args.at c.args.one rest c.in-Ok.field-0
     good answered come kept
     (λ fine. if_ok c.carry_at-came.result.0 c.in-Ok.field-0 (λ reply. reply ≡ Answer.reply (answer old.book.register c.args.one.command)) c.in-Ok.is

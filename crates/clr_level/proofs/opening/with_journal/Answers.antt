@@ -1,11 +1,11 @@
-use Rattle.std.proofs.Common.{[], Err, None, ◌∙◌, ap, map, sym}
+use Rattle.std.proofs.Common.{[], Err, ◌∙◌, ap, map, sym}
 use Rattle.clr_book.specs.Book.{Shelved}
 use Rattle.clr_journal.specs.Journals.{carried_out, withdraws}
 use Rattle.clr_journal.specs.Line.{entry_of}
 use Rattle.clr_level.specs.Forward.{CanBeOpened}
 use Rattle.clr_level.specs.declared.keeper.Keeper.{Keeper}
-use Rattle.clr_level.proofs.Forwarding.{goes_on, still_good, stops_on}
-use Rattle.clr_level.proofs.Openings.{opened_level, rolled}
+use Rattle.clr_level.proofs.Forwarding.{arrives_on, still_good, stops_there}
+use Rattle.clr_level.proofs.Openings.{opened_level, placed_as, rolled}
 use Rattle.clr_level.proofs.opening.with_journal.Goals as goal
 
 pub returns-in-Ok-clause-level : goal.returns-in-Ok-clause-level
@@ -17,9 +17,9 @@ returns-in-Ok-clause-level g c first start good can =
     let desk = c.roll_forward-came.result.1 in
     let at = c.roll_forward-came.result.2 in
     let store = c.of.ensures.store in
-    let come = goes_on kept has_place R c.args.place lines c.roll_forward-came.result.0 c.in-Ok.field-0 desk at None [] c.in-Ok.is
+    let come = (arrives_on kept has_place R c.args.place lines c.roll_forward-came.result.0 c.in-Ok.field-0 desk at [] c.in-Ok.is
     (c.roll_forward-came.ensures.went (still_good first R (carried_out (CanBeOpened.level can).had) good (CanBeOpened.level can).run)
-    (ap withdraws (sym can.more_is) ∙ (CanBeOpened.level can).kept) can.shallow can.placed) in
+    (ap withdraws (sym can.more_is) ∙ (CanBeOpened.level can).kept) can.shallow can.placed)).0 in
     opened_level has_place first R start c.args.place lines kept g.J.Journal.text (kept c.args.desk.store) c.args.journal desk.book.register desk.store at
     c.of.result.store c.of.result.book.register can come (ap (λ (b : Shelved). b.register) (c.of.ensures.book ∙ c.parted-book.ensures.book))
     (ap (λ (k : Keeper g.row.K.Denot g.row.J.Denot g.row.C.Denot). k.keeper) store ∙ c.new-keeper.ensures.keeper ∙ c.parted-book.ensures.kept)
@@ -35,10 +35,24 @@ returns-in-Ok-clause-rolled g c = λ good begins shallow placed.
     let lines = map entry_of c.args.lines.items in
     let desk = c.roll_forward-came.result.1 in
     let at = c.roll_forward-came.result.2 in
-    let come = goes_on kept has_place R c.args.place lines c.roll_forward-came.result.0 c.in-Ok.field-0 desk at None [] c.in-Ok.is
-    (c.roll_forward-came.ensures.went good begins shallow placed) in
+    let come = (arrives_on kept has_place R c.args.place lines c.roll_forward-came.result.0 c.in-Ok.field-0 desk at [] c.in-Ok.is
+    (c.roll_forward-came.ensures.went good begins shallow placed)).0 in
     rolled has_place R c.args.place lines desk.book.register c.of.result.book.register (kept desk.store) at come
     (ap (λ (b : Shelved). b.register) (c.of.ensures.book ∙ c.parted-book.ensures.book))
+
+-- the keeper has the place that was come to
+pub returns-in-Ok-clause-placed : goal.returns-in-Ok-clause-placed
+returns-in-Ok-clause-placed g c = λ good begins shallow placed.
+    let kept = g.K.Commit.kept in
+    let has_place = g.K.CommitAt.has_place in
+    let desk = c.roll_forward-came.result.1 in
+    let at = c.roll_forward-came.result.2 in
+    let store = c.of.ensures.store in
+    let here = (arrives_on kept has_place c.args.desk.book.register c.args.place (map entry_of c.args.lines.items) c.roll_forward-came.result.0
+    c.in-Ok.field-0 desk at [] c.in-Ok.is (c.roll_forward-came.ensures.went good begins shallow placed)).1 in
+    placed_as has_place kept desk.store c.of.result.store.keeper at c.of.result.store.at
+    (ap (λ (k : Keeper g.row.K.Denot g.row.J.Denot g.row.C.Denot). k.keeper) store ∙ c.new-keeper.ensures.keeper ∙ c.parted-book.ensures.kept)
+    (ap (λ (k : Keeper g.row.K.Denot g.row.J.Denot g.row.C.Denot). k.at) store ∙ c.new-keeper.ensures.at) here
 
 pub returns-in-Ok-clause-led : goal.returns-in-Ok-clause-led
 returns-in-Ok-clause-led g c =
@@ -52,8 +66,8 @@ returns-in-Ok-clause-led g c =
 
 pub returns-in-Err-clause-stops : goal.returns-in-Err-clause-stops
 returns-in-Err-clause-stops g c = λ good begins shallow at.
-    stops_on g.K.Commit.kept g.K.CommitAt.has_place c.args.desk.book.register c.args.place (map entry_of c.args.lines.items) c.roll_forward-came.result.0
-    c.in-Err.fault c.roll_forward-came.result.1 c.roll_forward-came.result.2 None [] c.in-Err.is
+    stops_there g.K.Commit.kept g.K.CommitAt.has_place c.args.desk.book.register c.args.place (map entry_of c.args.lines.items) c.roll_forward-came.result.0
+    c.in-Err.fault c.roll_forward-came.result.1 c.roll_forward-came.result.2 [] c.in-Err.is
     (c.roll_forward-came.ensures.went good begins shallow at)
 
 pub returns-in-Err-clause-unchanged : goal.returns-in-Err-clause-unchanged

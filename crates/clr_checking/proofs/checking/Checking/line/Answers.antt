@@ -5,7 +5,7 @@ use Rattle.clr_chain.specs.Walking.{Step as Seen}
 use Rattle.clr_chain.specs.declared.chain_end.ChainEnd.{ChainEnd}
 use Rattle.clr_chain.specs.declared.walk.Step.{Step as SeenStep}
 use Rattle.clr_chain.specs.declared.walk.Walk.{Walk}
-use Rattle.clr_checking.proofs.Results.{if_err, if_err_both, on_any, on_four, on_ok}
+use Rattle.clr_checking.proofs.Results.{if_err, if_err_both, on_any, on_five, on_ok}
 use Rattle.clr_checking.proofs.Checked.{bad_over, line_checked, line_checked_from, line_refused, line_refused_from}
 use Rattle.clr_checking.proofs.checking.Checking.line.Goals as goal
 
@@ -25,9 +25,10 @@ returns-in-Holds-clause-went_from c =
     let walk = c.step.new.self in
     let step : (holds (entry_of c.in-Holds.line), walk.end) ≡ step_of old.walk.end c.args.text.now =
     ap (λ (s : SeenStep). (seen_step s, walk.end)) (sym c.in-Holds.is) ∙ c.in_ok-seen.ensures.step in
-    on_four c.next.result (λ goes stays waited passed copied at first place R texts to.
+    on_five c.next.result (λ goes stays waited passed settles copied at first place R texts to.
     line_checked_from copied R at first place texts c.args.text.now (entry_of c.in-Holds.line) old c.next.new.self walk step c.step.ensures.id
-    c.next.ensures.walk c.next.ensures.begun goes stays waited passed to) c.next.ensures.went c.next.ensures.kept c.next.ensures.waited c.next.ensures.passed
+    c.next.ensures.walk c.next.ensures.begun goes stays waited passed settles to) c.next.ensures.went c.next.ensures.kept c.next.ensures.waited c.next.ensures.passed
+    c.next.ensures.settled
 
 pub returns-in-Holds-clause-refused : goal.returns-in-Holds-clause-refused
 returns-in-Holds-clause-refused c =

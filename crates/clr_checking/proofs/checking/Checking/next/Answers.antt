@@ -30,4 +30,7 @@ returns-in-None-clause-refused_from c =
     if_err c.run.result (λ fault refuses copied at first place R before is w. absurd (cc (sym w.from ∙ c.in-None.is))) c.run.ensures.refused
 
 pub returns-in-None-clause-passed : goal.returns-in-None-clause-passed
-returns-in-None-clause-passed c = on_any c.run.result (λ at some. absurd (cc (sym (c.run.ensures.begun c.in-None.is) ∙ some)))
+returns-in-None-clause-passed c = on_any c.run.result (λ at some settled. absurd (cc (sym (c.run.ensures.begun c.in-None.is) ∙ some)))
+
+pub returns-in-None-clause-settled : goal.returns-in-None-clause-settled
+returns-in-None-clause-settled c = c.run.ensures.settled

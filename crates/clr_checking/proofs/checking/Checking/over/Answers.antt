@@ -10,10 +10,10 @@ pub returns-clause-begun : goal.returns-clause-begun
 returns-clause-begun c =
     if_ok c.met_at_first.result (λ it went.
     went c.args.desk.book.register c.args.first c.args.place c.args.book.now.register c.from.ensures.id c.from.ensures.end refl
-    (fresh c.args.first _ refl refl refl)) c.met_at_first.ensures.went
+    (fresh c.args.first _ refl refl refl refl)) c.met_at_first.ensures.went
 
 pub returns-clause-refused : goal.returns-clause-refused
 returns-clause-refused c =
     if_err c.met_at_first.result (λ fault why.
     why c.args.desk.book.register c.args.first c.args.place c.args.book.now.register c.from.ensures.id c.from.ensures.end refl
-    (fresh c.args.first _ refl refl refl)) c.met_at_first.ensures.refused
+    (fresh c.args.first _ refl refl refl refl)) c.met_at_first.ensures.refused

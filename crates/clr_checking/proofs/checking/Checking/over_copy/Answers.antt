@@ -17,6 +17,7 @@ returns-clause-begun c =
       register = refl;
       count = refl;
       met = refl;
+      missed = tt;
     })) c.met_at_first.ensures.went_from
 
 pub returns-clause-refused : goal.returns-clause-refused
@@ -31,4 +32,5 @@ returns-clause-refused c =
       register = refl;
       count = refl;
       met = refl;
+      missed = tt;
     })) c.met_at_first.ensures.refused_from

@@ -2,6 +2,7 @@ use Rattle.std.proofs.Common.{Option, subst}
 use Rattle.clr_desk.proofs.Givings.{leads_itself}
 use Rattle.clr_journal.specs.declared.line.Carried.{Carried}
 use Rattle.clr_level.specs.Forward.{HasCome}
+use Rattle.clr_level.proofs.Forwarding.{went_on}
 use Rattle.clr_level.proofs.forward.Forward.close.Goals as goal
 
 pub returns-in-None-clause-led : goal.returns-in-None-clause-led
@@ -10,6 +11,8 @@ returns-in-None-clause-led g c = leads_itself g.K.Commit.kept g.K.Commit.takes g
 pub returns-in-Some-clause-went : goal.returns-in-Some-clause-went
 returns-in-Some-clause-went g c = λ R place lines rest good answered kept come.
     let self = c.args.self in
-    c.carry_out.ensures.went R place lines rest good answered kept
+    let next = c.carry_out.result.1 in
+    went_on g.K.Commit.kept g.K.CommitAt.has_place R place lines c.carry_out.result.0 next.desk next.at rest
+    (c.carry_out.ensures.went R place lines rest good answered kept
     (subst (λ (one : Option Carried). HasCome g.K.CommitAt.has_place R place lines self.desk.book.register (g.K.Commit.kept self.desk.store) self.at one rest)
-    c.in-Some.is come)
+    c.in-Some.is come))

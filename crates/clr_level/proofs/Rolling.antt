@@ -1,0 +1,116 @@
+-- A desk that is rolled forward: by commands, and then by a move of its place.
+use Rattle.std.proofs.Common.{◌≡◌, ◌⊎◌, [], List, None, Result, Ok, Err, inl, inr, arith, refl, ap, subst, sym}
+use Rattle.sqlite.specs.Effect.{Database}
+use Rattle.sqlite.specs.State.{State}
+use Rattle.clr_book.specs.Book.{Shelved}
+use Rattle.clr_place.specs.declared.place.Place.{Place}
+use Rattle.clr_rules.specs.Register.{Register}
+use Rattle.clr_journal.specs.Line.{Entry}
+use Rattle.clr_tables.specs.Tables.{tables_of}
+use Rattle.clr_tables.specs.TableEdits.{tables_edited}
+use Rattle.clr_load.specs.Stored.{HasTables}
+use Rattle.clr_desk.specs.Given.{LeadsTo}
+use Rattle.clr_desk.specs.Kept.{Keeps}
+use Rattle.clr_desk.specs.Placing.{CommitsAt, Placing}
+use Rattle.clr_desk.specs.Taking.{Came, Hearing, Taking}
+use Rattle.clr_desk.specs.declared.desk.Desk.{Desk}
+use Rattle.clr_desk.specs.declared.desk_fault.DeskFault.{DeskFault}
+use Rattle.clr_desk.proofs.Givings.{leads_itself, leads_on}
+use Rattle.clr_desk.proofs.Keeping.{keeps_on}
+use Rattle.clr_level.specs.Forward.{Arrives, HasCome, IsMoved, RollsTo}
+use Rattle.clr_level.specs.declared.fault.OpeningFault.TheVariants.{Desk as Failed}
+use Rattle.clr_level.proofs.Forwarding.{moved_on, stayed, stopped}
+use Rattle.clr_level.proofs.Places.{comes, shows_still}
+
+-- the tables stay, whether the place is kept or not
+pub moved_keeps : (has_place : Placing) (s t : State) (R : Register) (place : Place) (came : Came) → CommitsAt {X = Unit {0}} has_place s t [] place came
+    → Keeps s R t R
+unfolding tables_edited
+moved_keeps has_place s t R place (Ok done) moved = record {
+  good = λ good. good;
+  typed = λ good typed. typed;
+  clean = λ clean. omega (arith, moved.crash.clean);
+  was_open = moved.commits.was_open;
+  tables = λ clean shown good has. moved.commits.made clean (tables_of R) has;
+  saved = λ clean shown saved. moved.commits.saved clean;
+  counts = moved.crash.counts;
+  closes = moved.crash.closes;
+}
+moved_keeps has_place s t R place (Err fault) moved = record {
+  good = λ good. good;
+  typed = λ good typed. typed;
+  clean = λ clean. omega (arith, moved.crash.clean);
+  was_open = moved.commits.was_open;
+  tables = λ clean shown good has. subst (λ (db : Database). HasTables db (tables_of R)) (sym (moved.commits.none clean shown)) has;
+  saved = λ clean shown saved. moved.commits.still_saved clean shown saved;
+  counts = moved.crash.counts;
+  closes = moved.crash.closes;
+}
+
+module _ {K : Type 0} (kept : K → State) (takes : Taking K) (hears : Hearing K) (has_place : Placing) where
+  pub rolls_by : (old new : Desk K) → LeadsTo kept takes hears old new → RollsTo kept takes hears has_place old new
+  rolls_by old new led = record { before = new; led = led; book = refl; store = inl refl }
+
+  pub rolls_itself : (d : Desk K) → RollsTo kept takes hears has_place d d
+  rolls_itself d = rolls_by d d (leads_itself kept takes hears d)
+
+  pub rolls_on : (old between new : Desk K) → LeadsTo kept takes hears old between → RollsTo kept takes hears has_place between new
+      → RollsTo kept takes hears has_place old new
+  rolls_on old between new led rolls = record {
+    before = rolls.before;
+    led = leads_on kept takes hears old between rolls.before led rolls.led;
+    book = rolls.book;
+    store = rolls.store;
+  }
+
+  store_keeps : (R : Register) (before after : K) → (after ≡ before) ⊎ IsMoved kept has_place before after → (s : State) (S : Register)
+      → Keeps s S (kept before) R → Keeps s S (kept after) R
+  store_keeps R before after (inl same) s S keeps = subst (λ (k : K). Keeps s S (kept k) R) (sym same) keeps
+  store_keeps R before after (inr (place, came, moved)) s S keeps =
+      keeps_on s (kept before) (kept after) S R R keeps (moved_keeps has_place (kept before) (kept after) R place came moved)
+
+  -- what commands keep is kept
+  pub rolls_keep : (old new : Desk K) → RollsTo kept takes hears has_place old new
+      → Keeps (kept old.store) old.book.register (kept new.store) new.book.register
+  rolls_keep old new rolls =
+      subst (λ (b : Shelved). Keeps (kept old.store) old.book.register (kept new.store) b.register) (sym rolls.book)
+      (store_keeps rolls.before.book.register rolls.before.store new.store rolls.store (kept old.store) old.book.register rolls.led.keeps)
+
+-- ---- a desk whose keeper was called to move its place
+
+module _ {K : Type 0} (kept : K → State) (has_place : Placing) (old new : Desk K) (before after : K) (at : Place) (book : new.book ≡ old.book)
+    (store : before ≡ old.store) (store' : new.store ≡ after) where
+  moved_there : (came : Came) → CommitsAt {X = Unit {0}} has_place (kept before) (kept after) [] at came
+      → CommitsAt {X = Unit {0}} has_place (kept old.store) (kept new.store) [] at came
+  moved_there came moved =
+      subst (λ (k : K). CommitsAt {X = Unit {0}} has_place (kept old.store) (kept k) [] at came) (sym store')
+      (subst (λ (k : K). CommitsAt {X = Unit {0}} has_place (kept k) (kept after) [] at came) store moved)
+
+  same : new.book.register ≡ old.book.register
+  same = ap (λ (b : Shelved). b.register) book
+
+  pub move_arrives : (came : Came) (done : Unit {0}) → came ≡ Ok done → CommitsAt {X = Unit {0}} has_place (kept before) (kept after) [] at came
+      → (R : Register) (place : Place) (lines : List Entry) → HasCome has_place R place lines old.book.register (kept old.store) at None []
+      → Arrives kept has_place R place lines (Ok tt) new at []
+  move_arrives came done is moved R place lines come =
+      moved_on has_place R place lines old.book.register new.book.register (kept old.store) (kept new.store) at come same
+      (comes has_place (kept old.store) (kept new.store) [] at
+      (subst (CommitsAt {X = Unit {0}} has_place (kept old.store) (kept new.store) [] at) is (moved_there came moved)))
+
+  pub move_stops : (came : Came) (fault : DeskFault) → came ≡ Err fault → CommitsAt {X = Unit {0}} has_place (kept before) (kept after) [] at came
+      → (R : Register) (place : Place) (lines : List Entry) → HasCome has_place R place lines old.book.register (kept old.store) at None []
+      → Arrives kept has_place R place lines (Err (Failed fault)) new at []
+  move_stops came fault is moved R place lines come =
+      stopped has_place R place lines new.book.register (kept new.store) at None []
+      (stayed has_place R place lines old.book.register new.book.register (kept old.store) (kept new.store) at None [] come same
+      (shows_still has_place (kept old.store) (kept new.store) [] at fault
+      (subst (CommitsAt {X = Unit {0}} has_place (kept old.store) (kept new.store) [] at) is (moved_there came moved))))
+
+  pub move_rolls : (takes : Taking K) (hears : Hearing K) (came : Came) → CommitsAt {X = Unit {0}} has_place (kept before) (kept after) [] at came
+      → RollsTo kept takes hears has_place old new
+  move_rolls takes hears came moved = record {
+    before = old;
+    led = leads_itself kept takes hears old;
+    book = book;
+    store = inr (at, came, moved_there came moved);
+  }
