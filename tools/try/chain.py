@@ -239,10 +239,11 @@ def found(place, data):
         return "journal OtherRegister"
     for at in range(len(lines) - 1, 0, -1):
         entry = entry_in(lines[at])
-        if entry and "withdrawn" not in entry and entry["number"] == place.number:
-            if has_fraction(entry) or lines[at] != written(entry | {"sum": place.sum}):
+        if entry and entry["number"] == place.number:
+            if not has_fraction(entry) and lines[at] == written(entry | {"sum": place.sum}):
+                return after(place, accepts(entry), data, lines, at + 1)
+            if "withdrawn" not in entry:
                 return f"journal Differs {place.number}"
-            return after(place, accepts(entry), data, lines, at + 1)
         if entry and entry["number"] < place.number:
             return too_short(entry["number"], lines[at + 1:])
     return by_first(place, first, data, lines)
@@ -276,13 +277,16 @@ def after(place, is_open, data, lines, at):
 
 
 def place_after(place, entries):
-    """The place of a register once it was rolled forward through lines."""
-    own, done = place.sum, carried_out(entries)
+    """The place of a register once it was rolled forward through lines: it is that of the last one."""
     for entry in entries:
-        own = sum_after(own, entry)
-        if entry in done:
-            place = Place(place.id, entry["number"], own)
+        place = Place(place.id, entry["number"], sum_after(place.sum, entry))
     return place
+
+
+def place_at_last(place, entries):
+    """The place at the last of these lines whose command was carried out."""
+    done = [number for number, entry in enumerate(entries, 1) if entry in carried_out(entries)]
+    return place_after(place, entries[:max([0, *done])])
 
 
 def carried_out(entries):

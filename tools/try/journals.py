@@ -6,6 +6,7 @@ refused, and a journal in several parts.
     tools/try/journals.py [--full]    --full flips a bit of each byte, and cuts at each"""
 
 import concurrent.futures
+import contextlib
 import itertools
 import json
 import lzma
@@ -14,12 +15,13 @@ import pathlib
 import random
 import re
 import shutil
+import sqlite3
 import sys
 import tempfile
 import time
 
 from chain import Ahead, Chain, Place, accepts, bad_lines, carried, carried_out, first_in, first_place, first_text, found
-from chain import is_bad_alone, lines_in, place_after, place_of, rows_of, text_of, unread, walk, written
+from chain import is_bad_alone, lines_in, place_after, place_at_last, place_of, rows_of, text_of, unread, walk, written
 from looks import FILES, TOP, Server, copied, fault, get, look, main, post, register, replied, run, same, shift
 
 IS_FULL = "--full" in sys.argv[1:]
@@ -125,7 +127,7 @@ def of_run(folder):
 
 def last_accepted(first, chain):
     """The place at the last command of a chain that was carried out."""
-    return place_after(first, [entry for _, entry in walk(first, chain.lines[1:])])
+    return place_at_last(first, [entry for _, entry in walk(first, chain.lines[1:])])
 
 
 def in_brief(folder):
@@ -298,7 +300,7 @@ class Whole:
             same(f"{title}: refused", result, (1, "", f"fault: {wanted}\n"))
             look(f"{title}: nothing is changed", journal.read_bytes() == data and path.read_bytes() == before, wanted)
             same(f"{title}: its place", place_of(path), place)
-        same(f"{title}: its board", run("board", path)[1], self.boards[place.number])
+        same(f"{title}: its board", run("board", path)[1], self.boards[max(number for number in self.boards if number <= place.number)])
         for one in (path, journal):
             one.unlink()
             one.with_name(f"{one.name}-wal").unlink(missing_ok=True)
@@ -519,6 +521,10 @@ def forged(folder):
     for entry in entries[:21]:
         chain.put(entry)
     chain.withdraw()
+    other.write_bytes(chain.text())
+    for title in ("opened", "and once more"):
+        same(f"a command that was withdrawn at the end: {title}", opened(path, other), (0, "", ""))
+        same("its place is after the withdrawal", place_of(path), chain.place)
     chain.put(entries[20] | {"number": 22})
     other.write_bytes(chain.text())
     same("a command that was withdrawn, and given again: opened", opened(path, other), (0, "", ""))
@@ -684,10 +690,12 @@ def parts(folder):
     # a copy from before: first with its own part, then with the next
     same("a copy from before, and the new part", opened(before, two), (1, "", "fault: journal TooShort\n"))
     same("a copy from before, and its own part", opened(before, one), (0, "", ""))
-    spare = folder / "spare"
+    same("it is where that part ends", place_of(before), place)
+    spare, rolled = folder / "spare", copied(before, folder / "rolled.db")
+    same("and goes on in the new part", opened(rolled, two), (0, "", ""))
     next_part(before, one, spare, place.number)
     same("begun again it is the same first line", spare.read_bytes(), text_of(lines_in(two.read_bytes())[:1]))
-    same("and then it goes on in the new part", opened(before, two), (0, "", ""))
+    same("and then it goes on in the new part too", opened(before, two), (0, "", ""))
     same("as the register did", run("board", before), run("board", copied(half, folder / "board.db")))
 
 
@@ -722,13 +730,31 @@ def next_parts_refused(folder):
     for _, entry in walk(chain.place, lines_in(journal.read_bytes())[1:]):
         chain.put(entry)
     chain.add(json.loads(shift(6)[5]), {"card": {}, "reply": "accepted"})
+    at_command = chain.place
     chain.withdraw()
     journal.write_bytes(chain.text())
     next_part(path, journal, folder / "new", 6)
     same("its place is after the withdrawal", place_of(path), chain.place)
     same("it opens", opened(path, folder / "new"), (0, "", ""))
-    # until the next command is accepted, verify does not know a place at a withdrawal
-    same("a part that ends with a withdrawal: verify", run("verify", path, journal, "--part", folder / "new", *FILES), (1, "", "fault: journal Differs 6\n"))
+    after_withdrawal(folder, path, journal, chain.place, at_command)
+
+
+def after_withdrawal(folder, path, journal, place, at_command):
+    """`verify` of a register, or from a copy, whose place is after a withdrawal, at the end of a part; and then on."""
+    after, words = copied(path, folder / "after.db"), ("--part", folder / "new")
+    verified("a part that ends with a withdrawal", path, journal, folder / "new")
+    same("from the withdrawal", run("verify", path, journal, *words, "--from", after), (0, "verified 0 commands\n", ""))
+    for title, own in (("another sum at the withdrawal", place.sum[1:] + place.sum[:1]), ("the sum of the command that is withdrawn", at_command.sum)):
+        one = copied(after, folder / f"changed-{own}.db")
+        with contextlib.closing(sqlite3.connect(one)) as changed:
+            changed.execute("UPDATE journal SET sum = ?", (own,))
+            changed.commit()
+        for database, further in ((one, FILES), (one, ["--from", after]), (path, ["--from", one])):
+            same(f"{title}: verify", run("verify", database, journal, *words, *further), (1, "", "fault: journal Differs 6\n"))
+    run("run", "--db", path, "--journal", folder / "new", lines=shift(6)[5:])
+    for title, database in (("the next command", path), ("the copy before it", after)):
+        verified(title, database, journal, folder / "new")
+    same("the next command, from the withdrawal", run("verify", path, journal, *words, "--from", after), (0, "verified 1 commands\n", ""))
 
 
 def commands(folder):

@@ -55,13 +55,12 @@ class Made:
         self.texts = [pathlib.Path(path).read_bytes() for path in self.files]
 
     def register_at(self, number):
-        """A copy of the register at the last accepted line up to this number; an opening takes an earlier one there."""
+        """A copy of the register at this number: an opening takes an earlier one there."""
         path, journal = self.folder / "one.db", self.folder / "one.journal"
         copied(next(copy for copy in reversed(self.copies) if place_of(copy).number <= number), path)
         journal.write_bytes(text_of(self.lines[:number + 1]))
         expect(run("run", "--db", path, "--journal", journal) == (0, "", ""), f"it does not open at {number}")
-        accepted = [at for at in range(1, number + 1) if accepts(entry_in(self.lines[at]))]
-        expect(place_of(path).number == max([0, *accepted]), f"at {number} its place is {place_of(path)}")
+        expect(place_of(path).number == number, f"at {number} its place is {place_of(path)}")
         return path
 
     def synced(self):
