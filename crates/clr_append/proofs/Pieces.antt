@@ -1,13 +1,13 @@
 -- The first line of a text, and what comes after it.
-use Rattle.std.proofs.Common.{◌≡◌, ◌∙◌, zero, suc, append_assoc, length-append, ◌+◌, ◌-◌, ◌<◌, ◌≤◌, ◌⊎◌, ℕ, Bool, true, false, cond, List, [], ◌∷◌, ◌++◌, ◌||◌, length, take, drop, None, Some, nat_lt, refl, ap, sym, subst, arith, All, inl, inr, length-drop, ltb-true, lt-ltb}
+use Rattle.std.proofs.Common.{◌≡◌, ◌∙◌, append_assoc, ◌+◌, ◌-◌, ◌<◌, ℕ, Bool, true, false, cond, List, [], ◌∷◌, ◌++◌, ◌||◌, length, take, drop, None, Some, nat_lt, refl, ap, sym, subst, arith, All, inl, inr, length-drop, ltb-true, lt-ltb}
 use Rattle.std.proofs.lemmas.Bool.{cases_lt}
 use Rattle.std.proofs.lemmas.List.Elements.{All-cons, All-nil}
-use Rattle.std.proofs.Math.Seq.{take-length, take-append_seam}
+use Rattle.std.proofs.Math.Seq.{take-length}
 use Rattle.std.proofs.lemmas.List.Splits.{slice_split_at, slice_split_first, slice_split_none, length-slice_split, join_with_byte-slice_split}
 use Rattle.std.proofs.lemmas.List.Sums.{fails_before_first}
-use Rattle.std.specs.List.{count_by, join_with_byte, last_or, list_any, onto_first, position_or_len}
+use Rattle.std.specs.List.{join_with_byte, list_any, position_or_len}
 use Rattle.std.specs.Prelude.{position}
-use Rattle.clr_append.specs.Lines.{but_last, ended_lines, ended_text, is_line_feed, last_line, last_of, pieces, text_of, unfinished}
+use Rattle.clr_append.specs.Lines.{but_last, ended_lines, ended_text, is_line_feed, last_of, pieces, text_of, unfinished}
 
 pub rest_of_slice : (n : ℕ) (xs : List ℕ) → take (length xs - n) (drop n xs) ≡ drop n xs
 rest_of_slice n xs = ap (λ k. take k (drop n xs)) (sym (length-drop n xs)) ∙ take-length (drop n xs)
@@ -78,33 +78,6 @@ not_found xs is =
     let one : pieces xs ≡ xs ∷ [] = slice_split_none is_line_feed xs (onto_nothing xs is) in
     (ap but_last one, ap last_of one)
 
--- ---- the end of a text says what the whole says, where it has two line feeds
-
-record Same (ps more : List (List ℕ)) : Type 0 where
-  pub last : last_or None (but_last ps) ≡ last_or None (but_last more)
-  pub rest : last_of ps ≡ last_of more
-  pub enough : 3 ≤ length more
-
-byte_more : (b : Bool) (x : ℕ) (ps : List (List ℕ)) → 3 ≤ length ps → Same ps (cond b ([] ∷ ps) (onto_first x ps))
-byte_more b x [] h = absurd (omega (arith, h))
-byte_more b x (p ∷ []) h = absurd (omega (arith, h))
-byte_more b x (p ∷ q ∷ []) h = absurd (omega (arith, h))
-byte_more true x (p ∷ q ∷ r ∷ ps) h = record { last = refl; rest = refl; enough = omega arith }
-byte_more false x (p ∷ q ∷ r ∷ ps) h = record { last = refl; rest = refl; enough = omega arith }
-
-pieces_same : (n : ℕ) (xs : List ℕ) → 3 ≤ length (pieces (drop n xs)) → Same (pieces (drop n xs)) (pieces xs)
-pieces_same zero xs h = record { last = refl; rest = refl; enough = h }
-pieces_same (suc n) [] h = absurd (omega (arith, h))
-pieces_same (suc n) (x ∷ xs) h =
-    let inner = pieces_same n xs h in
-    let more = byte_more (is_line_feed x) x (pieces xs) inner.enough in
-    record { last = inner.last ∙ more.last; rest = inner.rest ∙ more.rest; enough = more.enough }
-
-pub end_same : (n : ℕ) (xs : List ℕ) → 2 ≤ count_by is_line_feed (drop n xs) → (last_line (drop n xs) ≡ last_line xs) × (unfinished (drop n xs) ≡ unfinished xs)
-end_same n xs h =
-    let size = length-slice_split is_line_feed (drop n xs) in
-    let is = pieces_same n xs (omega (arith, size, h)) in (is.last, is.rest)
-
 -- ---- a text is its lines, and what no line feed ends
 
 glued : (ps : List (List ℕ)) (rest : List ℕ) → last_of ps ≡ Some rest → text_of (but_last ps) ++ rest ≡ join_with_byte 10 ps
@@ -120,31 +93,3 @@ glued (p ∷ q ∷ more) rest h =
 
 pub whole_text : (xs rest : List ℕ) → unfinished xs ≡ Some rest → ended_text xs ++ rest ≡ xs
 whole_text xs rest h = glued (pieces xs) rest h ∙ join_with_byte-slice_split 10 xs
-
-taken : (front rest xs : List ℕ) → front ++ rest ≡ xs → take (length xs - length rest) xs ≡ front
-taken front rest xs is =
-    let size = length-append front rest in
-    let n : length xs - length rest ≡ length front = rw (sym is) (omega (arith, size)) in
-    ap (λ k. take k xs) n ∙ ap (λ t. take (length front) t) (sym is) ∙ take-append_seam front rest
-
-pub ended_is_front : (xs rest : List ℕ) → unfinished xs ≡ Some rest → take (length xs - length rest) xs ≡ ended_text xs
-ended_is_front xs rest h = taken (ended_text xs) rest xs (whole_text xs rest h)
-
--- ---- the end of what a disk holds, read back
-
-abbrev Enough : List ℕ → ℕ → Type 0
-Enough tail len = (length tail ≡ len) ⊎ (2 ≤ count_by is_line_feed tail)
-
-pub end_says : (whole tail : List ℕ) (len : ℕ) → len ≡ length whole → tail ≡ drop (len - length tail) whole → Enough tail len
-    → (last_line tail ≡ last_line whole) × (unfinished tail ≡ unfinished whole)
-end_says whole tail len size is (inl all) =
-    let none : len - length tail ≡ 0 = omega (arith, all) in
-    let same : tail ≡ whole = is ∙ ap (λ n. drop n whole) none in
-    (ap last_line same, ap unfinished same)
-end_says whole tail len size is (inr two) =
-    let same = end_same (len - length tail) whole (subst (λ (bytes : List ℕ). 2 ≤ count_by is_line_feed bytes) is two) in
-    (ap last_line is ∙ same.0, ap unfinished is ∙ same.1)
-
-pub end_is_front : (whole rest : List ℕ) (len end : ℕ) → len ≡ length whole → unfinished whole ≡ Some rest → end ≡ len - length rest → take end whole ≡ ended_text whole
-end_is_front whole rest len end size is at =
-    ap (λ n. take n whole) (at ∙ ap (λ n. n - length rest) size) ∙ ended_is_front whole rest is

@@ -1,7 +1,7 @@
 -- THE LINES OF A TEXT: those that a line feed ends. What comes after the last line feed is none
 -- yet.
 use Rattle.std.specs.Prelude.{ℕ, Bool, ◌==◌, List, [], ◌∷◌, ◌++◌, Option, None, Some}
-use Rattle.std.specs.List.{flat_map, last_or, slice_split}
+use Rattle.std.specs.List.{flat_map, slice_split}
 
 abbrev pub is_line_feed : ℕ → Bool
 is_line_feed b = b == 10
@@ -29,10 +29,6 @@ ended_lines text = but_last (pieces text)
 -- what no line feed ends
 abbrev pub unfinished : List ℕ → Option (List ℕ)
 unfinished text = last_of (pieces text)
-
--- the last line
-abbrev pub last_line : List ℕ → Option (List ℕ)
-last_line text = last_or None (ended_lines text)
 
 -- a line with its line feed
 abbrev pub with_feed : List ℕ → List ℕ

@@ -1,6 +1,6 @@
 //! The lines of a text.
-ghost use Rattle.std.specs.Prelude.{◌≡◌, ◌<◌, ◌≤◌, ◌∷◌, [], length, IfNone, IfSome, Some, option_map, position};
-ghost use Rattle.clr_append.specs.Lines.{ended_lines, is_line_feed, last_line, unfinished};
+ghost use Rattle.std.specs.Prelude.{◌≡◌, ◌<◌, ◌∷◌, [], length, IfNone, IfSome, Some, position};
+ghost use Rattle.clr_append.specs.Lines.{ended_lines, is_line_feed, unfinished};
 
 /// The first line of a text, without its line feed, and what comes after that.
 pub fn first_line(text: &[u8]) -> Option<(&[u8], &[u8])>
@@ -22,19 +22,4 @@ fn feed_at(text: &[u8]) -> Option<usize>
     ensures { result ≡ position is_line_feed text.now }
 {
     text.iter().position(|byte| *byte == b'\n')
-}
-
-/// The last line of a text, and what comes after its line feed.
-pub fn last_line(text: &[u8]) -> (Option<&[u8]>, &[u8])
-    ensures last { option_map (λ line. line.now) result.0 ≡ last_line text.now }
-    ensures rest { unfinished text.now ≡ Some result.1.now }
-    ensures short { length result.1.now ≤ length text.now }
-{
-    let mut last = None;
-    let mut rest = text;
-    while let Some((line, after)) = first_line(rest) {
-        last = Some(line);
-        rest = after;
-    }
-    (last, rest)
 }

@@ -8,10 +8,9 @@ use Rattle.clr_append.proofs.Pieces.{line_first, no_line}
 use Rattle.clr_append.specs.Lines.{ended_lines, is_line_feed}
 use Rattle.clr_result.specs.Results.{◌>>=◌}
 use Rattle.clr_journal.proofs.JournalsRead.{is_the_next, lines_are_one_line, taken_by}
-use Rattle.clr_journal.specs.Journals.{first_turn, in_turn, is_next, journal_text, lines_read, next_place, turn_after}
+use Rattle.clr_journal.specs.Journals.{bad_line, first_turn, in_turn, is_next, journal_text, lines_read, next_place, turn_after}
 use Rattle.clr_journal.specs.Laws.{FrontsRead, ReadBack}
 use Rattle.clr_journal.specs.Line.{Entry, line_text, read_line}
-use Rattle.clr_journal.specs.declared.fault.JournalFault.TheVariants.{BadLine}
 use Rattle.clr_journal.specs.declared.reading.Turn.{Turn}
 
 none_in_front : (n : ℕ) (xs : List ℕ) → list_any is_line_feed xs ≡ false → list_any is_line_feed (take n xs) ≡ false
@@ -30,7 +29,7 @@ whole_line : (place : ℕ) (turn : Turn) (entry : Entry) (rest : List ℕ) (more
 whole_line place turn entry rest more reads next read =
     ap (λ text. lines_read place turn (ended_lines text)) (append_assoc (line_text entry) (10 ∷ []) rest)
     ∙ ap (lines_read place turn) (line_first (line_text entry) rest (lines_are_one_line entry)).0
-    ∙ taken_by place turn (line_text entry) (ended_lines rest) entry (ap (λ found. ok_or found (BadLine place)) (is_the_next turn entry reads next))
+    ∙ taken_by place turn (line_text entry) (ended_lines rest) entry (ap (λ found. ok_or found (bad_line place)) (is_the_next turn entry reads next))
     ∙ ap (λ found. found >>= λ all. Ok (entry ∷ all)) read
 
 -- the first line is not whole

@@ -1,5 +1,5 @@
 -- Journals read back; and what a line more makes of one.
-use Rattle.std.proofs.Common.{◌≡◌, ◌∙◌, ◌&&◌, ◌++◌, ℕ, Bool, true, false, not, cond, List, [], ◌∷◌, map, Option, None, Some, Result, Ok, Err, ok_or, Vec, Global, refl, ap, ap₂, sym, append_assoc, append-nil, option_and_then}
+use Rattle.std.proofs.Common.{◌≡◌, ◌∙◌, ◌&&◌, ◌++◌, ℕ, Bool, true, false, not, cond, List, [], ◌∷◌, Option, None, Some, Ok, ok_or, refl, ap, sym, append_assoc, append-nil, option_and_then}
 use Rattle.std.proofs.lemmas.Bool.{and_from, and_parts}
 use Rattle.std.specs.List.{list_any}
 use Rattle.serde_json.specs.Data.{Data}
@@ -8,12 +8,9 @@ use Rattle.clr_append.specs.Lines.{ended_lines, is_line_feed}
 use Rattle.clr_result.specs.Results.{◌>>=◌}
 use Rattle.clr_rules.specs.declared.command.Command.{Command}
 use Rattle.clr_text.proofs.PlainTexts.{one_line}
-use Rattle.clr_journal.specs.Journals.{Gives, carried_out, first_turn, if_next, in_turn, is_next, journal_text, lines_read, next_line, next_place, onto_some, own_pair, turn_after, withdraws}
+use Rattle.clr_journal.specs.Journals.{bad_line, carried_out, first_turn, if_next, in_turn, is_next, journal_text, lines_read, next_line, next_place, onto_some, own_pair, turn_after, withdraws}
 use Rattle.clr_journal.specs.Laws.{CommandsGrow, JournalsReadBack, LinesAreOneLine, LinesGrow, ReadBack, WithdrawnIsLeftOut, turn_behind}
-use Rattle.clr_journal.specs.Line.{Entry, carried, withdrawn, entry_data, entry_of, is_accepted, line_text, read_line}
-use Rattle.clr_journal.specs.declared.fault.JournalFault.{JournalFault}
-use Rattle.clr_journal.specs.declared.fault.JournalFault.TheVariants.{BadLine, NoMemory}
-use Rattle.clr_journal.specs.declared.line.Line.{Line}
+use Rattle.clr_journal.specs.Line.{Entry, carried, withdrawn, entry_data, is_accepted, line_text, read_line}
 use Rattle.clr_journal.specs.declared.reading.Turn.{Turn}
 
 pub lines_are_one_line : LinesAreOneLine
@@ -21,7 +18,7 @@ lines_are_one_line entry = one_line (entry_data entry)
 
 -- ---- reading
 
-pub taken_by : (place : ℕ) (turn : Turn) (text : List ℕ) (texts : List (List ℕ)) (entry : Entry) → ok_or (next_line turn text) (BadLine place) ≡ Ok entry
+pub taken_by : (place : ℕ) (turn : Turn) (text : List ℕ) (texts : List (List ℕ)) (entry : Entry) → ok_or (next_line turn text) (bad_line place) ≡ Ok entry
     → lines_read place turn (text ∷ texts) ≡ (lines_read (next_place place) (turn_after entry) texts >>= λ rest. Ok (entry ∷ rest))
 unfolding lines_read
 taken_by place turn text texts entry is =
@@ -43,63 +40,11 @@ read_from place turn [] unfinished back turns none = ap (lines_read place turn) 
 read_from place turn (entry ∷ rest) unfinished back turns none =
     let both = and_parts (is_next turn entry) (in_turn (turn_after entry) rest) turns in
     ap (lines_read place turn) (first_of entry rest unfinished)
-    ∙ taken_by place turn (line_text entry) _ entry (ap (λ found. ok_or found (BadLine place)) (is_the_next turn entry back.0 both.0))
+    ∙ taken_by place turn (line_text entry) _ entry (ap (λ found. ok_or found (bad_line place)) (is_the_next turn entry back.0 both.0))
     ∙ ap (λ read. read >>= λ more. Ok (entry ∷ more)) (read_from (next_place place) (turn_after entry) rest unfinished back.1 both.1 none)
 
 pub journals_read_back : JournalsReadBack
 journals_read_back entries unfinished back turns none = read_from 1 first_turn entries unfinished back turns none
-
--- ---- the lines that were read, before those that are left
-
-onto_front : (front : List Entry) (entry : Entry) (read : Result (List Entry) JournalFault)
-    → ((read >>= λ rest. Ok (entry ∷ rest)) >>= λ more. Ok (front ++ more)) ≡ (read >>= λ more. Ok ((front ++ entry ∷ []) ++ more))
-onto_front front entry (Ok rest) = ap (λ all. Ok all) (sym (append_assoc front (entry ∷ []) rest))
-onto_front front entry (Err fault) = refl
-
--- what is left, onto the lines so far
-abbrev pub Left : ℕ → Turn → List ℕ → List Line → Result (List Entry) JournalFault
-Left place turn rest lines = lines_read place turn (ended_lines rest) >>= λ more. Ok (map entry_of lines ++ more)
-
-mapped : (lines : List Line) (line : Line) → map entry_of (lines ++ line ∷ []) ≡ map entry_of lines ++ entry_of line ∷ []
-mapped [] line = refl
-mapped (one ∷ lines) line = ap (λ rest. entry_of one ∷ rest) (mapped lines line)
-
-refused_by : (place : ℕ) (turn : Turn) (text : List ℕ) (texts : List (List ℕ)) (fault : JournalFault) → ok_or (next_line turn text) (BadLine place) ≡ Err fault
-    → lines_read place turn (text ∷ texts) ≡ Err fault
-unfolding lines_read
-refused_by place turn text texts fault is =
-    ap (λ found. found >>= λ one. lines_read (next_place place) (turn_after one) texts >>= λ rest. Ok (one ∷ rest)) is
-
-pub goes_on : (place : ℕ) (turn : Turn) (place' : ℕ) (turn' : Turn) (rest text after : List ℕ) (lines lines' : List Line) (line : Line) (whole : Result (List Entry) JournalFault)
-    → ended_lines rest ≡ text ∷ ended_lines after → ok_or (next_line turn text) (BadLine place) ≡ Ok (entry_of line)
-    → turn' ≡ turn_after (entry_of line) → place' ≡ next_place place → lines' ≡ lines ++ line ∷ []
-    → Left place turn rest lines ≡ whole → Left place' turn' after lines' ≡ whole
-goes_on place turn place' turn' rest text after lines lines' line whole first is turns places grown so_far =
-    let front = map entry_of lines in
-    let entry = entry_of line in
-    let texts = ended_lines after in
-    let onto : List Entry → Result (List Entry) JournalFault → Result (List Entry) JournalFault = λ earlier read. read >>= λ more. Ok (earlier ++ more) in
-    ap₂ (λ p t. lines_read p t texts >>= λ more. Ok (map entry_of lines' ++ more)) places turns
-    ∙ ap (λ earlier. onto earlier (lines_read (next_place place) (turn_after entry) texts)) (ap (map entry_of) grown ∙ mapped lines line)
-    ∙ sym (onto_front front entry (lines_read (next_place place) (turn_after entry) texts))
-    ∙ sym (ap (onto front) (ap (lines_read place turn) first ∙ taken_by place turn text texts entry is))
-    ∙ so_far
-
-pub stops : (place : ℕ) (turn : Turn) (rest text after : List ℕ) (lines : List Line) (fault : JournalFault) (whole : Result (List Entry) JournalFault)
-    → ended_lines rest ≡ text ∷ ended_lines after → Gives entry_of (Err fault) (ok_or (next_line turn text) (BadLine place))
-    → Left place turn rest lines ≡ whole → Gives (λ (vec : Vec Line Global). map entry_of vec.items) (Err fault) whole
-stops place turn rest text after lines NoMemory whole first is so_far = tt
-stops place turn rest text after lines (BadLine n) whole first is so_far =
-    sym so_far
-    ∙ ap (λ read. read >>= λ more. Ok (map entry_of lines ++ more)) (ap (lines_read place turn) first ∙ refused_by place turn text (ended_lines after) (BadLine n) is)
-
-pub ends : (place : ℕ) (turn : Turn) (rest : List ℕ) (lines : List Line) (whole : Result (List Entry) JournalFault)
-    → ended_lines rest ≡ [] → Left place turn rest lines ≡ whole → whole ≡ Ok (map entry_of lines)
-unfolding lines_read
-ends place turn rest lines whole none so_far =
-    sym so_far
-    ∙ ap (λ texts. lines_read place turn texts >>= λ more. Ok (map entry_of lines ++ more)) none
-    ∙ ap (λ all. Ok all) (append-nil (map entry_of lines))
 
 -- ---- a line more
 

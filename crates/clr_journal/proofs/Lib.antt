@@ -1,4 +1,3 @@
-pub mod Ends
 pub mod FrontsRead
 pub mod JournalsRead
 pub mod LinesRead

@@ -1,15 +1,13 @@
 -- WHAT A JOURNAL SAYS: its lines, each the next of the one before; and the commands that were
 -- carried out.
-use Rattle.std.specs.Prelude.{◌≡◌, ◌+◌, ◌-◌, ◌^◌, ◌==◌, ◌&&◌, ℕ, Bool, true, false, not, min, ⊤}
-use Rattle.std.specs.Prelude.{List, [], ◌∷◌, map, Option, None, Some, Result, Ok, Err, ok_or}
+use Rattle.std.specs.Prelude.{◌+◌, ◌-◌, ◌^◌, ◌==◌, ◌&&◌, ℕ, Bool, true, false, not, min}
+use Rattle.std.specs.Prelude.{List, [], ◌∷◌, map, Option, None, Some, Result, Ok, ok_or}
 use Rattle.std.specs.Prelude.{if◌then◌else◌, option_and_then}
 use Rattle.serde_json.specs.Data.{Data}
 use Rattle.clr_append.specs.Lines.{ended_lines, text_of}
 use Rattle.clr_result.specs.Results.{◌>>=◌}
 use Rattle.clr_rules.specs.declared.command.Command.{Command}
 use Rattle.clr_journal.specs.Line.{Entry, carried, withdrawn, is_accepted, line_text, read_line}
-use Rattle.clr_journal.specs.declared.fault.JournalFault.{JournalFault}
-use Rattle.clr_journal.specs.declared.fault.JournalFault.TheVariants.{BadLine, NoMemory}
 use Rattle.clr_journal.specs.declared.reading.Turn.{Turn}
 
 -- before the first line no command has a number, and none may be withdrawn
@@ -45,11 +43,15 @@ next_line turn text = option_and_then (if_next turn) (read_line text)
 abbrev pub next_place : ℕ → ℕ
 next_place place = min (place + 1) (2 ^ 64 - 1)
 
+-- why bytes are no journal: the line at this place is no line, or not the next
+pub data JournalFault : Type 0 where
+  bad_line : ℕ → JournalFault
+
 -- the lines of these texts, or the place of the first that is no line, or not the next
 unfoldable pub lines_read : ℕ → Turn → List (List ℕ) → Result (List Entry) JournalFault
 lines_read place turn [] = Ok []
 lines_read place turn (text ∷ texts) =
-    ok_or (next_line turn text) (BadLine place)
+    ok_or (next_line turn text) (bad_line place)
     >>= λ entry. lines_read (next_place place) (turn_after entry) texts
     >>= λ rest. Ok (entry ∷ rest)
 
@@ -86,11 +88,3 @@ carried_out (entry ∷ rest) = onto_some (own_pair entry rest) (carried_out rest
 
 abbrev pub commands_of : List Entry → List Command
 commands_of entries = map (λ pair. pair.0) (carried_out entries)
-
--- ---- how an answer follows the one that is given
-
--- only want of memory may come in its place
-abbrev pub Gives : {X A : Type 0} → (X → A) → Result X JournalFault → Result A JournalFault → Type 0
-Gives seen (Ok x) said = said ≡ Ok (seen x)
-Gives seen (Err (BadLine place)) said = said ≡ Err (BadLine place)
-Gives seen (Err NoMemory) said = ⊤

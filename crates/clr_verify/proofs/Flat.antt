@@ -11,10 +11,8 @@ use Rattle.clr_result.specs.Results.{◌>>=◌}
 use Rattle.clr_rules.specs.declared.reply.Reply.{Reply}
 use Rattle.clr_text.specs.Reading.{value_of}
 use Rattle.clr_text.specs.Replies.{reply_data}
-use Rattle.clr_journal.specs.Journals.{if_next, is_next, lines_read, next_line, next_place, onto_some, read_journal, turn_after, withdraws}
+use Rattle.clr_journal.specs.Journals.{JournalFault, bad_line, if_next, is_next, lines_read, next_line, next_place, onto_some, read_journal, turn_after, withdraws}
 use Rattle.clr_journal.specs.Line.{Entry, at_key, carried, carried_in, command_at, if_withdrawn, is_accepted, line_in, read_line, receipt_in, withdrawn, withdrawn_in}
-use Rattle.clr_journal.specs.declared.fault.JournalFault.{JournalFault}
-use Rattle.clr_journal.specs.declared.fault.JournalFault.TheVariants.{BadLine}
 use Rattle.clr_journal.specs.declared.reading.Turn.{Turn}
 use Rattle.clr_verify.specs.Replay.{Answered, answered_in, due_answered}
 use Rattle.clr_verify.specs.Replies.{AreReplies}
@@ -124,7 +122,7 @@ lines_are_flat place turn (text ∷ texts) =
     rest entry flat (Err fault) are = tt
 
     first : (o : Option Entry) → IfSome o IsFlat → ((entry : Entry) → IfOk (lines_read (next_place place) (turn_after entry) texts) (Each IsFlat))
-        → IfOk (ok_or o (BadLine place) >>= λ entry. lines_read (next_place place) (turn_after entry) texts >>= λ entries. Ok (entry ∷ entries)) (Each IsFlat)
+        → IfOk (ok_or o (bad_line place) >>= λ entry. lines_read (next_place place) (turn_after entry) texts >>= λ entries. Ok (entry ∷ entries)) (Each IsFlat)
     first None flat more = tt
     first (Some entry) flat more = rest entry flat (lines_read (next_place place) (turn_after entry) texts) (more entry)
 

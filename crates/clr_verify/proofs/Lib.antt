@@ -4,5 +4,3 @@ pub mod Same
 pub mod Flat
 pub mod Taken
 pub mod Replied
-pub mod Carried
-pub mod Lines

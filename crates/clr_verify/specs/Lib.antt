@@ -3,5 +3,3 @@ pub mod Registers
 pub mod Laws
 pub mod Replay
 pub mod Replies
-pub mod Rerun
-pub mod Running

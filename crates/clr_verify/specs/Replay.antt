@@ -1,5 +1,5 @@
 -- THE COMMANDS OF A JOURNAL THAT WERE CARRIED OUT, each with the number and the reply of its line.
-use Rattle.std.specs.Prelude.{◌≡◌, ℕ, true, ◌&&◌, not, List, [], ◌∷◌, Option, None, Some, map}
+use Rattle.std.specs.Prelude.{◌≡◌, ℕ, true, ◌&&◌, not, List, [], ◌∷◌, Option, None, Some}
 use Rattle.std.specs.Prelude.{if◌then◌else◌}
 use Rattle.serde_json.specs.Data.{Data}
 use Rattle.serde_json.specs.View.{view}
@@ -27,10 +27,6 @@ answered_in (entry ∷ rest) = onto_some (own_answered entry rest) (answered_in 
 -- what a line says of a reply: the number of its command, and the reply
 abbrev pub due_answered : Answered → ℕ × Data
 due_answered answered = (answered.number, answered.reply)
-
--- the commands of lines
-abbrev pub asked_in : List Answered → List Command
-asked_in lines = map (λ line. line.command) lines
 
 -- ---- a command that was accepted, before it is known whether the next line withdraws it
 

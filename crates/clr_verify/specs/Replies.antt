@@ -1,6 +1,5 @@
 -- WHETHER REPLIES ARE THOSE OF THE LINES, one by one.
-use Rattle.std.specs.Prelude.{◌≡◌, ◌≢◌, ◌≤◌, ℕ, Bool, true, false, List, [], ◌∷◌, Option, None, Some}
-use Rattle.std.specs.Prelude.{⊤, slice_get, take}
+use Rattle.std.specs.Prelude.{◌≡◌, ◌≢◌, ◌≤◌, ℕ, Bool, true, false, ⊤, List, [], ◌∷◌}
 use Rattle.serde_json.specs.Data.{Data, depth}
 use Rattle.clr_rules.specs.declared.reply.Reply.{Reply}
 use Rattle.clr_text.specs.Replies.{reply_data}
@@ -19,15 +18,3 @@ AreReplies [] [] = ⊤
 AreReplies [] (reply ∷ replies) = ⊥
 AreReplies (line ∷ lines) [] = ⊥
 AreReplies (line ∷ lines) (reply ∷ replies) = IsReply line.1 reply × AreReplies lines replies
-
--- the reply is not that of the line of this number
-abbrev pub IsAnother : ℕ → Option (ℕ × Data) → Option Reply → Type 0
-IsAnother number None reply = ⊥
-IsAnother number (Some line) None = number ≡ line.0
-IsAnother number (Some line) (Some reply) = (number ≡ line.0) × (line.1 ≢ reply_data reply)
-
--- THE NUMBER OF THE FIRST LINE whose reply is another: the replies before a place are the lines'
-pub record DiffersAt (lines : List (ℕ × Data)) (replies : List Reply) (number : ℕ) : Type 0 where
-  pub place : ℕ
-  pub before : AreReplies (take place lines) (take place replies)
-  pub here : IsAnother number (slice_get lines place) (slice_get replies place)

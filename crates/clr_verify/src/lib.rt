@@ -1,4 +1,4 @@
-//! A journal that is run again, and whether two registers have the same tables.
+//! Whether two registers have the same tables, and what of a journal's lines was carried out.
 #![tactic(auto)]
 
 mod difference;
@@ -6,13 +6,10 @@ pub mod laws;
 mod registers;
 mod replay;
 mod replies;
-mod rerun;
-mod running;
 mod table_row;
 
 pub use difference::first_difference;
 pub use registers::{Difference, compare};
 pub use replay::after_line;
 pub use replies::is_reply;
-pub use rerun::{Rerun, RerunFault, compare_with, run_again};
 pub use table_row::{PointNow, TableRow};
