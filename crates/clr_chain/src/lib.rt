@@ -3,6 +3,7 @@
 
 mod begin;
 mod chain_end;
+mod clock;
 mod fault;
 mod finding;
 mod first;
@@ -22,6 +23,7 @@ mod walk;
 
 pub use begin::new_chain;
 pub use chain_end::ChainEnd;
+pub use clock::Clock;
 pub use clr_place::Place;
 pub use fault::{ChainFault, NewFault};
 pub use finding::{Ahead, Found, found_in};

@@ -2,11 +2,11 @@
 -- input.
 use Rattle.std.specs.Prelude.{ℕ, List, Option}
 use Rattle.sqlite_disk.specs.declared.Disk as disk
-use Rattle.clr_edge.specs.TakenUp.{Logs}
+use Rattle.clr_keeping.specs.TakenUp.{Logs}
 use Rattle.clr_edge.specs.Visit.{Ending, Opening, Shutting}
 use Rattle.clr_edge.specs.declared.loopback.Loopback as loopback
 use Rattle.clr_commands.specs.Connections.{Seen}
-use Rattle.clr_commands.specs.Paths.{AtPaths}
+use Rattle.clr_edge.specs.Paths.{AtPaths}
 
 -- the steps by which a machine opens journals, makes, opens and closes databases and takes
 -- connections; what lies in a file of a database, and what is seen of a connection

@@ -11,7 +11,7 @@ use Rattle.clr_args.specs.declared.asked.Asked.{Asked}
 use Rattle.clr_args.specs.declared.asked.Asked.TheVariants as asked
 use Rattle.clr_args.specs.declared.parsing.Parsed.{Parsed}
 use Rattle.clr_args.specs.declared.parsing.Parsed.TheVariants as parsed
-use Rattle.clr_edge.specs.Beginning.{MakesRegisterAt}
+use Rattle.clr_keeping.specs.Beginning.{MakesRegisterAt}
 use Rattle.clr_edge.specs.Visit.{Alone, Comes, Done, MakesRegister}
 use Rattle.clr_edge.specs.declared.fault.Fault.{Fault}
 use Rattle.clr_edge.specs.declared.fault.Fault.TheVariants.{Memory}
@@ -29,7 +29,7 @@ use Rattle.clr_commands.specs.Verify.{ReadsPlaced, VerifiesAt, VerifiesFromAt}
 use Rattle.clr_commands.specs.Update.{UpdatesFiles}
 use Rattle.clr_commands.specs.WayBack.{PrintsWayBack}
 use Rattle.clr_commands.specs.declared.replies.Printed.{Printed}
-use Rattle.clr_commands.specs.Journal.{PrintsParts}
+use Rattle.clr_parts.specs.Journal.{PrintsParts}
 use Rattle.clr_command_line.specs.Around.{Around, Steps}
 use Rattle.clr_command_line.specs.OwnFiles.{NamesOthers, NamesOwn, UnlessMemory}
 use Rattle.clr_command_line.specs.Report.{Reports, ReportsFault, ReportsRun, ReportsServed}

@@ -9,7 +9,7 @@ use Rattle.clr_args.specs.declared.asked.ArchiveArgs.{ArchiveArgs}
 use Rattle.clr_desk.specs.declared.desk.Desk.{Desk}
 use Rattle.clr_stream.specs.Streams.{HasFailed, Stream, WentOut}
 use Rattle.clr_edge.specs.Database.{IsOfLine}
-use Rattle.clr_edge.specs.Keeping.{IsNotReadAlone, IsNotUp, IsUp, unlogged}
+use Rattle.clr_keeping.specs.Keeping.{IsNotReadAlone, IsNotUp, IsUp, unlogged}
 use Rattle.clr_edge.specs.Visit.{Done, Ending, Ends, Opening, Over, Shutting, first_fault}
 use Rattle.clr_edge.specs.declared.fault.Fault.{Fault}
 use Rattle.clr_edge.specs.declared.fault.Fault.TheVariants.{Output}

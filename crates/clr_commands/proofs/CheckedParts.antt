@@ -16,11 +16,11 @@ use Rattle.clr_checking.specs.Checking.{EndsAt, IsChecked, IsCheckedFrom}
 use Rattle.clr_checking.specs.CheckingOn.{CheckedTo, CheckedToFrom, GoesOver, IsReady}
 use Rattle.clr_checking.specs.declared.checking.Checking.{Checking}
 use Rattle.clr_checking.specs.declared.fault.CheckFault.{CheckFault}
-use Rattle.clr_commands.specs.Journal.{all_known}
-use Rattle.clr_commands.specs.Parts.{BreaksAfter, FirstIs, ReadsLine, walked}
+use Rattle.clr_parts.specs.Journal.{all_known}
+use Rattle.clr_parts.specs.Parts.{BreaksAfter, FirstIs, ReadsLine, walked}
 use Rattle.clr_commands.specs.Verify.{BeginOn, Checks, ChecksAll, ChecksFrom, ChecksOn, GoOn, HasLines, IsOfCheck, IsOfFiles, verified_text}
-use Rattle.clr_commands.proofs.BrokenParts.{breaks-more}
-use Rattle.clr_commands.proofs.PartLines.{AreBefore, before-all, before-more, before-none, known-next, walked-end, walked-same}
+use Rattle.clr_parts.proofs.BrokenParts.{breaks-more}
+use Rattle.clr_parts.proofs.PartLines.{AreBefore, before-all, before-more, before-none, known-next, walked-end, walked-same}
 
 -- ---- the lines of a part
 

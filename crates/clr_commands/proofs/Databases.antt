@@ -13,7 +13,7 @@ use Rattle.clr_rules.specs.Good.{IsGood}
 use Rattle.clr_rules.proofs.good.CrewSafety.{crews_are_safe}
 use Rattle.clr_rules.specs.Register.{Register}
 use Rattle.clr_edge.specs.Database.{IsOfLine, IsOnlyRead, IsRefused, ReadsAs}
-use Rattle.clr_edge.specs.Keeping.{IsNotRead, IsNotUp, IsReadFrom, IsUp, plain}
+use Rattle.clr_keeping.specs.Keeping.{IsNotRead, IsNotUp, IsReadFrom, IsUp, plain}
 use Rattle.clr_edge.specs.Visit.{Comes, Done, Ending, Ends, Opening, Over, Shutting}
 use Rattle.clr_edge.specs.declared.fault.Fault.{Fault}
 use Rattle.clr_edge.specs.declared.fault.Fault.TheVariants.{Memory}

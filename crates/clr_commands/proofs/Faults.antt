@@ -23,9 +23,9 @@ use Rattle.clr_level.specs.declared.fault.OpeningFault.{OpeningFault}
 use Rattle.clr_level.specs.declared.fault.OpeningFault.TheVariants as opening
 use Rattle.clr_checking.specs.declared.fault.CheckFault.{CheckFault}
 use Rattle.clr_checking.specs.declared.fault.CheckFault.TheVariants as check
-use Rattle.clr_edge.specs.Beginning.{IsOfBegun}
+use Rattle.clr_keeping.specs.Beginning.{IsOfBegun}
 use Rattle.clr_edge.specs.Journals.{IsOfBeginning, of_chain, of_new}
-use Rattle.clr_edge.specs.TakenUp.{IsOfTakingUp, of_opening}
+use Rattle.clr_keeping.specs.TakenUp.{IsOfTakingUp, of_opening}
 use Rattle.clr_edge.specs.declared.fault.Fault.{Fault}
 use Rattle.clr_edge.specs.declared.fault.Fault.TheVariants.{Accept, Listen, Memory, Output, SameFile, Update}
 use Rattle.clr_update.specs.declared.obstacle.Obstacle.{Obstacle}
@@ -38,7 +38,7 @@ use Rattle.clr_commands.specs.Import.{IsOfAnyFile}
 use Rattle.clr_commands.specs.Run.{IsOfInput}
 use Rattle.clr_commands.specs.declared.replies.Printed.{Printed}
 use Rattle.clr_commands.specs.Stored.{IsOfOrder}
-use Rattle.clr_commands.specs.Parts.{IsOfPart}
+use Rattle.clr_parts.specs.Parts.{IsOfPart}
 use Rattle.clr_commands.specs.Verify.{IsOfCheck, of_check}
 use Rattle.clr_commands.specs.WayBack.{IsOfWayBack}
 

@@ -9,13 +9,13 @@ use Rattle.clr_desk.specs.declared.desk.Desk.{Desk}
 use Rattle.clr_level.specs.Journaling.{HearsLogin, Journals}
 use Rattle.clr_level.specs.Levelling.{LevelIsKept, SoundIsKept}
 use Rattle.clr_level.specs.declared.keeper.Keeper.{Keeper}
-use Rattle.clr_edge.specs.Keeping.{StaysLevel, StaysSound}
+use Rattle.clr_keeping.specs.Keeping.{StaysLevel, StaysSound}
 
 pub level_stays : {K J C : Type 0} (takes : Taking K) (kept : K → State) (has_place : Placing) (shows : C → ℕ → Type 0) (log : append.Ghosts J)
-    → LevelIsKept K J C takes kept has_place shows log.text log.found log.may_leave
-    → SoundIsKept K J C takes kept has_place shows log.text log.found log.may_leave
+    → LevelIsKept K J C takes kept has_place shows log.text log.found log.may_leave log.is_usable
+    → SoundIsKept K J C takes kept has_place shows log.text log.found log.may_leave log.is_usable
     → (keeps : Keeper K J C → State) (old new : Desk (Keeper K J C))
-    → LeadsTo keeps (Journals takes kept has_place shows log.text log.found log.may_leave) HearsLogin old new
+    → LeadsTo keeps (Journals takes kept has_place shows log.text log.found log.may_leave log.is_usable) HearsLogin old new
     → StaysLevel kept has_place log.text old new × StaysSound log.text log.found log.may_leave old new
 level_stays takes kept has_place shows log level sound keeps old new led = (
   λ first start good holds. level first old.book.register new.book.register start old.store new.store led.given good holds led.are_given,

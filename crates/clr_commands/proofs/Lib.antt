@@ -19,17 +19,9 @@ pub mod RunAnswers
 pub mod RunOfInput
 pub mod WaysBack
 pub mod Written
-pub mod NoWord
 pub mod Updating
-pub mod PartLines
-pub mod BrokenParts
-pub mod StepTexts
-pub mod SentTexts
-pub mod PrintedParts
 pub mod CheckedParts
 pub mod RefusedParts
-pub mod PrintedJournal
 pub mod PlacedRead
 pub mod VerifiedFiles
-pub mod KindSteps
 pub mod NextParts

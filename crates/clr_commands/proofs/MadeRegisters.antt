@@ -12,8 +12,8 @@ use Rattle.clr_args.specs.declared.asked.Files.{Files}
 use Rattle.clr_args.specs.declared.asked.InitArgs.{InitArgs}
 use Rattle.clr_args.specs.declared.asked.StoredArgs.{StoredArgs}
 use Rattle.clr_place.specs.declared.place.Place.{Place}
-use Rattle.clr_edge.specs.Beginning.{BeginsFirst, IsOfBegun}
-use Rattle.clr_edge.specs.TakenUp.{Logs}
+use Rattle.clr_keeping.specs.Beginning.{BeginsFirst, IsOfBegun}
+use Rattle.clr_keeping.specs.TakenUp.{Logs}
 use Rattle.clr_edge.specs.Visit.{Done}
 use Rattle.clr_edge.specs.declared.fault.Fault.{Fault}
 use Rattle.clr_edge.specs.declared.fault.Fault.TheVariants.{Memory}
@@ -21,7 +21,7 @@ use Rattle.clr_commands.specs.Answers.{Answers, GivesText, IsMemory}
 use Rattle.clr_commands.specs.First.{files_of, first_place, made_at}
 use Rattle.clr_commands.specs.Import.{AnswersFiles, AreReadAt, Contents, FileRows, lists_of}
 use Rattle.clr_commands.specs.Init.{InitsAt, InitsIn, InitsInto, InitsRows, IsBuilt, MakingAt, PrintsStored, RefusesRows, StoresWith, WithJournal, counts_line, counts_of}
-use Rattle.clr_commands.specs.Paths.{AtPaths}
+use Rattle.clr_edge.specs.Paths.{AtPaths}
 use Rattle.clr_commands.specs.Run.{IsOpeningOf, IsRunOf, rows_fault}
 use Rattle.clr_commands.specs.declared.import.Rows.{Rows}
 use Rattle.clr_commands.specs.declared.replies.Printed.{Printed}

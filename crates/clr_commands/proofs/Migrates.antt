@@ -11,10 +11,10 @@ use Rattle.clr_rules.specs.Register.{Register}
 use Rattle.clr_place.specs.declared.place.Place.{Place}
 use Rattle.clr_print.specs.Printed.{board_text}
 use Rattle.clr_desk.specs.declared.desk.Desk.{Desk}
-use Rattle.clr_edge.specs.Beginning.{IsOfBegun, PlacesAt}
+use Rattle.clr_keeping.specs.Beginning.{IsOfBegun, PlacesAt}
 use Rattle.clr_edge.specs.Database.{IsOfLine}
-use Rattle.clr_edge.specs.Keeping.{IsNotUp, IsUp, unlogged}
-use Rattle.clr_edge.specs.TakenUp.{Logs}
+use Rattle.clr_keeping.specs.Keeping.{IsNotUp, IsUp, unlogged}
+use Rattle.clr_keeping.specs.TakenUp.{Logs}
 use Rattle.clr_edge.specs.Visit.{Alone, Comes, Done, Ending, Ends, MovesRegister, Opening, Over, Shutting, first_fault}
 use Rattle.clr_edge.specs.declared.fault.Fault.{Fault}
 use Rattle.clr_edge.specs.declared.fault.Fault.TheVariants.{Memory}

@@ -2,8 +2,8 @@
 use Rattle.std.proofs.Common.{◌≡◌, ◌⊎◌, inl, inr, ℕ, Result, Ok, Err}
 use Rattle.std.specs.Prelude.{IsErrAnd, String}
 use Rattle.std.specs.declared.alloc.Global.{Global}
-use Rattle.clr_edge.specs.Beginning.{IsOfBegun}
-use Rattle.clr_edge.specs.TakenUp.{IsOfTakingUp}
+use Rattle.clr_keeping.specs.Beginning.{IsOfBegun}
+use Rattle.clr_keeping.specs.TakenUp.{IsOfTakingUp}
 use Rattle.clr_edge.specs.declared.fault.Fault.{Fault}
 use Rattle.clr_edge.specs.declared.fault.Fault.TheVariants.{Memory}
 use Rattle.clr_commands.specs.Faults.{IsOfSubcommand}

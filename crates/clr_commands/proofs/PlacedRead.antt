@@ -8,11 +8,11 @@ use Rattle.sqlite_trees.specs.declared.store.Store.{Ghosts}
 use Rattle.clr_rules.specs.Good.{IsGood}
 use Rattle.clr_rules.specs.Register.{Register}
 use Rattle.clr_desk.specs.declared.desk.Desk.{Desk}
-use Rattle.clr_edge.specs.Keeping.{IsNotUp, IsReadFrom, IsUp, plain}
-use Rattle.clr_edge.specs.TakenUp.{IsOfTakingUp}
+use Rattle.clr_keeping.specs.Keeping.{IsNotUp, IsReadFrom, IsUp, plain}
+use Rattle.clr_keeping.specs.TakenUp.{IsOfTakingUp}
 use Rattle.clr_edge.specs.Visit.{Comes, Done, Ending, Ends, Opening, Over, Shutting}
 use Rattle.clr_edge.specs.declared.fault.Fault.{Fault}
-use Rattle.clr_edge.proofs.TakenUp.{from_on_stays, place_on_stays, unplaced_on, unsuited_on}
+use Rattle.clr_keeping.proofs.TakenUp.{from_on_stays, place_on_stays, unplaced_on, unsuited_on}
 use Rattle.clr_commands.specs.Verify.{IsPlacedRead, IsRead, Placed, ReadsPlaced}
 
 -- ---- the visit

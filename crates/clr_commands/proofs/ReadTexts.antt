@@ -19,7 +19,7 @@ use Rattle.clr_edge.specs.declared.fault.Fault.TheVariants.{File, Memory}
 use Rattle.clr_edge.specs.declared.fault.ImportFile.{ImportFile}
 use Rattle.clr_edge.specs.declared.fault.ImportFile.TheVariants.{Points, Sections, Staff}
 use Rattle.clr_commands.specs.Import.{AreRead, AreReadAt, Contents, FileRows, of_memory, rows_of, rows_told}
-use Rattle.clr_commands.specs.Paths.{AtPaths, HasCauseAt}
+use Rattle.clr_edge.specs.Paths.{AtPaths, HasCauseAt}
 use Rattle.clr_commands.specs.declared.import.Rows.{Rows}
 use Rattle.clr_commands.specs.declared.import.Texts.{Texts}
 

@@ -22,13 +22,13 @@ use Rattle.clr_checking.specs.CheckingOn.{CheckedTo, CheckedToFrom, GoesOver}
 use Rattle.clr_checking.specs.declared.checking.Checking.{Checking}
 use Rattle.clr_checking.specs.declared.fault.CheckFault.{CheckFault}
 use Rattle.clr_checking.specs.declared.fault.CheckFault.TheVariants.{BadLine, Differs, NoMemory, OtherRegister, Reply, Tables, TooShort}
-use Rattle.clr_commands.specs.Journal.{FailsAny, all_known}
-use Rattle.clr_commands.specs.Parts.{Breaks, BreaksAfter, FailsLater, FirstIs, IsNoFirst, IsNoNext, IsOfReading, IsOpened, IsUnreadOr, IsUnreadPart, ReadsLine, walked}
-use Rattle.clr_commands.specs.Paths.{AtPaths, at_paths}
+use Rattle.clr_parts.specs.Journal.{FailsAny, all_known}
+use Rattle.clr_parts.specs.Parts.{Breaks, BreaksAfter, FailsLater, FirstIs, IsNoFirst, IsNoNext, IsOfReading, IsOpened, IsUnreadOr, IsUnreadPart, ReadsLine, walked}
+use Rattle.clr_edge.specs.Paths.{AtPaths, at_paths}
 use Rattle.clr_commands.specs.Verify.{AreOthers, AreRefused, BeginOn, BeginsWith, Checks, ChecksAll, ChecksFrom, FailsFrom, FailsSome, GoOn, HasLines, IsNo, IsOfEnd, IsOfFiles, IsRefusedBy, IsRefusedIn, IsWhole, RefusesAll, RefusesPart, RefusesSome, of_check}
-use Rattle.clr_commands.proofs.BrokenParts.{first_breaks, next_breaks, not_next}
+use Rattle.clr_parts.proofs.BrokenParts.{first_breaks, next_breaks, not_next}
 use Rattle.clr_commands.proofs.CheckedParts.{CheckedLines, CheckedParts, Known, begin_on-none, begin_on-part, begins_at, checks_yes, checks_yes_from, go_on-none}
-use Rattle.clr_commands.proofs.PartLines.{before-more, before-some, known-next, later-part}
+use Rattle.clr_parts.proofs.PartLines.{before-more, before-some, known-next, later-part}
 
 -- ---- a line
 

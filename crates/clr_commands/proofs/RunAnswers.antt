@@ -18,14 +18,14 @@ use Rattle.clr_desk.specs.declared.desk_fault.DeskFault.TheVariants as desk
 use Rattle.clr_edge.specs.Database.{IsOfLine}
 use Rattle.clr_edge.specs.Fault.{of_desk, of_store}
 use Rattle.clr_edge.specs.Journals.{of_chain}
-use Rattle.clr_edge.specs.Keeping.{IsDoneOver}
-use Rattle.clr_edge.specs.TakenUp.{IsOfTakingUp, of_opening}
+use Rattle.clr_keeping.specs.Keeping.{IsDoneOver}
+use Rattle.clr_keeping.specs.TakenUp.{IsOfTakingUp, of_opening}
 use Rattle.clr_edge.specs.Visit.{Done}
 use Rattle.clr_edge.specs.declared.fault.Fault.{Fault}
 use Rattle.clr_edge.specs.declared.fault.Fault.TheVariants.{Input}
 use Rattle.clr_edge.specs.declared.fault.InputFault.TheVariants.{ReadFailed}
-use Rattle.clr_edge.specs.declared.taking_up.Opened.{Opened}
-use Rattle.clr_edge.specs.declared.taking_up.Opened.TheVariants.{Logged, Plain}
+use Rattle.clr_keeping.specs.declared.taking_up.Opened.{Opened}
+use Rattle.clr_keeping.specs.declared.taking_up.Opened.TheVariants.{Logged, Plain}
 use Rattle.clr_commands.specs.Answers.{Answers, IsMemory}
 use Rattle.clr_commands.specs.Faults.{FailsAsSubcommand, IsOfSubcommand}
 use Rattle.clr_commands.specs.Import.{FileRows}

@@ -22,9 +22,9 @@ use Rattle.clr_load.specs.declared.fault.StoreFault.{StoreFault}
 use Rattle.clr_load.specs.declared.fault.StoreFault.TheVariants as store
 use Rattle.clr_edge.specs.Database.{IsOfLine}
 use Rattle.clr_edge.specs.Fault.{of_store}
-use Rattle.clr_edge.specs.Keeping.{IsNotReadAlone, Keeping, Works, WorksIn, logged, unlogged}
-use Rattle.clr_edge.specs.TakenUp.{IsNotTakenUp, Logs}
-use Rattle.clr_edge.specs.TakenUp.IsNotTakenUp.{apart as was_apart, refused as was_refused, unopened as was_unopened, unplaced as was_unplaced, without as was_without}
+use Rattle.clr_keeping.specs.Keeping.{IsNotReadAlone, Keeping, Works, WorksIn, logged, unlogged}
+use Rattle.clr_keeping.specs.TakenUp.{IsNotTakenUp, Logs}
+use Rattle.clr_keeping.specs.TakenUp.IsNotTakenUp.{apart as was_apart, refused as was_refused, unopened as was_unopened, unplaced as was_unplaced, without as was_without}
 use Rattle.clr_edge.specs.Logins.{is_employee, unless_unknown}
 use Rattle.clr_edge.specs.Loopback.{listen_fault}
 use Rattle.clr_edge.specs.Visit.{Copies, Done, Ending, Opening, Shutting, first_fault}
@@ -34,7 +34,7 @@ use Rattle.clr_edge.specs.declared.loopback.Loopback as loopback
 use Rattle.clr_commands.specs.Connections.{ReportsConnection, ReportsFirst, Seen, TakesFirst, TakesNext, accept_fault}
 use Rattle.clr_commands.specs.Desks.{desk_keeps}
 use Rattle.clr_commands.specs.Logins.{NamesLogins, terms_of, terms_with}
-use Rattle.clr_commands.specs.Paths.{AtPaths}
+use Rattle.clr_edge.specs.Paths.{AtPaths}
 use Rattle.clr_commands.specs.Serve.{ServesAt, ServesDesk, ServesKeeper, ServesKept, ServesOn, serving_line}
 use Rattle.clr_commands.specs.declared.serve.Terms.{Terms}
 use Rattle.clr_commands.proofs.Faults.{file_plain, taking_up_plain}

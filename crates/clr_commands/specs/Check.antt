@@ -11,7 +11,7 @@ use Rattle.clr_check.specs.Text.{regret_lines}
 use Rattle.clr_edge.specs.declared.fault.Fault.{Fault}
 use Rattle.clr_commands.specs.Answers.{IsMemory, Prints}
 use Rattle.clr_commands.specs.Import.{AnswersFiles, FileRows}
-use Rattle.clr_commands.specs.Paths.{AtPaths}
+use Rattle.clr_edge.specs.Paths.{AtPaths}
 use Rattle.clr_commands.specs.Run.{rows_fault}
 
 -- a text has the lines of what is regretted of the network and the staff that have these rows

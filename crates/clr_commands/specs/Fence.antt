@@ -20,7 +20,7 @@ use Rattle.clr_edge.specs.Fault.{of_name, of_network}
 use Rattle.clr_edge.specs.Files.{IsUnread, told_of}
 use Rattle.clr_commands.specs.Answers.{IsMemory, Prints}
 use Rattle.clr_commands.specs.Lines.{lines_of}
-use Rattle.clr_commands.specs.Paths.{AtPaths, HasCauseAt}
+use Rattle.clr_edge.specs.Paths.{AtPaths, HasCauseAt}
 use Rattle.clr_edge.specs.declared.fault.ImportFile.TheVariants.{Sections, Points}
 use Rattle.clr_edge.specs.declared.fault.Fault.{Fault}
 use Rattle.clr_edge.specs.declared.fault.Fault.TheVariants.{UnknownSection, UnknownPoint}

@@ -18,7 +18,7 @@ use Rattle.clr_edge.specs.declared.fault.Fault.TheVariants.{File, Memory}
 use Rattle.clr_edge.specs.declared.fault.ImportFile.{ImportFile}
 use Rattle.clr_edge.specs.declared.fault.ImportFile.TheVariants.{Sections, Points, Staff}
 use Rattle.clr_commands.specs.Answers.{Gives}
-use Rattle.clr_commands.specs.Paths.{AtPaths, HasCauseAt}
+use Rattle.clr_edge.specs.Paths.{AtPaths, HasCauseAt}
 use Rattle.clr_commands.specs.declared.import.Rows.{Rows}
 use Rattle.clr_commands.specs.declared.import.Texts.{Texts}
 

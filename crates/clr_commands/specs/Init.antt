@@ -13,16 +13,16 @@ use Rattle.clr_place.specs.declared.place.Place.{Place}
 use Rattle.clr_args.specs.declared.asked.Files.{Files}
 use Rattle.clr_args.specs.declared.asked.InitArgs.{InitArgs}
 use Rattle.clr_args.specs.declared.asked.StoredArgs.{StoredArgs}
-use Rattle.clr_edge.specs.Beginning.{BeginsFirst, IsOfBegun}
+use Rattle.clr_keeping.specs.Beginning.{BeginsFirst, IsOfBegun}
 use Rattle.clr_edge.specs.Database.{IsOfLine}
-use Rattle.clr_edge.specs.TakenUp.{Logs}
+use Rattle.clr_keeping.specs.TakenUp.{Logs}
 use Rattle.clr_edge.specs.Visit.{Done}
 use Rattle.clr_edge.specs.declared.fault.Fault.{Fault}
 use Rattle.clr_edge.specs.declared.fault.Fault.TheVariants.{Memory}
 use Rattle.clr_commands.specs.Answers.{GivesText, IsMemory}
 use Rattle.clr_commands.specs.First.{files_of, first_place, made_at}
 use Rattle.clr_commands.specs.Import.{AnswersFiles, AreKnown, Contents, FileRows, rows_of}
-use Rattle.clr_commands.specs.Paths.{AtPaths}
+use Rattle.clr_edge.specs.Paths.{AtPaths}
 use Rattle.clr_commands.specs.Run.{IsOpeningOf, rows_fault}
 
 -- how many rows each file has, on a line

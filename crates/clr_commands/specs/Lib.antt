@@ -10,15 +10,11 @@ pub mod Fence
 pub mod First
 pub mod Import
 pub mod Init
-pub mod Journal
 pub mod Lines
 pub mod Logins
 pub mod Migrate
 pub mod NextPart
 pub mod Order
-pub mod Parts
-pub mod Paths
-pub mod Printing
 pub mod Replies
 pub mod Run
 pub mod Serve

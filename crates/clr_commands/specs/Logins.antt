@@ -12,7 +12,7 @@ use Rattle.clr_edge.specs.Logins.{known_logins}
 use Rattle.clr_edge.specs.declared.fault.Fault.{Fault}
 use Rattle.clr_edge.specs.declared.fault.ImportFile.TheVariants.{Logins}
 use Rattle.clr_commands.specs.Answers.{Gives}
-use Rattle.clr_commands.specs.Paths.{AtPaths, HasCauseAt}
+use Rattle.clr_edge.specs.Paths.{AtPaths, HasCauseAt}
 use Rattle.clr_commands.specs.declared.serve.Terms.{Terms}
 
 -- what was read of the file of logins at a path: what it gives, as far as its bytes are known; it is

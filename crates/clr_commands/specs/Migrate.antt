@@ -10,10 +10,10 @@ use Rattle.sqlite_trees.specs.declared.store.Store.{Ghosts}
 use Rattle.clr_rules.specs.Register.{Register}
 use Rattle.clr_place.specs.declared.place.Place.{Place}
 use Rattle.clr_args.specs.declared.asked.MigrateArgs.{MigrateArgs}
-use Rattle.clr_edge.specs.Beginning.{PlacesAt}
+use Rattle.clr_keeping.specs.Beginning.{PlacesAt}
 use Rattle.clr_edge.specs.Database.{IsOfLine}
-use Rattle.clr_edge.specs.Keeping.{IsNotReadAlone, IsReadAlone}
-use Rattle.clr_edge.specs.TakenUp.{Logs}
+use Rattle.clr_keeping.specs.Keeping.{IsNotReadAlone, IsReadAlone}
+use Rattle.clr_keeping.specs.TakenUp.{Logs}
 use Rattle.clr_edge.specs.Visit.{Alone, Comes, Done, Ending, MovesRegister, Opening, Shutting}
 use Rattle.clr_edge.specs.Visit.{first_fault}
 use Rattle.clr_edge.specs.declared.fault.Fault.{Fault}

@@ -26,8 +26,8 @@ use Rattle.clr_args.specs.declared.asked.RunArgs.{RunArgs}
 use Rattle.clr_args.specs.declared.asked.RunArgs.TheVariants as over
 use Rattle.clr_args.specs.declared.asked.StoredArgs.{StoredArgs}
 use Rattle.clr_edge.specs.Answers.{unless}
-use Rattle.clr_edge.specs.Keeping.{WorksWith}
-use Rattle.clr_edge.specs.TakenUp.{Logs}
+use Rattle.clr_keeping.specs.Keeping.{WorksWith}
+use Rattle.clr_keeping.specs.TakenUp.{Logs}
 use Rattle.clr_edge.specs.Visit.{Comes, Done, Ending, Opening, Shutting}
 use Rattle.clr_edge.specs.Fault.{of_network, of_staff}
 use Rattle.clr_edge.specs.declared.fault.Fault.{Fault}
@@ -35,7 +35,7 @@ use Rattle.clr_edge.specs.declared.fault.Fault.TheVariants.{Input, Memory}
 use Rattle.clr_edge.specs.declared.fault.InputFault.TheVariants.{ReadFailed, TooLong}
 use Rattle.clr_commands.specs.Answers.{Answers, IsMemory}
 use Rattle.clr_commands.specs.Import.{AnswersFiles, FileRows}
-use Rattle.clr_commands.specs.Paths.{AtPaths}
+use Rattle.clr_edge.specs.Paths.{AtPaths}
 use Rattle.clr_commands.specs.Replies.{AnswersInput, AnswersOver, asked_commands}
 use Rattle.clr_commands.specs.declared.replies.Printed.{Printed}
 

@@ -15,9 +15,9 @@ use Rattle.clr_desk.specs.declared.desk.Desk.{Desk}
 use Rattle.clr_http.specs.RequestLaws.{ComesWithin}
 use Rattle.clr_http.specs.declared.registrar.Registrar as registrar
 use Rattle.clr_args.specs.declared.asked.ServeArgs.{ServeArgs}
-use Rattle.clr_edge.specs.Keeping.{WorksWith}
+use Rattle.clr_keeping.specs.Keeping.{WorksWith}
 use Rattle.clr_edge.specs.Loopback.{RefusesOn, StandsOn}
-use Rattle.clr_edge.specs.TakenUp.{Logs}
+use Rattle.clr_keeping.specs.TakenUp.{Logs}
 use Rattle.clr_edge.specs.Visit.{Comes, Done, Ending, Opening, Shutting, first_fault}
 use Rattle.clr_edge.specs.declared.fault.Fault.{Fault}
 use Rattle.clr_edge.specs.declared.fault.Fault.TheVariants.{Output}
@@ -26,7 +26,7 @@ use Rattle.clr_commands.specs.Connections.{Seen, TakesFirst}
 use Rattle.clr_commands.specs.ConnectionLaws.{ConnectionsHaveRun, EndsEarly, is_early}
 use Rattle.clr_commands.specs.Desks.{desk_keeps}
 use Rattle.clr_commands.specs.Logins.{NamesLogins, terms_of}
-use Rattle.clr_commands.specs.Paths.{AtPaths}
+use Rattle.clr_edge.specs.Paths.{AtPaths}
 use Rattle.clr_commands.specs.declared.serve.Terms.{Terms}
 
 -- the line that a server begins with

@@ -29,13 +29,13 @@ use Rattle.clr_desk.specs.declared.desk_fault.DeskFault.{DeskFault}
 use Rattle.clr_args.specs.declared.asked.UpdateArgs.{UpdateArgs}
 use Rattle.clr_edge.specs.Database.{IsOfLine}
 use Rattle.clr_edge.specs.Fault.{of_desk}
-use Rattle.clr_edge.specs.Keeping.{IsNotReadAlone, IsReadAlone}
+use Rattle.clr_keeping.specs.Keeping.{IsNotReadAlone, IsReadAlone}
 use Rattle.clr_edge.specs.Visit.{Alone, Comes, Done, Ending, Opening, Shutting, first_fault}
 use Rattle.clr_edge.specs.declared.fault.Fault.{Fault}
 use Rattle.clr_edge.specs.declared.fault.Fault.TheVariants.{Memory, Update as InTheWay}
 use Rattle.clr_commands.specs.Fence.{argument}
 use Rattle.clr_commands.specs.Import.{AnswersFiles, FileRows}
-use Rattle.clr_commands.specs.Paths.{AtPaths}
+use Rattle.clr_edge.specs.Paths.{AtPaths}
 use Rattle.clr_commands.specs.Run.{rows_fault}
 
 -- ---- what is asked for

@@ -22,8 +22,8 @@ use Rattle.clr_chain.specs.declared.chain_end.ChainEnd.{ChainEnd}
 use Rattle.clr_args.specs.declared.asked.VerifyArgs.{VerifyArgs}
 use Rattle.clr_args.specs.declared.asked.VerifyFromArgs.{VerifyFromArgs}
 use Rattle.clr_edge.specs.Answers.{After}
-use Rattle.clr_edge.specs.Keeping.{IsNotRead, IsReadFrom}
-use Rattle.clr_edge.specs.TakenUp.{HasPlace, IsUnplaced, IsUnsuited, LacksPlace, StaysRead}
+use Rattle.clr_keeping.specs.Keeping.{IsNotRead, IsReadFrom}
+use Rattle.clr_keeping.specs.TakenUp.{HasPlace, IsUnplaced, IsUnsuited, LacksPlace, StaysRead}
 use Rattle.clr_edge.specs.Visit.{Done, Over}
 use Rattle.clr_edge.specs.declared.fault.Fault.{Fault}
 use Rattle.clr_edge.specs.declared.fault.Fault.TheVariants.{Journal, Memory, Verify}
@@ -38,10 +38,10 @@ use Rattle.clr_checking.specs.declared.fault.CheckFault.{CheckFault}
 use Rattle.clr_checking.specs.declared.fault.CheckFault.TheVariants as check
 use Rattle.clr_commands.specs.First.{files_of}
 use Rattle.clr_commands.specs.Import.{AnswersFiles, AreKnown, Contents, FileRows, rows_of}
-use Rattle.clr_commands.specs.Journal.{FailsAny, all_known}
-use Rattle.clr_commands.specs.Parts.{Breaks, BreaksAfter, FailsLater, IsOfPart, IsOfReading}
-use Rattle.clr_commands.specs.Parts.{IsUnreadPart, walked}
-use Rattle.clr_commands.specs.Paths.{AtPaths}
+use Rattle.clr_parts.specs.Journal.{FailsAny, all_known}
+use Rattle.clr_parts.specs.Parts.{Breaks, BreaksAfter, FailsLater, IsOfPart, IsOfReading}
+use Rattle.clr_parts.specs.Parts.{IsUnreadPart, walked}
+use Rattle.clr_edge.specs.Paths.{AtPaths}
 use Rattle.clr_commands.specs.Run.{IsOpeningOf, rows_fault}
 use Rattle.clr_commands.specs.Stored.{WhileOpen}
 

@@ -15,7 +15,7 @@ use clr_desk::Desk;
 use clr_edge::database::{Databases, close, first_fault};
 use clr_edge::fault::Fault;
 use clr_edge::output::write_out;
-use clr_edge::taking_up::unlogged_desk;
+use clr_keeping::taking_up::unlogged_desk;
 use clr_rules::{Hold, Moment, PointState, Record, StepRow};
 use clr_shelf::Shelf;
 use clr_store::Store;

@@ -9,7 +9,7 @@ use clr_args::asked::{BoardArgs, Offset};
 use clr_book::Book;
 use clr_edge::database::{Databases, close};
 use clr_edge::fault::Fault;
-use clr_edge::taking_up::open_desk;
+use clr_keeping::taking_up::open_desk;
 use clr_print::print_board;
 use clr_rules::{Hold, PointState, Record, StepRow};
 use clr_shelf::Shelf;

@@ -5,7 +5,7 @@ ghost use Rattle.clr_check.specs.Text.{regret_lines};
 ghost use Rattle.clr_commands.specs.Check.{ChecksAt, ChecksRows};
 ghost use Rattle.clr_commands.specs.Faults.{IsOfSubcommand};
 ghost use Rattle.clr_commands.specs.Import.{lists_of};
-ghost use Rattle.clr_commands.specs.Paths.{at_paths};
+ghost use Rattle.clr_edge.specs.Paths.{at_paths};
 
 use crate::import::{Rows, rows_at};
 use clr_args::asked::Files;

@@ -7,7 +7,7 @@ ghost use Rattle.clr_commands.specs.Fence.{FencesAt, FencesFiles, FencesRows, fe
 ghost use Rattle.clr_commands.specs.Fence.{point_named, points_named, section_named};
 ghost use Rattle.clr_edge.specs.Files.{HasCause, WaitsFor};
 ghost use Rattle.clr_commands.specs.Lines.{line_of, lines_of};
-ghost use Rattle.clr_commands.specs.Paths.{at_paths};
+ghost use Rattle.clr_edge.specs.Paths.{at_paths};
 
 use clr_args::asked::FenceArgs;
 use clr_edge::fault::{Fault, ImportFile};

@@ -8,7 +8,7 @@ ghost use Rattle.clr_edge.specs.Files.{GivesFile, GivesRows, HasCause, WaitsFor,
 ghost use Rattle.clr_commands.specs.Import.{AreKnown, AreRead, AreReadAt, IsOfAnyFile, as_lists};
 ghost use Rattle.clr_commands.specs.Import.{contents_of, lists_of, of_memory, rows_of};
 ghost use Rattle.clr_commands.specs.Import.{rows_told};
-ghost use Rattle.clr_commands.specs.Paths.{HasCauseAt, at_paths};
+ghost use Rattle.clr_edge.specs.Paths.{HasCauseAt, at_paths};
 
 use clr_args::asked::Files;
 use clr_csv::{CsvFault, read_points, read_sections, read_staff};

@@ -2,13 +2,13 @@
 ghost use Rattle.std.specs.Prelude.{IfErr};
 ghost use Rattle.clr_commands.specs.Faults.{IsOfSubcommand};
 ghost use Rattle.clr_commands.specs.NextPart.{BeginsNext};
-ghost use Rattle.clr_edge.specs.TakenUp.{logs};
+ghost use Rattle.clr_keeping.specs.TakenUp.{logs};
 
 use clr_args::asked::NextPartArgs;
-use clr_edge::beginning::begin_next;
 use clr_edge::database::Databases;
 use clr_edge::fault::Fault;
 use clr_edge::journals::Journals;
+use clr_keeping::beginning::begin_next;
 use std::alloc::Global;
 
 /// What `journal FILE --db DB --next NEW` prints: the number after which the next part goes on, once

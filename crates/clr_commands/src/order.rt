@@ -10,7 +10,7 @@ use clr_args::asked::{Offset, OrderArgs};
 use clr_book::Book;
 use clr_edge::database::{Databases, close};
 use clr_edge::fault::Fault;
-use clr_edge::taking_up::open_desk;
+use clr_keeping::taking_up::open_desk;
 use clr_print::print_order;
 use clr_rules::{ClearanceId, Hold, PointState, Record, StepRow};
 use clr_shelf::Shelf;

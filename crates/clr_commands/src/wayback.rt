@@ -13,7 +13,7 @@ use clr_args::asked::WayBackArgs;
 use clr_book::Book;
 use clr_edge::database::{Databases, close};
 use clr_edge::fault::Fault;
-use clr_edge::taking_up::open_desk;
+use clr_keeping::taking_up::open_desk;
 use clr_rules::{ClearanceId, Hold, PointState, Record, StepRow};
 use clr_shelf::Shelf;
 use clr_wayback::{WayBack, print_way_back, way_back};

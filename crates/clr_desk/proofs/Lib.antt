@@ -5,7 +5,6 @@ pub mod TypedRegisters
 pub mod RowsOpened
 pub mod OneCommand
 pub mod Opened
-pub mod AtFault
 pub mod RunSteps
 pub mod Calls
 pub mod Staying

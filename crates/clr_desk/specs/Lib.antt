@@ -4,7 +4,6 @@ pub mod Typed
 pub mod Opening
 pub mod Shelving
 pub mod Loaded
-pub mod AtFault
 pub mod Faults
 pub mod Answering
 pub mod Commit

@@ -1,9 +1,8 @@
 //! The desk: a book, and what keeps its changes.
-ghost use Rattle.std.specs.Prelude.{◌≡◌, ◌⊎◌, ◌↔◌, ◌<◌, false, [], ◌∷◌, length, IfErr, IfOk, IfNone};
-ghost use Rattle.std.specs.Prelude.{IfSome, IsErr, IsTrue, MatchResult, None, Ok, Err, true};
+ghost use Rattle.std.specs.Prelude.{◌≡◌, ◌⊎◌, ◌<◌, false, [], ◌∷◌, length, IfErr, IfOk, IfNone};
+ghost use Rattle.std.specs.Prelude.{IfSome, IsErr, IsTrue, MatchResult, Ok, Err, true};
 ghost use Rattle.std.specs.List.{list_all, list_any};
 ghost use Rattle.clr_rules.specs.CrewSafety.{CrewsWorkSafely};
-ghost use Rattle.clr_rules.specs.Fit.{IsFit};
 ghost use Rattle.clr_rules.specs.RunHeadline.{IsRun, OthersChangeNoReply, OthersTakeNothing};
 ghost use Rattle.clr_rules.specs.RunHeadline.{OwnStandAlone, with_reply};
 ghost use Rattle.sqlite.specs.Held.{state};
@@ -23,7 +22,6 @@ ghost use Rattle.clr_load.specs.declared.fault.StoreFault.{StoreFault};
 ghost use Rattle.clr_tables.specs.RowsRead.{rows_read};
 ghost use Rattle.clr_tables.specs.Tables.{Tables, tables_of};
 ghost use Rattle.clr_tables.specs.TypedRows.{IsTyped, is_typed_command};
-ghost use Rattle.clr_desk.specs.AtFault.{table_at_fault};
 ghost use Rattle.clr_desk.specs.Opening.{HasNetworkOf, OpensAs};
 ghost use Rattle.clr_desk.specs.Answering.{fault_of, replies_of};
 ghost use Rattle.clr_desk.specs.Carrying.{CarriesOut};
@@ -34,7 +32,6 @@ ghost use Rattle.clr_desk.specs.NearRun.{IsNearRun, near_network_all};
 ghost use Rattle.clr_desk.specs.Taking.{Takes, TakesOne, TakesRun};
 
 use crate::asking::prepare;
-use crate::at_fault::table_in;
 use crate::book::{DeskBook, apply, network_of, opening_book, staff_of};
 use crate::commit::{Commit, Unkept};
 use crate::desk_fault::DeskFault;
@@ -46,7 +43,6 @@ use clr_net::Network;
 use clr_rules::{Command, Reply, Text};
 use clr_staff::Staff;
 use clr_store::{Back, Store};
-use clr_tables::TableName;
 use sqlite::{Alter, Connection};
 use std::alloc::{AllocError, Global};
 
@@ -213,15 +209,6 @@ impl<K: Commit> Desk<K> {
         ensures { result.now ≡ self.now.book }
     {
         &self.book
-    }
-
-    /// The first table, in the order of points, clearances, steps and holds, whose rows do not fit
-    /// the others or the staff; none exactly where the register is good and staffed.
-    pub fn table_at_fault(&self, alloc: Global) -> Result<Option<TableName>, AllocError>
-        ensures good { IfOk result (λ table. (table ≡ None) ↔ IsFit self.now.book.register) }
-        ensures first { IfOk result (λ table. table ≡ table_at_fault self.now.book.register) }
-    {
-        table_in(alloc, &self.book)
     }
 
     /// How many faults the desk has answered since it was opened. At the greatest number the count

@@ -3,7 +3,6 @@
 
 mod archiving;
 mod asking;
-mod at_fault;
 mod book;
 mod commit;
 mod commit_at;

@@ -9,7 +9,7 @@ use Rattle.sqlite_trees.specs.Tree.{Trees}
 use Rattle.clr_tables.specs.declared.table_name.TableName.{TableName}
 use Rattle.clr_tables.specs.declared.table_name.TableName.TheVariants as tables
 use Rattle.clr_book.specs.Book.{Shelved}
-use Rattle.clr_desk.specs.AtFault.{table_at_fault}
+use Rattle.clr_edge.specs.AtFault.{table_at_fault}
 use Rattle.clr_desk.specs.Opening.{IsRegisterOf, OpensAs}
 use Rattle.clr_desk.specs.Faults.{IsOfCommand, of_store as desk_of_store}
 use Rattle.clr_desk.specs.declared.desk_fault.DeskFault.{DeskFault}
@@ -29,7 +29,7 @@ use Rattle.clr_tables.specs.Tables.{Tables, tables_of}
 use Rattle.clr_edge.specs.Fault.{of_desk, of_store}
 use Rattle.clr_edge.specs.declared.fault.Fault.{Fault}
 use Rattle.clr_edge.specs.Database.{IsAsBefore, IsOfLine, IsOfStore, IsOfUnfit, RefusesTables}
-use Rattle.clr_edge.specs.Visit.{Done, both, first_fault}
+use Rattle.clr_edge.specs.Visit.{Done, first_fault}
 
 -- tables that are opened read as rows
 pub rows_of-opened : (told : Result Rows TableName) (book : Shelved) → OpensAs (λ (b : Shelved). b.register) told (Ok book)
@@ -171,12 +171,6 @@ unfit_told R found table is told exact = record {
   named = refl;
 }
 
--- where nothing else is told
-pub first_fault-both : (told closed : Done) → first_fault told closed ≡ both told closed
-first_fault-both (Ok value) (Ok done) = refl
-first_fault-both (Ok value) (Err fault) = refl
-first_fault-both (Err fault) closed = refl
-
 -- the first of two faults is one of either
 pub first_fault-of : {T : Type 0} (told : Result T Fault) (closed : Done) (result : Result T Fault) (P : Fault → Type 0)
     → result ≡ first_fault told closed → IfErr told P → IfErr closed P → IfErr result P
@@ -186,13 +180,6 @@ first_fault-of {T} told closed result P is one other = let Q : Result T Fault �
     of (Ok value) (Ok done) one other = tt
     of (Ok value) (Err fault) one other = other
     of (Err fault) closed one other = one
-
-pub both-fault : (told closed result : Done) (P : Fault → Type 0) → result ≡ both told closed → IfErr told P → IfErr closed P → IfErr result P
-both-fault told closed result P is one other = let Q : Done → Type 0 = λ r. IfErr r P in subst Q (sym is) (first_of told closed P one other)
-  where
-    first_of : (told closed : Done) (P : Fault → Type 0) → IfErr told P → IfErr closed P → IfErr (both told closed) P
-    first_of (Ok value) closed P one other = other
-    first_of (Err fault) closed P one other = one
 
 pub IfErr-from : {T : Type 0} (result : Result T Fault) (P Q : Fault → Type 0) → ((fault : Fault) → P fault → Q fault) → IfErr result P → IfErr result Q
 IfErr-from (Ok value) P Q from is = tt

@@ -1,7 +1,5 @@
 pub mod Chains
-pub mod Begun
+pub mod AtFault
 pub mod Bytes
 pub mod Databases
-pub mod Keeping
 pub mod LineFeeds
-pub mod TakenUp

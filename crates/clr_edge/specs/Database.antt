@@ -27,7 +27,7 @@ use Rattle.clr_tables.specs.Tables.{Tables, tables_by, tables_of, version_one}
 use Rattle.clr_tables.specs.TypedRows.{IsTyped}
 use Rattle.clr_tables.specs.declared.table_name.TableName.{TableName}
 use Rattle.clr_book.specs.Book.{Shelved}
-use Rattle.clr_desk.specs.AtFault.{table_at_fault}
+use Rattle.clr_edge.specs.AtFault.{table_at_fault}
 use Rattle.clr_desk.specs.Opening.{IsRegisterOf, OpensAs}
 use Rattle.clr_edge.specs.Fault.{of_store}
 use Rattle.clr_edge.specs.declared.fault.Fault.{Fault}

@@ -1,12 +1,11 @@
 pub mod Answers
-pub mod Beginning
+pub mod AtFault
 pub mod Database
 pub mod Fault
 pub mod Files
 pub mod Journals
-pub mod Keeping
 pub mod Lines
 pub mod Logins
 pub mod Loopback
+pub mod Paths
 pub mod Visit
-pub mod TakenUp

@@ -86,16 +86,11 @@ abbrev pub Alone : {M T H : Type 0} → (Result T Fault → H → H → Done →
 Alone Does result middle before after closed later =
     (later ≡ middle) × Does result before after closed
 
--- what was told, or the first of two faults
+-- what comes of the work before a database is closed, or the first of two faults
 abbrev pub first_fault : {T : Type 0} → Result T Fault → Done → Result T Fault
 first_fault (Ok value) (Ok done) = Ok value
 first_fault (Ok value) (Err fault) = Err fault
 first_fault (Err fault) closed = Err fault
-
--- the same, where nothing else was told
-abbrev pub both : Done → Done → Done
-both (Ok value) closed = closed
-both (Err fault) closed = Err fault
 
 -- the tables of a register were made, or not, and the first fault is the result
 pub record MakesRegister {S : Type 0} (g : Ghosts S) (R : Register) (result : Done)
@@ -104,7 +99,7 @@ pub record MakesRegister {S : Type 0} (g : Ghosts S) (R : Register) (result : Do
   pub made : OnOk told (IsMade g before R after)
   pub unmade : OnErr told (IsUnmade g before R after)
   pub fault : IfErr told IsOfLine
-  pub result_is : result ≡ both told closed
+  pub result_is : result ≡ first_fault told closed
 
 -- the tables were moved, or not, and the first fault is the result
 pub record MovesRegister {S : Type 0} (g : Ghosts S) (result : Done) (before after : Held S)
@@ -114,4 +109,4 @@ pub record MovesRegister {S : Type 0} (g : Ghosts S) (result : Done) (before aft
   pub unmoved : IfErr told (λ fault. IsUnmoved g before fault after)
   pub known : (R : Register) → HasRegister g R before → HasCleanDisk (state g after)
       → IfErr told IsOfLine
-  pub result_is : result ≡ both told closed
+  pub result_is : result ≡ first_fault told closed

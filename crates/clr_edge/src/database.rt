@@ -19,6 +19,7 @@ ghost use Rattle.clr_edge.specs.Visit.{Alone, Comes, Ends, IsLeft};
 ghost use Rattle.clr_edge.specs.Visit.{MakesRegister, MovesRegister, Over, first_fault};
 ghost use Rattle.clr_edge.specs.declared.fault.Fault.{Fault as AnyFault};
 
+use crate::at_fault::table_in;
 use crate::fault::Fault;
 use crate::machine::Machine;
 use clr_desk::Desk;
@@ -220,11 +221,11 @@ fn close_over<D: Disk + Drop>(connection: Connection<FileStore<D>>) -> (Result<(
     }
 }
 
-/// What was told, or the first of two faults.
-pub fn first_fault<T: Drop>(told: Result<T, Fault>, closed: Result<(), Fault>) -> Result<T, Fault>
-    ensures { result ≡ first_fault told closed }
+/// What comes of the work before a database is closed, or the first of two faults.
+pub fn first_fault<T: Drop>(done: Result<T, Fault>, closed: Result<(), Fault>) -> Result<T, Fault>
+    ensures { result ≡ first_fault done closed }
 {
-    match told {
+    match done {
         Ok(value) => match closed {
             Ok(()) => Ok(value),
             Err(fault) => Err(fault),
@@ -275,7 +276,7 @@ fn register_made<S: Alter + Drop>(
 }
 
 /// Outside a transaction a connection shows what is committed: a law, with nothing to do.
-pub(crate) fn settled<S: Alter>(connection: &Connection<S>)
+pub fn settled<S: Alter>(connection: &Connection<S>)
     ensures { connection.now.in_transaction ≡ false → IsTrue (state S.Store connection.now).is_open
         → (state S.Store connection.now).now ≡ (state S.Store connection.now).committed }
 {
@@ -365,7 +366,7 @@ fn expect_good<S: Alter + Drop>(alloc: Global, desk: &Desk<Store<S>>) -> Result<
     ensures fault { IfErr result (λ cause. (cause ≡ StoreFault.NoMemory)
         ⊎ IsOfUnfit desk.now.book.register cause) }
 {
-    let found = desk.table_at_fault(alloc)?;
+    let found = table_in(alloc, desk.book())?;
     match found {
         Some(table) => Err(StoreFault::BadRow(table)),
         None => Ok(()),

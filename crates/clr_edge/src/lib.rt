@@ -1,7 +1,7 @@
 //! The files at the paths that a command line names, and what ends a command before its answer.
 #![tactic(auto)]
 
-pub mod beginning;
+mod at_fault;
 pub mod database;
 pub mod fault;
 pub mod files;
@@ -13,4 +13,3 @@ pub mod loopback;
 pub mod machine;
 pub mod output;
 pub mod paths;
-pub mod taking_up;

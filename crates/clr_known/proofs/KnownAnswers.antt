@@ -27,9 +27,9 @@ use Rattle.clr_edge.specs.Files.{told_of}
 use Rattle.clr_edge.specs.declared.fault.ImportFile.TheVariants.{Points, Sections, Staff}
 use Rattle.clr_edge.specs.Database.{HasRegister, IsMade, IsOfLine, IsOfStore}
 use Rattle.clr_edge.specs.Fault.{of_store}
-use Rattle.clr_edge.specs.Keeping.{IsNotReadAlone, Works, plain_keeper, unlogged}
-use Rattle.clr_edge.specs.TakenUp.{Logs}
-use Rattle.clr_edge.specs.Visit.{Alone, Comes, Done, Ending, IsLeft, MakesRegister, MovesRegister, Opening, Over, Shutting, Visits, both}
+use Rattle.clr_keeping.specs.Keeping.{IsNotReadAlone, Works, plain_keeper, unlogged}
+use Rattle.clr_keeping.specs.TakenUp.{Logs}
+use Rattle.clr_edge.specs.Visit.{Alone, Comes, Done, Ending, IsLeft, MakesRegister, MovesRegister, Opening, Over, Shutting, Visits, first_fault}
 use Rattle.clr_edge.specs.declared.fault.Fault.{Fault}
 use Rattle.clr_edge.specs.declared.fault.Fault.TheVariants.{Journal, Memory}
 use Rattle.clr_edge.specs.declared.fault.JournalFault.TheVariants.{Missing}
@@ -73,8 +73,9 @@ pub opening_given : (R : Register) → IsOpeningOf worked_rows R → R ≡ worke
 opening_given R is =
     is.register ∙ (λ i. opening (is_worked_net is.net is.is_network i) (is_worked_staff is.team is.is_staff i))
 
-pub moved_line : (told closed : Done) → IfErr told IsOfLine → IfErr closed IsOfLine → IfErr (both told closed) IsOfLine
-moved_line (Ok value) closed of_told of_closed = of_closed
+pub moved_line : (told closed : Done) → IfErr told IsOfLine → IfErr closed IsOfLine → IfErr (first_fault told closed) IsOfLine
+moved_line (Ok value) (Ok done) of_told of_closed = tt
+moved_line (Ok value) (Err fault) of_told of_closed = of_closed
 moved_line (Err fault) closed of_told of_closed = of_told
 
 -- a fault of closing is one of the database
@@ -120,7 +121,7 @@ known_read s p e sections points staff read are =
 
 module _ {D : Type 0} (g : disk.Ghosts D) (clean : IsAlwaysClean g) where
   -- a register that was made is that of the worked network
-  tables_told : (told closed : Done) (after : Over g) (R : Register) → R ≡ worked_opening → both told closed ≡ Ok tt
+  tables_told : (told closed : Done) (after : Over g) (R : Register) → R ≡ worked_opening → first_fault told closed ≡ Ok tt
       → OnOk told (HasTables (state over_files after).now (tables_of R)) → HasTables (state over_files after).now (tables_of worked_opening)
   tables_told (Ok value) closed after R is whole made = subst (λ (S : Register). HasTables (state over_files after).now (tables_of S)) is made
   tables_told (Err fault) closed after R is whole made = absurd (cc whole)

@@ -17,14 +17,14 @@ use Rattle.clr_commands.specs.declared.serve.Terms.{Terms}
 use Rattle.clr_edge.specs.Database.{HasRegister, IsOfLine}
 use Rattle.clr_edge.specs.Visit.{Comes, Done, Ending, Opening, Over, Shutting, first_fault}
 use Rattle.clr_edge.specs.declared.fault.Fault.{Fault}
-use Rattle.clr_edge.specs.Keeping.{IsNotReadAlone, Works, plain_keeper, unlogged}
-use Rattle.clr_edge.specs.TakenUp.{Logs}
+use Rattle.clr_keeping.specs.Keeping.{IsNotReadAlone, Works, plain_keeper, unlogged}
+use Rattle.clr_keeping.specs.TakenUp.{Logs}
 use Rattle.clr_edge.specs.declared.loopback.Loopback as loopback
 use Rattle.clr_commands.specs.Answers.{GivesText, Prints}
 use Rattle.clr_commands.specs.Connections.{ReportsConnection, Seen, TakesFirst, TakesNext}
 use Rattle.clr_commands.specs.Desks.{desk_keeps}
 use Rattle.clr_commands.specs.Logins.{NamesLogins, terms_with}
-use Rattle.clr_commands.specs.Paths.{AtPaths}
+use Rattle.clr_edge.specs.Paths.{AtPaths}
 use Rattle.clr_commands.specs.Serve.{ServesAt, ServesDesk, ServesKeeper, ServesKept, ServesRead}
 use Rattle.clr_commands.specs.Stored.{AnswersOf, PrintsOf, WhileOpen}
 use Rattle.clr_commands.specs.WayBack.{GivesBackTo, IsOfWayBack, way_back_to}

@@ -22,7 +22,7 @@ use Rattle.clr_load.specs.declared.fault.StoreFault.TheVariants.{Sql, WrongVersi
 use Rattle.clr_store.specs.Moving.{RefusesMove}
 use Rattle.clr_edge.specs.Database.{IsMoved, IsOfLine, IsUnmoved}
 use Rattle.clr_edge.specs.Fault.{of_store}
-use Rattle.clr_edge.specs.Visit.{Alone, Comes, Done, Ending, MovesRegister, Opening, Over, Shutting, Visits, both}
+use Rattle.clr_edge.specs.Visit.{Alone, Comes, Done, Ending, MovesRegister, Opening, Over, Shutting, Visits, first_fault}
 use Rattle.clr_edge.specs.declared.fault.Fault.{Fault}
 use Rattle.clr_commands.specs.Migrate.{Migrates, PrintsMoved}
 use Rattle.clr_known.specs.Known.{IsAlwaysClean, IsVersionTwo, jones_register}
@@ -71,7 +71,7 @@ module _ {M D : Type 0} (g : disk.Ghosts D) (clean : IsAlwaysClean g) (opens : O
       let refuses = it.refuses (clean after) (tables_by version_one jones_register) has in
       subst (λ (f : Fault). IsOfLine f) (sym it.told_is) (refused it.fault (subst (λ (t : Tables). RefusesMove t it.fault) tables_are refuses))
 
-  moved_tables : (told closed : Done) (before after : Over g) → HasOldJones (state over_files before).now → both told closed ≡ Ok tt
+  moved_tables : (told closed : Done) (before after : Over g) → HasOldJones (state over_files before).now → first_fault told closed ≡ Ok tt
       → OnOk told (IsMoved over_files before after) → HasTables (state over_files after).now (tables_of jones_register)
   moved_tables (Ok value) closed before after has whole moved = moved.register (clean after) jones_register no_jumper has
   moved_tables (Err fault) closed before after has whole moved = absurd (cc whole)

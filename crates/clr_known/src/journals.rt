@@ -5,9 +5,9 @@ ghost use Rattle.clr_edge.specs.Journals.{IsOfBeginning, IsOfOpening};
 use crate::machine::Known;
 use crate::version_one::OldKnown;
 use clr_append::{Journal, OnDisk};
+use clr_chain::Clock;
 use clr_edge::fault::{Fault, JournalFault};
 use clr_edge::journals::{Journals, OpenedJournal};
-use clr_level::Clock;
 use clr_place::Place;
 use sqlite_disk::Memory;
 

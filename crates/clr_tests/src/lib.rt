@@ -4,8 +4,6 @@
 #[cfg(test)]
 mod at_desk;
 #[cfg(test)]
-mod connections;
-#[cfg(test)]
 mod csv_files;
 #[cfg(test)]
 mod desk;
@@ -19,8 +17,6 @@ mod frozen;
 mod hostile;
 #[cfg(test)]
 mod http;
-#[cfg(test)]
-mod known;
 #[cfg(test)]
 mod limits;
 #[cfg(test)]

@@ -1,10 +1,10 @@
 use Rattle.std.proofs.Common.{arith, inl, inr, map, refl}
 use Rattle.clr_edge.specs.declared.fault.Fault.TheVariants.{Memory}
 use Rattle.clr_commands.specs.Connections.{seen}
-use Rattle.clr_commands.specs.Paths.{at_paths}
+use Rattle.clr_edge.specs.Paths.{at_paths}
 use Rattle.clr_command_line.specs.Around.{around, steps}
 use Rattle.clr_command_line.specs.CommandLine.{moment}
-use Rattle.clr_edge.specs.TakenUp.{logs}
+use Rattle.clr_keeping.specs.TakenUp.{logs}
 use Rattle.clr_command_line.proofs.Reported.{MayAnswer-does, does, memory_is_no_output, reported_fault}
 use Rattle.clr_command_line.proofs.command_line.command_line_over.Goals as goal
 

@@ -1,5 +1,5 @@
 use Rattle.clr_commands.specs.Import.{contents_of, lists_of}
-use Rattle.clr_commands.specs.Paths.{at_paths}
+use Rattle.clr_edge.specs.Paths.{at_paths}
 use Rattle.clr_commands.proofs.ReadTexts.{read-all, texts-rows, unread-points, unread-sections, unread-staff}
 use Rattle.clr_commands.specs.declared.import.Rows.{Rows}
 use Rattle.clr_commands.specs.declared.import.Texts.{Texts}

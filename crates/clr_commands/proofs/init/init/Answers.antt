@@ -1,7 +1,7 @@
 use Rattle.std.proofs.Common.{refl}
 use Rattle.sqlite.specs.Files.{over_files}
-use Rattle.clr_edge.specs.Beginning.{MakesRegisterAt}
-use Rattle.clr_edge.specs.TakenUp.{logs}
+use Rattle.clr_keeping.specs.Beginning.{MakesRegisterAt}
+use Rattle.clr_keeping.specs.TakenUp.{logs}
 use Rattle.clr_edge.specs.Visit.{Alone, Comes, MakesRegister}
 use Rattle.clr_commands.specs.Init.{InitsWith}
 use Rattle.clr_commands.proofs.Faults.{any_file_plain, passed}

@@ -1,8 +1,8 @@
 use Rattle.std.proofs.Common.{Err, Ok, inl, refl}
 use Rattle.sqlite.specs.Files.{over_files}
 use Rattle.clr_rules.specs.Register.{opening}
-use Rattle.clr_edge.specs.Beginning.{IsOfBegun, MakesRegisterAt}
-use Rattle.clr_edge.specs.TakenUp.{logs}
+use Rattle.clr_keeping.specs.Beginning.{IsOfBegun, MakesRegisterAt}
+use Rattle.clr_keeping.specs.TakenUp.{logs}
 use Rattle.clr_edge.specs.Visit.{Alone, Comes}
 use Rattle.clr_commands.specs.Import.{contents_of, lists_of}
 use Rattle.clr_commands.proofs.Faults.{begun_plain, passed}

@@ -1,4 +1,4 @@
-use Rattle.clr_edge.specs.TakenUp.{logs}
+use Rattle.clr_keeping.specs.TakenUp.{logs}
 use Rattle.clr_commands.proofs.Faults.{passed, taking_up_plain}
 use Rattle.clr_commands.proofs.Migrates.{begun_at, first_fault-plain, unbegun_at}
 use Rattle.clr_commands.proofs.migrate.begin_for.Goals as goal

@@ -2,8 +2,8 @@ use Rattle.std.proofs.Common.{◌≡◌, ◌∙◌, Err, Ok, ap, inl, refl, subs
 use Rattle.std.specs.Prelude.{IfErr}
 use Rattle.clr_book.specs.Book.{Shelved}
 use Rattle.clr_rules.specs.Register.{Register}
-use Rattle.clr_edge.specs.Beginning.{IsOfBegun}
-use Rattle.clr_edge.specs.TakenUp.{logs}
+use Rattle.clr_keeping.specs.Beginning.{IsOfBegun}
+use Rattle.clr_keeping.specs.TakenUp.{logs}
 use Rattle.clr_edge.specs.Visit.{Done}
 use Rattle.clr_commands.specs.First.{board_files, first_place, made_at}
 use Rattle.clr_commands.proofs.Faults.{begun_plain}

@@ -1,4 +1,4 @@
-use Rattle.clr_edge.specs.TakenUp.{logs}
+use Rattle.clr_keeping.specs.TakenUp.{logs}
 use Rattle.clr_commands.proofs.Migrates.{MigratesAt-begun, MigratesAt-moved}
 use Rattle.clr_commands.proofs.migrate.migrate.Goals as goal
 

@@ -1,8 +1,8 @@
 use Rattle.std.proofs.Common.{refl}
 use Rattle.sqlite.specs.Files.{over_files}
-use Rattle.clr_edge.specs.Keeping.{logged_keeper, plain_keeper}
-use Rattle.clr_edge.specs.TakenUp.{logs}
-use Rattle.clr_edge.proofs.Keeping.{not_worked, worked}
+use Rattle.clr_keeping.specs.Keeping.{logged_keeper, plain_keeper}
+use Rattle.clr_keeping.specs.TakenUp.{logs}
+use Rattle.clr_keeping.proofs.Keeping.{not_worked, worked}
 use Rattle.clr_commands.specs.Run.{RunsAlone, RunsDesk, printed_after}
 use Rattle.clr_commands.proofs.Faults.{taking_up_plain}
 use Rattle.clr_commands.proofs.RunAnswers.{FailsAsSubcommand-closed, FailsAsSubcommand-passed, ReadsInput-closed, ReadsInput-other, done_alone, taking_up-no_input}

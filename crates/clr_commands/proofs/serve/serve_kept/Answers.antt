@@ -1,7 +1,7 @@
 use Rattle.std.proofs.Common.{◌≡◌, refl}
-use Rattle.clr_edge.specs.TakenUp.{logs}
+use Rattle.clr_keeping.specs.TakenUp.{logs}
 use Rattle.clr_edge.specs.Visit.{first_fault}
-use Rattle.clr_edge.proofs.Keeping.{not_worked, worked}
+use Rattle.clr_keeping.proofs.Keeping.{not_worked, worked}
 use Rattle.clr_commands.specs.Connections.{seen}
 use Rattle.clr_commands.specs.Serve.{ServesDesk}
 use Rattle.clr_commands.proofs.serve.serve_kept.Goals as goal

@@ -3,8 +3,8 @@ use Rattle.std.specs.Prelude.{None, Some}
 use Rattle.sqlite.specs.Held.{state}
 use Rattle.clr_book.specs.Book.{Shelved}
 use Rattle.clr_chain.specs.declared.fault.ChainFault.TheVariants as chain
-use Rattle.clr_edge.specs.TakenUp.{HasPlace, StaysRead}
-use Rattle.clr_edge.proofs.Keeping.{of_place}
+use Rattle.clr_keeping.specs.TakenUp.{HasPlace, StaysRead}
+use Rattle.clr_keeping.proofs.Keeping.{of_place}
 use Rattle.clr_commands.proofs.verify.register_of.Goals as goal
 
 -- its place was read

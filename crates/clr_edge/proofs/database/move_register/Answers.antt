@@ -1,6 +1,6 @@
-use Rattle.std.proofs.Common.{◌∙◌, inr, refl}
+use Rattle.std.proofs.Common.{inr, refl}
 use Rattle.clr_edge.specs.Database.{IsOfLine, IsOfStore}
-use Rattle.clr_edge.proofs.Databases.{IfErr-from, IfErr-passed, IsOfStore-line, IsOfStore-of, both-fault, first_fault-both}
+use Rattle.clr_edge.proofs.Databases.{IfErr-from, IfErr-passed, IsOfStore-line, IsOfStore-of, first_fault-of}
 use Rattle.clr_edge.proofs.database.move_register.Goals as goal
 
 -- they were moved over the connection to that database, or not, and it was closed
@@ -20,7 +20,7 @@ returns-clause-visit g c = inr (record {
       moved = c.register_moved-moved.ensures.moved;
       unmoved = c.register_moved-moved.ensures.unmoved;
       known = c.register_moved-moved.ensures.known;
-      result_is = c.first_fault.ensures ∙ first_fault-both _ _;
+      result_is = c.first_fault.ensures;
     },
   );
   ended = c.close-closed.ensures.ends;
@@ -28,7 +28,7 @@ returns-clause-visit g c = inr (record {
 
 pub returns-clause-fault : goal.returns-clause-fault
 returns-clause-fault g c =
-    both-fault c.register_moved-moved.result.0 c.close-closed.result _ (λ fault. IsOfStore fault) (c.first_fault.ensures ∙ first_fault-both _ _)
+    first_fault-of c.register_moved-moved.result.0 c.close-closed.result _ (λ fault. IsOfStore fault) c.first_fault.ensures
     (IfErr-from c.register_moved-moved.result.0 _ (λ fault. IsOfStore fault) (λ fault unmoved. IsOfStore-of unmoved.fault fault unmoved.told_is)
     c.register_moved-moved.ensures.unmoved)
     (IfErr-from c.close-closed.result (λ fault. IsOfLine fault) (λ fault. IsOfStore fault) IsOfStore-line c.close-closed.ensures.fault)

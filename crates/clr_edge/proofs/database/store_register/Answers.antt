@@ -1,6 +1,6 @@
-use Rattle.std.proofs.Common.{◌∙◌, inr, refl}
+use Rattle.std.proofs.Common.{inr, refl}
 use Rattle.clr_edge.specs.Database.{IsOfLine}
-use Rattle.clr_edge.proofs.Databases.{both-fault, first_fault-both}
+use Rattle.clr_edge.proofs.Databases.{first_fault-of}
 use Rattle.clr_edge.proofs.database.store_register.Goals as goal
 
 -- the register was made over the connection to that database, which was closed
@@ -20,7 +20,7 @@ returns-clause-visit g c = inr (record {
       made = c.register_made-made.ensures.made;
       unmade = c.register_made-made.ensures.unmade;
       fault = c.register_made-made.ensures.fault;
-      result_is = c.first_fault.ensures ∙ first_fault-both _ _;
+      result_is = c.first_fault.ensures;
     },
   );
   ended = c.close-closed.ensures.ends;
@@ -28,5 +28,5 @@ returns-clause-visit g c = inr (record {
 
 pub returns-clause-fault : goal.returns-clause-fault
 returns-clause-fault g c =
-    both-fault c.register_made-made.result.0 c.close-closed.result _ (λ fault. IsOfLine fault) (c.first_fault.ensures ∙ first_fault-both _ _)
+    first_fault-of c.register_made-made.result.0 c.close-closed.result _ (λ fault. IsOfLine fault) c.first_fault.ensures
     c.register_made-made.ensures.fault c.close-closed.ensures.fault

@@ -1,5 +1,5 @@
 use Rattle.std.specs.Prelude.{codes}
-use Rattle.clr_edge.specs.TakenUp.{logs}
+use Rattle.clr_keeping.specs.TakenUp.{logs}
 use Rattle.clr_known.proofs.KnownAnswers.{run_given}
 use Rattle.clr_known.proofs.answers.run_of_jones.Goals as goal
 

@@ -1,5 +1,5 @@
-use Rattle.clr_edge.specs.TakenUp.{logs}
-use Rattle.clr_commands.specs.Paths.{at_paths}
+use Rattle.clr_keeping.specs.TakenUp.{logs}
+use Rattle.clr_edge.specs.Paths.{at_paths}
 use Rattle.clr_known.proofs.KnownVisits.{given_all, service_given}
 use Rattle.clr_known.proofs.visits.service_of_jones.Goals as goal
 

@@ -1,0 +1,161 @@
+-- Why a register is not taken up, and what comes of one that is.
+use Rattle.std.proofs.Common.{◌≡◌, ◌∙◌, ap, inl, inr, refl, sym, ℕ, List, Result, Ok, Err}
+use Rattle.std.specs.Borrow.{Bor}
+use Rattle.std.specs.Prelude.{IfErr, IsErrAnd, None, Option, Some}
+use Rattle.sqlite.specs.Files.{over_files}
+use Rattle.sqlite.specs.Held.{Held, state}
+use Rattle.sqlite_disk.specs.declared.Disk as disk
+use Rattle.sqlite_store.specs.declared.store.FileStore.{FileStore}
+use Rattle.sqlite_trees.specs.declared.store.Store.{Ghosts}
+use Rattle.clr_load.specs.declared.fault.StoreFault.{StoreFault}
+use Rattle.clr_load.specs.declared.fault.StoreFault.TheVariants.{Sql}
+use Rattle.clr_desk.specs.declared.commit.Commit as commit
+use Rattle.clr_desk.specs.declared.desk.Desk.{Desk}
+use Rattle.clr_desk.specs.declared.desk_fault.DeskFault.{DeskFault}
+use Rattle.clr_desk.specs.declared.desk_fault.DeskFault.TheVariants as desk
+use Rattle.clr_level.specs.declared.fault.OpeningFault.{OpeningFault}
+use Rattle.clr_level.specs.declared.keeper.Keeper.{Keeper}
+use Rattle.clr_edge.specs.Database.{IsOfLine}
+use Rattle.clr_edge.specs.Fault.{of_desk, of_store}
+use Rattle.clr_edge.specs.Journals.{IsOfOpening}
+use Rattle.clr_keeping.specs.Keeping.{IsDoneOver, IsGone, IsLetGo, IsNotUp, IsNotUpWith, IsUp, IsUpWith, Keeping, StaysLevelOver, WorksIn, WorksWith, logged, logged_keeper, plain, plain_keeper, unlogged}
+use Rattle.clr_keeping.specs.TakenUp.{IsOfTakingUp, LacksPlace, Logs, MissesOne, of_opening, store_place}
+use Rattle.clr_keeping.specs.TakenUp.IsNotTakenUp.{refused}
+use Rattle.clr_edge.specs.Visit.{Comes, Done, Ending, Opening, Over, Shutting}
+use Rattle.clr_edge.specs.declared.fault.Fault.{Fault}
+use Rattle.clr_keeping.specs.declared.taking_up.Opened.{Opened}
+use Rattle.clr_keeping.specs.declared.taking_up.Opened.TheVariants.{Logged, Plain}
+
+pub of_line : (fault : Fault) → IsOfLine fault → IsOfTakingUp fault
+of_line fault (inl memory) = inl (desk.NoMemory, memory)
+of_line fault (inr sql) = inl (desk.Store Sql, sql)
+
+pub of_tables : (cause : StoreFault) (fault : Fault) → fault ≡ of_store cause → IsOfTakingUp fault
+of_tables cause fault is = inl (desk.Store cause, is)
+
+-- a place that was not read, or is one too many
+pub of_place : {T : Type 0} (g : Ghosts T) (before : Held T) (fault : Fault) (after : Held T) → LacksPlace g before fault after → IsOfTakingUp fault
+of_place g before fault after lacks = of_tables lacks.cause fault lacks.fault_is
+
+pub of_missing : {T : Type 0} (g : Ghosts T) (before : Held T) (fault : Fault) (after : Held T) → MissesOne g before fault after → IsOfTakingUp fault
+of_missing g before fault after (inl lacks) = of_place g before fault after lacks
+of_missing g before fault after (inr one) = inr (inl one.0)
+
+-- a journal that was not opened, and one that does not go together with the register
+pub of_shut : (fault : Fault) → IsOfOpening fault → IsOfTakingUp fault
+of_shut fault is = inr (inr (inl is))
+
+pub of_apart : (cause : OpeningFault) (fault : Fault) → fault ≡ of_opening cause → IsOfTakingUp fault
+of_apart cause fault is = inr (inr (inr (cause, is)))
+
+-- why it is not taken up with a journal, or to be changed without one, where its database refused it
+pub refused_too : {M D J C : Type 0} (g : disk.Ghosts D) (opens : Opening M D) (shuts : Shutting M) (ends : Ending M D) (path journal : List ℕ) (logs : Logs M J C)
+    (old new : M) (fault : Fault) → IsNotUp g opens shuts ends path (plain over_files) old new fault
+    → IsNotUp g opens shuts ends path (logged over_files logs journal) old new fault
+refused_too g opens shuts ends path journal logs old new fault (inl shut) = inl shut
+refused_too g opens shuts ends path journal logs old new fault (inr visit) = inr (record {
+  before = visit.before;
+  after = visit.after;
+  closed = visit.closed;
+  middle = visit.middle;
+  later = visit.later;
+  opened = visit.opened;
+  mode = visit.mode;
+  does = (refused visit.does.0.1.refused visit.does.0.1.survives visit.does.0.0, visit.does.1);
+  ended = visit.ended;
+})
+
+pub refused_alone : {M D : Type 0} (g : disk.Ghosts D) (opens : Opening M D) (shuts : Shutting M) (ends : Ending M D) (path : List ℕ)
+    (old new : M) (fault : Fault) → IsNotUp g opens shuts ends path (plain over_files) old new fault
+    → IsNotUp g opens shuts ends path (unlogged over_files) old new fault
+refused_alone g opens shuts ends path old new fault (inl shut) = inl shut
+refused_alone g opens shuts ends path old new fault (inr visit) = inr (record {
+  before = visit.before;
+  after = visit.after;
+  closed = visit.closed;
+  middle = visit.middle;
+  later = visit.later;
+  opened = visit.opened;
+  mode = visit.mode;
+  does = ((visit.does.0.0, inl visit.does.0.1), visit.does.1);
+  ended = visit.ended;
+})
+
+module _ {M D R : Type 0} (g : disk.Ghosts D) (opens : Opening M D) (shuts kept_shut : Shutting M) (ends : Ending M D) (path : List ℕ) (Idle : Type 0)
+    (closed_as : Result R Fault → Done → Result R Fault) where
+  module _ {K : Type 0} (by : Keeping M (FileStore D g) K) (Did : Result R Fault → M → M → Desk K → Desk K → Type 0) where
+    visit_of : (told result : Result R Fault) (old between later new : M) (taken left : Desk K) (closed : Done) → IsUp g opens path by old between taken
+        → Did told between later taken left → by.stays taken left → IsGone {g = g} by.lets_go ends left.store closed later new → IfErr closed IsOfLine
+        → result ≡ closed_as told closed
+        → Comes g opens kept_shut ends path (WorksIn by Idle Did closed_as) result old new
+    visit_of told result old between later new taken left closed up did stays (after, behind, gone, ended) line is = inr (record {
+      before = up.before;
+      after = after;
+      closed = closed;
+      middle = up.middle;
+      later = behind;
+      opened = up.opened;
+      mode = up.mode;
+      does = record {
+        told = told;
+        works = inr (record {
+          taken = taken;
+          between = between;
+          good = up.good;
+          uncounted = up.uncounted;
+          taken_up = up.taken_up;
+          left = left;
+          later = later;
+          did = did;
+          stays = stays;
+          gone = gone;
+        });
+        closing = line;
+        result_is = is;
+      };
+      ended = ended;
+    })
+
+    no_visit : (result : Result R Fault) (old new : M) (fault : Fault) → IsErrAnd result (λ cause. cause ≡ fault)
+        → ((closed : Done) → closed_as (Err fault) closed ≡ Err fault) → Idle → (shuts old path fault new → kept_shut old path fault new)
+        → IsNotUp g opens shuts ends path by old new fault → Comes g opens kept_shut ends path (WorksIn by Idle Did closed_as) result old new
+    no_visit (Ok value) old new fault is same idle shut not = absurd is
+    no_visit (Err cause) old new fault is same idle shut (inl (line, it)) = inl (fault, ap Err is, line, shut it)
+    no_visit (Err cause) old new fault is same idle shut (inr visit) = inr (record {
+      before = visit.before;
+      after = visit.after;
+      closed = visit.closed;
+      middle = visit.middle;
+      later = visit.later;
+      opened = visit.opened;
+      mode = visit.mode;
+      does = record { told = Err fault; works = inl (visit.does.0, idle); closing = visit.does.1; result_is = ap Err is ∙ sym (same visit.closed) };
+      ended = visit.ended;
+    })
+
+  module _ {J C : Type 0} (logs : Logs M J C) (Did : (K : Type 0) → commit.Ghosts K → Result R Fault → M → M → Desk K → Desk K → Type 0) where
+    -- the register of the database at a path was taken up, and let go as what was done over it left it
+    pub worked : (journal : Option (Bor (List ℕ))) (told result : Result R Fault) (old between later new : M) (opened last : Opened (Over g) J C) (closed : Done)
+        → IsUpWith g opens path logs journal old between opened
+        → IsDoneOver (Did (Over g) (plain_keeper over_files) told between later) (Did (Keeper (Over g) J C) (logged_keeper over_files logs) told between later) opened last
+        → StaysLevelOver {K = Over g} (state over_files) store_place logs.log opened last
+        → IsLetGo {g = g} ends logs last closed later new → IfErr closed IsOfLine → result ≡ closed_as told closed
+        → Comes g opens kept_shut ends path (WorksWith logs over_files journal Idle Did closed_as) result old new
+    worked None told result old between later new (Plain taken) (Plain left) closed up did stays gone line is =
+        visit_of (unlogged over_files) (Did (Over g) (plain_keeper over_files)) told result old between later new taken left closed up did stays gone line is
+    worked (Some journal) told result old between later new (Logged taken) (Logged left) closed up did stays gone line is =
+        visit_of (logged over_files logs journal.now) (Did (Keeper (Over g) J C) (logged_keeper over_files logs)) told result old between later new taken left closed up did
+        stays gone line is
+    worked None told result old between later new (Plain taken) (Logged left) closed up did stays gone line is = absurd did
+    worked (Some journal) told result old between later new (Logged taken) (Plain left) closed up did stays gone line is = absurd did
+    worked None told result old between later new (Logged taken) last closed up did stays gone line is = absurd up
+    worked (Some journal) told result old between later new (Plain taken) last closed up did stays gone line is = absurd up
+
+    -- or it was not taken up
+    pub not_worked : (journal : Option (Bor (List ℕ))) (result : Result R Fault) (old new : M) (fault : Fault) → IsErrAnd result (λ cause. cause ≡ fault)
+        → ((closed : Done) → closed_as (Err fault) closed ≡ Err fault) → Idle → (shuts old path fault new → kept_shut old path fault new)
+        → IsNotUpWith g opens shuts ends path logs journal old new fault → Comes g opens kept_shut ends path (WorksWith logs over_files journal Idle Did closed_as) result old new
+    not_worked None result old new fault is same idle shut not =
+        no_visit (unlogged over_files) (Did (Over g) (plain_keeper over_files)) result old new fault is same idle shut not
+    not_worked (Some journal) result old new fault is same idle shut not =
+        no_visit (logged over_files logs journal.now) (Did (Keeper (Over g) J C) (logged_keeper over_files logs)) result old new fault is same idle shut not

@@ -1,0 +1,4 @@
+pub mod Begun
+pub mod Keeping
+pub mod PartsLevel
+pub mod TakenUp

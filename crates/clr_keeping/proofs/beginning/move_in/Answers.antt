@@ -1,0 +1,40 @@
+use Rattle.std.proofs.Common.{Ok, Err, List, [], subst, sym}
+use Rattle.sqlite.specs.Held.{state}
+use Rattle.sqlite.specs.State.{HasCleanDisk, Survives}
+use Rattle.clr_rules.specs.declared.change.Edit.{Edit}
+use Rattle.clr_store.specs.Contract.{AreEditedAt, MakesEditsAt}
+use Rattle.clr_tables.specs.Tables.{place_row}
+use Rattle.clr_keeping.specs.Beginning.{IsPlacedOrNot}
+use Rattle.clr_edge.specs.Database.{IsOfLine}
+use Rattle.clr_keeping.proofs.Begun.{IsOfLine-of_database}
+use Rattle.clr_keeping.proofs.beginning.move_in.Goals as goal
+
+-- the place was set, with no edit
+pub returns-in-Ok-clause-placed : goal.returns-in-Ok-clause-placed
+returns-in-Ok-clause-placed g c =
+    let before = state g.S.Store c.args.store in
+    let after = state g.S.Store c.commit_at.new.self in
+    let row = place_row c.args.first.now in
+    let placed : IsPlacedOrNot g.S.Store c.args.store c.args.first.now (Ok tt) c.commit_at.new.self = record {
+      made = λ clean. subst (λ (edits : List Edit). MakesEditsAt before.now edits row after.now) c.new.ensures.items (c.in-Ok.ensures.made clean);
+      saved = c.in-Ok.ensures.saved;
+      none = λ clean is_open. tt;
+      fault = tt;
+      survives = subst (λ (edits : List Edit). Survives before after (AreEditedAt before.now edits row)) c.new.ensures.items c.in-Ok.ensures.crash;
+    } in
+    subst (λ after. IsPlacedOrNot g.S.Store c.args.store c.args.first.now (Ok tt) after) (sym c.end.ensures.connection) placed
+
+-- or not
+pub returns-clause-placed : goal.returns-clause-placed
+returns-clause-placed g c =
+    let before = state g.S.Store c.args.store in
+    let after = state g.S.Store c.commit_at.new.self in
+    let row = place_row c.args.first.now in
+    let placed : IsPlacedOrNot g.S.Store c.args.store c.args.first.now (Err c.from.result) c.commit_at.new.self = record {
+      made = λ clean. tt;
+      saved = λ clean. tt;
+      none = c.in-Err.ensures.none;
+      fault = subst (λ fault. IsOfLine fault) (sym c.from.ensures) (IsOfLine-of_database c.in-Err.cause c.in-Err.ensures.fault);
+      survives = subst (λ (edits : List Edit). Survives before after (AreEditedAt before.now edits row)) c.new.ensures.items c.in-Err.ensures.crash;
+    } in
+    subst (λ after. IsPlacedOrNot g.S.Store c.args.store c.args.first.now (Err c.from.result) after) (sym c.end-in-Err.ensures.connection) placed

@@ -1,0 +1,29 @@
+use Rattle.std.proofs.Common.{Ok, Err, subst, sym}
+use Rattle.clr_keeping.specs.Beginning.{IsPlacedOrNot}
+use Rattle.clr_edge.specs.Database.{IsOfLine}
+use Rattle.clr_keeping.proofs.Begun.{IsOfLine-of_database}
+use Rattle.clr_keeping.proofs.beginning.place_in.Goals as goal
+
+-- the place was set
+pub returns-in-Ok-clause-placed : goal.returns-in-Ok-clause-placed
+returns-in-Ok-clause-placed g c =
+    let placed : IsPlacedOrNot g.S.Store c.args.store c.args.first.now (Ok tt) c.begin_at.new.self = record {
+      made = c.in-Ok.ensures.made;
+      saved = c.in-Ok.ensures.saved;
+      none = λ clean is_open. tt;
+      fault = tt;
+      survives = c.in-Ok.ensures.crash;
+    } in
+    subst (λ after. IsPlacedOrNot g.S.Store c.args.store c.args.first.now (Ok tt) after) (sym c.end.ensures.connection) placed
+
+-- or not
+pub returns-in-Err-clause-placed : goal.returns-in-Err-clause-placed
+returns-in-Err-clause-placed g c =
+    let placed : IsPlacedOrNot g.S.Store c.args.store c.args.first.now (Err c.from.result) c.begin_at.new.self = record {
+      made = λ clean. tt;
+      saved = λ clean. tt;
+      none = c.in-Err.ensures.none;
+      fault = subst (λ fault. IsOfLine fault) (sym c.from.ensures) (IsOfLine-of_database c.in-Err.cause c.in-Err.ensures.fault);
+      survives = c.in-Err.ensures.crash;
+    } in
+    subst (λ after. IsPlacedOrNot g.S.Store c.args.store c.args.first.now (Err c.from.result) after) (sym c.end-in-Err.ensures.connection) placed

@@ -1,0 +1,139 @@
+-- THE JOURNAL OF A REGISTER IS BEGUN, and then the register gets its first place in it.
+use Rattle.std.specs.Prelude.{◌≡◌, ◌⊎◌, ℕ, IfErr, IsTrue, List, [], OnErr, OnOk, Result, Some, Ok, Err}
+use Rattle.sqlite.specs.Files.{over_files}
+use Rattle.sqlite.specs.Held.{Held, state}
+use Rattle.sqlite.specs.State.{HasCleanDisk, Survives}
+use Rattle.sqlite_disk.specs.declared.Disk as disk
+use Rattle.sqlite_trees.specs.declared.store.Store.{Ghosts}
+use Rattle.clr_rules.specs.Register.{Register}
+use Rattle.clr_place.specs.declared.place.Place.{Place}
+use Rattle.clr_tables.specs.Tables.{place_row, tables_of}
+use Rattle.clr_load.specs.Contract.{IsSaved}
+use Rattle.clr_load.specs.Schema.{no_schema}
+use Rattle.clr_load.specs.Stored.{ArePlaced, HasTables}
+use Rattle.clr_store.specs.Contract.{AreEditedAt, AreTablesAt, MakesEditsAt}
+use Rattle.clr_edge.specs.Database.{IsAsBefore, IsOfLine}
+use Rattle.clr_edge.specs.Journals.{IsOfBeginning}
+use Rattle.clr_desk.specs.declared.desk.Desk.{Desk}
+use Rattle.clr_level.specs.declared.keeper.Keeper.{Keeper}
+use Rattle.clr_level.specs.declared.last.Last.TheVariants.{Settled}
+use Rattle.clr_keeping.specs.Keeping.{IsNotUp, IsUp, logged}
+use Rattle.clr_keeping.specs.TakenUp.{Logs}
+use Rattle.clr_edge.specs.Visit.{Done, Ending, Ends, Opening, Over, Shutting, first_fault}
+use Rattle.clr_edge.specs.declared.fault.Fault.{Fault}
+use Rattle.clr_edge.specs.declared.fault.Fault.TheVariants.{Journal, Memory}
+use Rattle.clr_edge.specs.declared.fault.JournalFault.TheVariants.{Begun}
+
+-- what is reported once a journal was begun: a fault says that it is to be removed
+abbrev pub begun_or : Done → Done
+begun_or (Ok value) = Ok value
+begun_or (Err fault) = Err (Journal Begun)
+
+-- the journal was not begun, or it was and is to be removed
+abbrev pub IsOfBegun : Fault → Type 0
+IsOfBegun fault = IsOfBeginning fault ⊎ (fault ≡ Journal Begun)
+
+-- A JOURNAL WAS BEGUN AT A PATH with this first line, and let go as it was begun; then this was done
+pub record IsBegunThen {M J C : Type 0} (logs : Logs M J C) (path : List ℕ) (first : Place)
+    (Does : Done → M → M → Type 0) (result : Done) (old new : M) : Type 0 where
+  pub journal : J
+  pub begun : M
+  pub middle : M
+  pub begins : logs.steps.begins_journal old path first journal begun
+  pub gone : logs.steps.lets_journal_go begun journal middle
+  pub told : Done
+  pub did : Does told middle new
+  pub result_is : result ≡ begun_or told
+
+-- the same, unless none was begun, and then nothing more was done
+abbrev pub BeginsFirst : {M J C : Type 0} → Logs M J C → List ℕ → Place → (Done → M → M → Type 0)
+    → Done → M → M → Type 0
+BeginsFirst logs path first Does result old new =
+    ((fault : Fault) × (result ≡ Err fault) × IsOfBeginning fault
+    × logs.steps.spares_journal old path first fault new)
+    ⊎ IsBegunThen logs path first Does result old new
+
+-- ---- with the register
+
+-- THE TABLES OF A REGISTER WERE MADE WITH ITS FIRST PLACE, in a database that had nothing: where the
+-- disk is clean they are there and saved, and a crash leaves both, or what it left before
+pub record IsMadeAt {S : Type 0} (g : Ghosts S) (before : Held S) (R : Register) (place : Place)
+    (after : Held S) : Type 0 where
+  pub mode : after.in_transaction ≡ before.in_transaction
+  pub bare : (state g before).now.schema ≡ no_schema
+  pub saved : HasCleanDisk (state g after) → IsSaved (state g after)
+  pub tables : HasCleanDisk (state g after) → HasTables (state g after).now (tables_of R)
+      × ArePlaced (state g after).now.trees (Some (place_row place))
+  pub survives : Survives (state g before) (state g after)
+      (AreTablesAt (tables_of R) (place_row place))
+
+-- they were not made
+pub record IsUnmadeAt {S : Type 0} (g : Ghosts S) (before : Held S) (R : Register) (place : Place)
+    (after : Held S) : Type 0 where
+  pub as_before : IsAsBefore g before after
+  pub survives : Survives (state g before) (state g after)
+      (AreTablesAt (tables_of R) (place_row place))
+
+-- they were, or not, and the first fault is the result
+pub record MakesRegisterAt {S : Type 0} (g : Ghosts S) (R : Register) (place : Place)
+    (result : Done) (before after : Held S) (closed : Done) : Type 0 where
+  pub told : Done
+  pub made : OnOk told (IsMadeAt g before R place after)
+  pub unmade : OnErr told (IsUnmadeAt g before R place after)
+  pub fault : IfErr told IsOfLine
+  pub result_is : result ≡ first_fault told closed
+
+-- ---- for a register that has none
+
+-- A REGISTER WAS GIVEN A PLACE, and its tables are as they were; or it was not, and the database is
+-- as it was. A crash leaves the same tables with the place, or what it left before
+pub record IsPlacedOrNot {S : Type 0} (g : Ghosts S) (before : Held S) (place : Place)
+    (told : Done) (after : Held S) : Type 0 where
+  pub made : HasCleanDisk (state g after)
+      → OnOk told (MakesEditsAt (state g before).now [] (place_row place) (state g after).now)
+  pub saved : HasCleanDisk (state g after) → OnOk told (IsSaved (state g after))
+  pub none : HasCleanDisk (state g after) → IsTrue (state g after).is_open
+      → OnErr told ((state g after).now ≡ (state g before).now)
+  pub fault : IfErr told IsOfLine
+  pub survives : Survives (state g before) (state g after)
+      (AreEditedAt (state g before).now [] (place_row place))
+
+-- A JOURNAL WAS BEGUN for a register that was read, and then the register was given its first place;
+-- or none was begun, and the register is as it was read
+abbrev pub PlacesAt : {M J C T : Type 0} → Ghosts T → Logs M J C → List ℕ → Place → Done → M → M
+    → Held T → Held T → Type 0
+PlacesAt g logs path first result old new read after =
+    ((fault : Fault) × (result ≡ Err fault) × IsOfBeginning fault × (after ≡ read)
+    × logs.steps.spares_journal old path first fault new)
+    ⊎ IsBegunThen logs path first
+    (λ told middle later. (later ≡ middle) × IsPlacedOrNot g read first told after) result old new
+
+-- ---- the next part
+
+-- the number of a place, once the register went there
+abbrev pub gives_number : Place → Done → Result ℕ Fault → Type 0
+gives_number first told (Ok number) = (told ≡ Ok tt) × (number ≡ first.number)
+gives_number first told (Err fault) = told ≡ Err fault
+
+-- THE NEXT PART OF A JOURNAL IS BEGUN where that has come to, which is let go first; then the register
+-- goes to that place, and its tables stay. Or memory ran out, and the register is as it was
+abbrev pub GoesOnAt : {M J C T : Type 0} → Ghosts T → Logs M J C → List ℕ → Result ℕ Fault
+    → M → M → Keeper (Held T) J C → Held T → Type 0
+GoesOnAt {M} g logs next result old new it after = (middle : M)
+    × logs.steps.lets_journal_go old it.journal middle
+    × (((result ≡ Err Memory) × (new ≡ middle) × (after ≡ it.keeper))
+    ⊎ ((told : Done) × gives_number it.at told result × (it.last ≡ Settled)
+    × PlacesAt g logs next it.at told middle new it.keeper after))
+
+-- over the database at a path, taken up with the journal at another
+abbrev pub BeginsNextAt : {M D J C : Type 0} → Logs M J C → (g : disk.Ghosts D) → Opening M D
+    → Shutting M → Ending M D → List ℕ → List ℕ → List ℕ → Result ℕ Fault → M → M → Type 0
+BeginsNextAt {M = M} {D = D} {J = J} {C = C} logs g opens shuts ends path journal next result
+    old new =
+    ((fault : Fault) × (result ≡ Err fault)
+    × IsNotUp g opens shuts ends path (logged over_files logs journal) old new fault)
+    ⊎ ((taken : Desk (Keeper (Over g) J C)) × (up : M) × (middle : M) × (after : Over g)
+    × (told : Result ℕ Fault) × (closed : Done)
+    × IsUp g opens path (logged over_files logs journal) old up taken
+    × GoesOnAt over_files logs next told up middle taken.store after
+    × Ends ends after closed middle new × (result ≡ first_fault told closed))

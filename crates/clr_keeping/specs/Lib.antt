@@ -1,0 +1,4 @@
+pub mod Beginning
+pub mod Keeping
+pub mod Laws
+pub mod TakenUp
