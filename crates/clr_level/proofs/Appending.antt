@@ -5,7 +5,7 @@ use Rattle.std.proofs.lemmas.Grind.{same_number_lists}
 use Rattle.std.proofs.lemmas.List.{get_or-take, length-take, length-take-le, take-append-le}
 use Rattle.sqlite_disk.specs.Disk.{Follows, Only}
 use Rattle.clr_append.specs.Journal.{BeginsWith, Grown, with_line}
-use Rattle.clr_level.specs.Journaling.{IsKept, IsSafe, StaySafe}
+use Rattle.clr_level.specs.Journaling.{IsDurable, IsKept, IsSafe, StaySafe}
 
 pub begins_itself : (text : List ℕ) → BeginsWith text text
 begins_itself text = take-length text
@@ -40,6 +40,13 @@ append_keeps before found n old new begins only follows bytes left =
 pub only_keeps : (before found : List ℕ) (left : List ℕ → Type 0) → BeginsWith before found → Only found left
     → (bytes : List ℕ) → left bytes → BeginsWith before bytes
 only_keeps before found left begins only bytes is = subst (λ (d : List ℕ). BeginsWith before d) (sym (only bytes is)) begins
+
+-- all lines are safe where they are durable
+pub durable_safe : {J : Type 0} (text : J → List ℕ) (may_leave : J → List ℕ → Type 0) (front : List ℕ) (journal : J) → text journal ≡ front
+    → IsDurable text may_leave journal → IsSafe text may_leave front journal
+durable_safe text may_leave front journal is durable =
+    subst (λ (t : List ℕ). IsSafe text may_leave t journal) is
+    (record { begins = begins_itself (text journal); kept = only_keeps (text journal) (text journal) (may_leave journal) (begins_itself (text journal)) durable })
 
 -- ---- what was safe is after an append
 

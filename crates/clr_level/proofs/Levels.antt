@@ -298,9 +298,9 @@ module _ {K J C : Type 0} (kept : K → State) (has_place : Placing) (text : J �
 
   -- ---- one command
 
-  module _ (takes : Taking K) (shows : C → ℕ → Type 0) (found : J → List ℕ) (may_leave : J → List ℕ → Type 0) where
+  module _ (takes : Taking K) (shows : C → ℕ → Type 0) (found : J → List ℕ) (may_leave : J → List ℕ → Type 0) (is_usable : J → Bool) where
     abbrev Takes_it : Keeper K J C → Command → Reply → Result (Unit {0}) DeskFault → Keeper K J C → Type 0
-    Takes_it = Journals takes kept has_place shows text found may_leave
+    Takes_it = Journals takes kept has_place shows text found may_leave is_usable
 
     abbrev Level : Register → Keeper K J C → Type 0
     Level R it = IsKeptLevel kept has_place text first start R it
@@ -333,9 +333,9 @@ module _ {K J C : Type 0} (kept : K → State) (has_place : Placing) (text : J �
     same_keeper old new same = subst (λ (k : K). StaysShown (kept old) (kept k)) (sym same) (shown_itself (kept old))
 
     after_fault : (R : Register) (old : Keeper K J C) (q : Command) (reply : Reply) (fault : DeskFault) (new : Keeper K J C) → Level R old
-        → reply ≡ Answer.reply (answer R q) → Misses takes kept shows text found may_leave old q reply fault new → Level R new
-    after_fault R old q reply fault new level reply_is (unwritten (inl none) same) = unnoted_level R old new same none.unnoted level
-    after_fault R old q reply fault new level reply_is (unwritten (inr un) same) =
+        → reply ≡ Answer.reply (answer R q) → Misses takes kept shows text found may_leave is_usable old q reply fault new → Level R new
+    after_fault R old q reply fault new level reply_is (unwritten (inl none) cause same) = unnoted_level R old new same none.unnoted level
+    after_fault R old q reply fault new level reply_is (unwritten (inr un) cause same) =
         left_due R old q reply new level un.noted (same_keeper old.keeper new.keeper same) reply_is un.accepted
         (λ more due. subst (λ (l : Last). IsLeft l R more) (sym un.doubtful) (inr due))
     after_fault R old q reply fault new level reply_is (unkept noted last_is durable taken stays) = at (accepts reply) refl fault refl
@@ -431,9 +431,9 @@ module _ {K J C : Type 0} (kept : K → State) (has_place : Placing) (text : J �
         keeps between S middle new later good (login_keeps R between old middle it same heard level) rest
 
 pub level_is_kept : {K J C : Type 0} (takes : Taking K) (kept : K → State) (has_place : Placing) (shows : C → ℕ → Type 0) (text found : J → List ℕ)
-    (may_leave : J → List ℕ → Type 0) → LevelIsKept K J C takes kept has_place shows text found may_leave
-level_is_kept takes kept has_place shows text found may_leave first R S start old new given good level are =
-    keeps kept has_place text first start takes shows found may_leave R S old new given good level are
+    (may_leave : J → List ℕ → Type 0) (is_usable : J → Bool) → LevelIsKept K J C takes kept has_place shows text found may_leave is_usable
+level_is_kept takes kept has_place shows text found may_leave is_usable first R S start old new given good level are =
+    keeps kept has_place text first start takes shows found may_leave is_usable R S old new given good level are
 
 pub settled_says : {K J C : Type 0} (kept : K → State) (has_place : Placing) (text : J → List ℕ) → SettledIsWhatItSays K J C kept has_place text
 settled_says kept has_place text first R start it level settled =

@@ -1,5 +1,5 @@
 -- The lines that a register has stay safe.
-use Rattle.std.proofs.Common.{◌≡◌, ◌∙◌, ℕ, true, List, [], ◌∷◌, ◌++◌, Ok, Err, Option, Result, inl, inr, refl, sym, subst, ap}
+use Rattle.std.proofs.Common.{◌≡◌, ◌∙◌, ℕ, Bool, true, List, [], ◌∷◌, ◌++◌, Ok, Err, Option, Result, inl, inr, refl, sym, subst, ap}
 use Rattle.serde_json.specs.Data.{Data}
 use Rattle.sqlite.specs.State.{State}
 use Rattle.clr_rules.specs.Answer.{Answer, answer}
@@ -21,27 +21,20 @@ use Rattle.clr_desk.specs.Given.{AreGiven, Given, IsAnswered, command, login}
 use Rattle.clr_desk.specs.Placing.{Placing}
 use Rattle.clr_desk.specs.Taking.{Takes, Taking, TakesOne}
 use Rattle.clr_desk.specs.declared.desk_fault.DeskFault.{DeskFault}
-use Rattle.clr_level.specs.Journaling.{HearsLogin, IsDurable, IsSafe, Journals, Misses, has_line, unasked, unkept, unwritten}
+use Rattle.clr_level.specs.Journaling.{HearsLogin, IsSafe, Journals, Misses, has_line, unasked, unkept, unwritten}
 use Rattle.clr_level.specs.Levelling.{IsKeptLevel}
 use Rattle.clr_level.specs.Placing.{IsAt, StaysShown}
 use Rattle.clr_level.specs.Restarting.{DueIsSafe, HasLines, IsSafeAt, SafeIsKept}
 use Rattle.clr_level.specs.declared.keeper.Keeper.{Keeper}
-use Rattle.clr_level.proofs.Appending.{begins_itself, only_keeps}
+use Rattle.clr_level.proofs.Appending.{durable_safe}
 use Rattle.clr_level.proofs.Chains.{accepted_out, run_more}
 use Rattle.clr_level.proofs.Levels.{level_is_kept, settled_says}
 use Rattle.clr_level.proofs.Places.{at_moves, at_stays, shown_itself}
 
--- all lines are safe where they are durable
-all_safe : {J : Type 0} (text : J → List ℕ) (may_leave : J → List ℕ → Type 0) (front : List ℕ) (journal : J) → text journal ≡ front → IsDurable text may_leave journal
-    → IsSafe text may_leave front journal
-all_safe text may_leave front journal is durable =
-    subst (λ (t : List ℕ). IsSafe text may_leave t journal) is
-    (record { begins = begins_itself (text journal); kept = only_keeps (text journal) (text journal) (may_leave journal) (begins_itself (text journal)) durable })
-
 module _ {K J C : Type 0} (takes : Taking K) (kept : K → State) (has_place : Placing) (shows : C → ℕ → Type 0) (text found : J → List ℕ)
-    (may_leave : J → List ℕ → Type 0) (first : Register) (start : Place) where
+    (may_leave : J → List ℕ → Type 0) (is_usable : J → Bool) (first : Register) (start : Place) where
   abbrev It : Keeper K J C → Command → Reply → Result (Unit {0}) DeskFault → Keeper K J C → Type 0
-  It = Journals takes kept has_place shows text found may_leave
+  It = Journals takes kept has_place shows text found may_leave is_usable
 
   abbrev Level : Register → Keeper K J C → Type 0
   Level R it = IsKeptLevel kept has_place text first start R it
@@ -74,14 +67,14 @@ module _ {K J C : Type 0} (takes : Taking K) (kept : K → State) (has_place : P
         has = record { turns = its.turns; run = settled_says kept has_place text first S start new level (journals.noted refl has).1 };
         placed = subst (IsAt has_place (kept new.keeper)) end
             (at_moves has_place (kept old.keeper) (kept new.keeper) before.place new.at before.placed (journals.placed refl is));
-        safe = all_safe text may_leave (chain_text start level.entries) new.journal level.text_is (journals.durable refl is);
+        safe = durable_safe text may_leave (chain_text start level.entries) new.journal level.text_is (journals.durable refl is);
       }
 
   after_fault : (R S : Register) (old new : Keeper K J C) (q : Command) (reply : Reply) (fault : DeskFault) → S ≡ R → It old q reply (Err fault) new → Safe R old → Safe S new
   after_fault R S old new q reply fault same journals safe = at (journals.missed fault refl)
     where
-      at : Misses takes kept shows text found may_leave old q reply fault new → Safe S new
-      at (unwritten un keeper) =
+      at : Misses takes kept shows text found may_leave is_usable old q reply fault new → Safe S new
+      at (unwritten un cause keeper) =
           stays_safe R S old new same (subst (λ (k : K). StaysShown (kept old.keeper) (kept k)) (sym keeper) (shown_itself (kept old.keeper))) journals.safe safe
       at (unkept noted last durable taken stays) = stays_safe R S old new same stays journals.safe safe
       at (unasked none was taken stays) = stays_safe R S old new same stays journals.safe safe
@@ -112,7 +105,7 @@ module _ {K J C : Type 0} (takes : Taking K) (kept : K → State) (has_place : P
 
   one_level : (R S : Register) (old new : Keeper K J C) (given : Given) → IsGood first → Level R old → AreGiven It HearsLogin R old (given ∷ []) S new → Level S new
   one_level R S old new given good level are =
-      level_is_kept takes kept has_place shows text found may_leave first R S start old new (given ∷ []) good level are
+      level_is_kept takes kept has_place shows text found may_leave is_usable first R S start old new (given ∷ []) good level are
 
   keeps_safe : (R S : Register) (old new : Keeper K J C) (given : List Given) → IsGood first → Level R old → Safe R old
       → AreGiven It HearsLogin R old given S new → Safe S new
@@ -126,9 +119,9 @@ module _ {K J C : Type 0} (takes : Taking K) (kept : K → State) (has_place : P
       keeps_safe between S middle new later good next (login_safe R between old middle it same heard safe) rest
 
 pub safe_is_kept : {K J C : Type 0} (takes : Taking K) (kept : K → State) (has_place : Placing) (shows : C → ℕ → Type 0) (text found : J → List ℕ)
-    (may_leave : J → List ℕ → Type 0) → SafeIsKept K J C takes kept has_place shows text found may_leave
-safe_is_kept takes kept has_place shows text found may_leave first R S start old new given good level safe are =
-    keeps_safe takes kept has_place shows text found may_leave first start R S old new given good level safe are
+    (may_leave : J → List ℕ → Type 0) (is_usable : J → Bool) → SafeIsKept K J C takes kept has_place shows text found may_leave is_usable
+safe_is_kept takes kept has_place shows text found may_leave is_usable first R S start old new given good level safe are =
+    keeps_safe takes kept has_place shows text found may_leave is_usable first start R S old new given good level safe are
 
 pub due_is_safe : {K J C : Type 0} (kept : K → State) (has_place : Placing) (text : J → List ℕ) (may_leave : J → List ℕ → Type 0)
     → DueIsSafe K J C kept has_place text may_leave
@@ -143,5 +136,5 @@ due_is_safe kept has_place text may_leave first R start it level due durable =
         run = subst (λ (ps : List (Command × Data)). IsRunOf first ps (after R due.q)) (sym pairs) (run_more first R (carried_out its.had) due.q its.run);
       },
       level.end_is,
-      all_safe text may_leave (chain_text start level.entries) it.journal level.text_is durable,
+      durable_safe text may_leave (chain_text start level.entries) it.journal level.text_is durable,
     )

@@ -1,5 +1,5 @@
 -- What a keeper holds of its journal stays true.
-use Rattle.std.proofs.Common.{◌∙◌, ℕ, List, [], ◌∷◌, Ok, Err, Option, Result, inl, inr, sym, subst}
+use Rattle.std.proofs.Common.{◌∙◌, ℕ, Bool, List, [], ◌∷◌, Ok, Err, Option, Result, inl, inr, sym, subst}
 use Rattle.sqlite.specs.State.{State}
 use Rattle.sqlite_disk.specs.Disk.{Only}
 use Rattle.clr_rules.specs.Answer.{Answer}
@@ -17,9 +17,9 @@ use Rattle.clr_desk.specs.Placing.{Placing}
 use Rattle.clr_level.specs.declared.keeper.Keeper.{Keeper}
 
 module _ {K J C : Type 0} (takes : Taking K) (kept : K → State) (has_place : Placing) (shows : C → ℕ → Type 0)
-    (text found : J → List ℕ) (may_leave : J → List ℕ → Type 0) where
+    (text found : J → List ℕ) (may_leave : J → List ℕ → Type 0) (is_usable : J → Bool) where
   abbrev It : Keeper K J C → Command → Reply → Came → Keeper K J C → Type 0
-  It = Journals takes kept has_place shows text found may_leave
+  It = Journals takes kept has_place shows text found may_leave is_usable
 
   abbrev Sound : Keeper K J C → Type 0
   Sound it = IsSound text found may_leave it
@@ -51,6 +51,6 @@ module _ {K J C : Type 0} (takes : Taking K) (kept : K → State) (has_place : P
       keeps_sound between S middle new later (login_sound old it middle heard sound) rest
 
 pub sound_is_kept : {K J C : Type 0} (takes : Taking K) (kept : K → State) (has_place : Placing) (shows : C → ℕ → Type 0) (text found : J → List ℕ)
-    (may_leave : J → List ℕ → Type 0) → SoundIsKept K J C takes kept has_place shows text found may_leave
-sound_is_kept takes kept has_place shows text found may_leave R S old new given sound are =
-    keeps_sound takes kept has_place shows text found may_leave R S old new given sound are
+    (may_leave : J → List ℕ → Type 0) (is_usable : J → Bool) → SoundIsKept K J C takes kept has_place shows text found may_leave is_usable
+sound_is_kept takes kept has_place shows text found may_leave is_usable R S old new given sound are =
+    keeps_sound takes kept has_place shows text found may_leave is_usable R S old new given sound are

@@ -11,11 +11,13 @@ use Rattle.clr_place.specs.declared.place.Place.{Place}
 use Rattle.clr_desk.specs.Commit.{Stays}
 use Rattle.clr_desk.specs.Taking.{Came, Taking, is_refused}
 use Rattle.clr_desk.specs.declared.desk_fault.DeskFault.{DeskFault}
-use Rattle.clr_level.specs.Journaling.{HasText, IsAsItWas, IsDurable, IsNoted, IsSafe, IsSound, IsUnwritten, Journals, Misses, StaySafe, has_line, is_show, left, left_by, unasked, unkept, unwritten}
+use Rattle.clr_desk.specs.declared.desk_fault.DeskFault.TheVariants.{Journal, NoMemory, Store}
+use Rattle.clr_level.specs.Journaling.{DoubtHasCause, HasText, IsAsItWas, IsDurable, IsNoted, IsSafe, IsSound, IsUnwritten, IsWithdrawn, Journals, Misses, StaySafe, has_line, is_show, left, left_by, said, unasked, unkept, unwritten}
 use Rattle.clr_desk.specs.Placing.{CommitsAt, Placing}
 use Rattle.clr_level.specs.Placing.{ComesTo, StaysShown}
 use Rattle.clr_level.specs.declared.keeper.Keeper.{Keeper}
-use Rattle.clr_level.specs.declared.last.Last.TheVariants.{Settled}
+use Rattle.clr_level.specs.declared.last.Last.{Last}
+use Rattle.clr_level.specs.declared.last.Last.TheVariants.{Owed, Settled}
 use Rattle.clr_level.proofs.Places.{comes, shows_still, stays_shown}
 
 true_false : {A : Type 0} (b : Bool) → b ≡ true → b ≡ false → A
@@ -36,6 +38,14 @@ refused_reply (Shown view) is = absurd (cc is)
 refused_reply (Refused refusal) is = refl
 refused_reply (Added point) is = absurd (cc is)
 
+owed_not_settled : {A : Type 0} (it : Last) → it ≡ Owed → it ≡ Settled → A
+owed_not_settled it owed settled = absurd (cc (owed, settled))
+
+never_settled : {A : Type 0} (fault : DeskFault) → left_by fault ≡ Settled → A
+never_settled NoMemory is = absurd (cc is)
+never_settled (Store cause) is = absurd (cc is)
+never_settled Journal is = absurd (cc is)
+
 -- but for the keeper below, and what is known of the last line
 pub record IsBeside {K J C : Type 0} (mid new : Keeper K J C) : Type 0 where
   pub journal : new.journal ≡ mid.journal
@@ -45,7 +55,7 @@ pub record IsBeside {K J C : Type 0} (mid new : Keeper K J C) : Type 0 where
   pub synced : new.is_synced ≡ mid.is_synced
 
 module _ {K J C : Type 0} (takes : Taking K) (kept : K → State) (has_place : Placing) (shows : C → ℕ → Type 0)
-    (text found : J → List ℕ) (may_leave : J → List ℕ → Type 0) where
+    (text found : J → List ℕ) (may_leave : J → List ℕ → Type 0) (is_usable : J → Bool) where
   noted_as : (old mid new : Keeper K J C) (q : Command) (reply : Reply) → IsNoted shows text old q reply mid → IsBeside mid new → IsNoted shows text old q reply new
   noted_as old mid new q reply noted beside = record {
     receipt = noted.receipt;
@@ -69,11 +79,16 @@ module _ {K J C : Type 0} (takes : Taking K) (kept : K → State) (has_place : P
   safe_as : (mid new : Keeper K J C) → IsBeside mid new → StaySafe text may_leave mid.journal new.journal
   safe_as mid new beside front was = subst (λ (j : J). IsSafe text may_leave front j) (sym beside.journal) was
 
+  -- where what is known of the last line stays
+  withdrawn_as : (old mid new : Keeper K J C) → IsBeside mid new → new.last ≡ mid.last → IsWithdrawn text may_leave old mid → IsWithdrawn text may_leave old new
+  withdrawn_as old mid new beside last was owed settled =
+      subst (λ (j : J). IsSafe text may_leave (said text old) j) (sym beside.journal) (was owed (sym last ∙ settled))
+
   pub unwritten_is : (old : Keeper K J C) (q : Command) (reply : Reply) (fault : DeskFault) (new : Keeper K J C)
-      → IsUnwritten shows text found may_leave old q reply fault new → new.keeper ≡ old.keeper
+      → IsUnwritten shows text found may_leave old q reply fault new → DoubtHasCause is_usable old new → new.keeper ≡ old.keeper
       → (IsSound text found may_leave old → IsSound text found may_leave new) → StaySafe text may_leave old.journal new.journal
-      → Journals takes kept has_place shows text found may_leave old q reply (Err fault) new
-  unwritten_is old q reply fault new un same sound safe = record {
+      → IsWithdrawn text may_leave old new → Journals takes kept has_place shows text found may_leave is_usable old q reply (Err fault) new
+  unwritten_is old q reply fault new un cause same sound safe withdrawn = record {
     noted = λ ok. absurd (cc ok);
     asked = λ ok. absurd (cc ok);
     durable = λ ok. absurd (cc ok);
@@ -82,19 +97,20 @@ module _ {K J C : Type 0} (takes : Taking K) (kept : K → State) (has_place : P
     taken = λ ok. absurd (cc ok);
     missed = λ f is.
         let same_fault : fault ≡ f = cc is in
-        subst (λ (g : DeskFault). Misses takes kept shows text found may_leave old q reply g new) same_fault (unwritten un same);
+        subst (λ (g : DeskFault). Misses takes kept shows text found may_leave is_usable old q reply g new) same_fault (unwritten un cause same);
     sound = sound;
     safe = safe;
+    withdrawn = withdrawn;
   }
 
   -- an accepted command, whose line is durable
   pub kept_is : (old mid new : Keeper K J C) (q : Command) (reply : Reply) (edits : List Edit) → is_accepted reply ≡ true → IsNoted shows text old q reply mid
       → mid.last ≡ Settled → IsDurable text may_leave mid.journal → (IsSound text found may_leave old → IsSound text found may_leave mid)
-      → StaySafe text may_leave old.journal mid.journal
+      → StaySafe text may_leave old.journal mid.journal → IsWithdrawn text may_leave old mid
       → mid.keeper ≡ old.keeper → IsBeside mid new → new.last ≡ mid.last → takes mid.keeper q reply (Ok tt) new.keeper
       → CommitsAt {X = Unit {0}} has_place (kept mid.keeper) (kept new.keeper) edits mid.at (Ok tt)
-      → Journals takes kept has_place shows text found may_leave old q reply (Ok tt) new
-  kept_is old mid new q reply edits is noted settled durable sound safe same beside last taken commits = record {
+      → Journals takes kept has_place shows text found may_leave is_usable old q reply (Ok tt) new
+  kept_is old mid new q reply edits is noted settled durable sound safe withdrawn same beside last taken commits = record {
     noted = λ ok has. (noted_as old mid new q reply noted beside, last ∙ settled);
     asked = λ ok none. true_false (has_line q reply) (has_its_line q reply is) none;
     durable = λ ok accepted. subst (IsDurable text may_leave) (sym beside.journal) durable;
@@ -107,6 +123,7 @@ module _ {K J C : Type 0} (takes : Taking K) (kept : K → State) (has_place : P
     missed = λ f is_fault. absurd (cc is_fault);
     sound = λ was. sound_as mid new beside (sound was);
     safe = λ front was. safe_as mid new beside front (safe front was);
+    withdrawn = withdrawn_as old mid new beside last withdrawn;
   }
 
   pub unkept_is : (old mid new : Keeper K J C) (q : Command) (reply : Reply) (fault : DeskFault) (edits : List Edit) → is_accepted reply ≡ true
@@ -114,7 +131,7 @@ module _ {K J C : Type 0} (takes : Taking K) (kept : K → State) (has_place : P
       → StaySafe text may_leave old.journal mid.journal
       → mid.keeper ≡ old.keeper → IsBeside mid new → new.last ≡ left_by fault → takes mid.keeper q reply (Err fault) new.keeper
       → CommitsAt {X = Unit {0}} has_place (kept mid.keeper) (kept new.keeper) edits mid.at (Err fault)
-      → Journals takes kept has_place shows text found may_leave old q reply (Err fault) new
+      → Journals takes kept has_place shows text found may_leave is_usable old q reply (Err fault) new
   unkept_is old mid new q reply fault edits is noted durable sound safe same beside last taken commits = record {
     noted = λ ok. absurd (cc ok);
     asked = λ ok. absurd (cc ok);
@@ -124,7 +141,7 @@ module _ {K J C : Type 0} (takes : Taking K) (kept : K → State) (has_place : P
     taken = λ ok. absurd (cc ok);
     missed = λ f is_fault.
         let same_fault : fault ≡ f = cc is_fault in
-        subst (λ (g : DeskFault). Misses takes kept shows text found may_leave old q reply g new) same_fault
+        subst (λ (g : DeskFault). Misses takes kept shows text found may_leave is_usable old q reply g new) same_fault
         (unkept (noted_as old mid new q reply noted beside) (last ∙ ap (λ (b : Bool). left b fault) (sym is))
         (λ accepted. subst (IsDurable text may_leave) (sym beside.journal) durable)
         (subst (λ (k : K). takes k q reply (Err fault) new.keeper) same taken)
@@ -132,15 +149,16 @@ module _ {K J C : Type 0} (takes : Taking K) (kept : K → State) (has_place : P
         (shows_still has_place (kept mid.keeper) (kept new.keeper) edits mid.at fault commits)));
     sound = λ was. sound_as mid new beside (sound was);
     safe = λ front was. safe_as mid new beside front (safe front was);
+    withdrawn = λ owed settled. never_settled fault (sym last ∙ settled);
   }
 
   -- a refused one with its line
   pub refused_is : (old mid new : Keeper K J C) (q : Command) (reply : Reply) (came : Came) → is_refused reply ≡ true → is_show q.kind ≡ false
       → IsNoted shows text old q reply mid → mid.last ≡ Settled → (IsSound text found may_leave old → IsSound text found may_leave mid)
-      → StaySafe text may_leave old.journal mid.journal
+      → StaySafe text may_leave old.journal mid.journal → IsWithdrawn text may_leave old mid
       → mid.keeper ≡ old.keeper → IsBeside mid new → new.last ≡ mid.last → takes mid.keeper q reply came new.keeper
-      → Stays (kept mid.keeper) (kept new.keeper) → Journals takes kept has_place shows text found may_leave old q reply came new
-  refused_is old mid new q reply came refused asks noted settled sound safe same beside last taken stays =
+      → Stays (kept mid.keeper) (kept new.keeper) → Journals takes kept has_place shows text found may_leave is_usable old q reply came new
+  refused_is old mid new q reply came refused asks noted settled sound safe withdrawn same beside last taken stays =
       let refusal : is_accepted reply ≡ false = refused_reply reply refused in
       let shown : StaysShown (kept old.keeper) (kept new.keeper) =
       subst (λ (k : K). StaysShown (kept k) (kept new.keeper)) same (stays_shown (kept mid.keeper) (kept new.keeper) stays) in
@@ -158,12 +176,13 @@ module _ {K J C : Type 0} (takes : Taking K) (kept : K → State) (has_place : P
             (subst (λ (c : Came). takes old.keeper q reply c new.keeper) is called) shown;
         sound = λ was. sound_as mid new beside (sound was);
         safe = λ front was. safe_as mid new beside front (safe front was);
+        withdrawn = withdrawn_as old mid new beside last withdrawn;
       }
 
   -- one that asks
   pub asked_is : (old new : Keeper K J C) (q : Command) (reply : Reply) (came : Came) → is_refused reply ≡ true → is_show q.kind ≡ true
       → IsBeside old new → new.last ≡ old.last → takes old.keeper q reply came new.keeper
-      → Stays (kept old.keeper) (kept new.keeper) → Journals takes kept has_place shows text found may_leave old q reply came new
+      → Stays (kept old.keeper) (kept new.keeper) → Journals takes kept has_place shows text found may_leave is_usable old q reply came new
   asked_is old new q reply came refused asks beside last taken stays =
       let refusal : is_accepted reply ≡ false = refused_reply reply refused in
       let shown : StaysShown (kept old.keeper) (kept new.keeper) = stays_shown (kept old.keeper) (kept new.keeper) stays in
@@ -180,4 +199,5 @@ module _ {K J C : Type 0} (takes : Taking K) (kept : K → State) (has_place : P
             unasked (has_none q reply asks refusal) same (subst (λ (c : Came). takes old.keeper q reply c new.keeper) is taken) shown;
         sound = λ was. sound_as old new beside was;
         safe = λ front was. safe_as old new beside front was;
+        withdrawn = λ owed settled. owed_not_settled old.last owed (sym last ∙ settled);
       }

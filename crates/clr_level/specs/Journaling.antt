@@ -177,6 +177,19 @@ abbrev pub StaySafe : {J : Type 0} → (J → List ℕ) → (J → List ℕ → 
 StaySafe text may_leave old new = (front : List ℕ) → IsSafe text may_leave front old
     → IsSafe text may_leave front new
 
+-- A WITHDRAWAL THAT WAS OWED IS SAFE once it is owed no more and nothing is in doubt, whatever came
+-- of the command: a crash leaves it, and all lines before. So it is synced before a later command
+-- can have a line
+abbrev pub IsWithdrawn : {K J C : Type 0} → (J → List ℕ) → (J → List ℕ → Type 0)
+    → Keeper K J C → Keeper K J C → Type 0
+IsWithdrawn text may_leave old new = old.last ≡ Owed → new.last ≡ Settled
+    → IsSafe text may_leave (said text old) new.journal
+
+-- A JOURNAL IS NEWLY IN DOUBT only where it can be used no more: a sync of it failed
+abbrev pub DoubtHasCause : {K J C : Type 0} → (J → Bool) → Keeper K J C → Keeper K J C → Type 0
+DoubtHasCause is_usable old new = new.last ≡ Doubtful
+    → (old.last ≡ Doubtful) ⊎ (is_usable new.journal ≡ false)
+
 -- THE LINE WAS NOT SYNCED: the command is accepted, and it is not known whether a crash leaves the
 -- line. It leaves all lines before
 pub record IsUnsynced {K J C : Type 0} (shows : C → ℕ → Type 0) (text found : J → List ℕ)
@@ -208,27 +221,28 @@ IsUnwritten shows text found may_leave old q reply fault new =
 -- the keeper failed after it, where the line of one that is accepted is durable; or it failed at a
 -- command that has no line
 pub data Misses {K J C : Type 0} (takes : Taking K) (kept : K → State) (shows : C → ℕ → Type 0)
-    (text found : J → List ℕ) (may_leave : J → List ℕ → Type 0) (old : Keeper K J C)
-    (q : Command) (reply : Reply) (fault : DeskFault) (new : Keeper K J C) : Type 0 where
+    (text found : J → List ℕ) (may_leave : J → List ℕ → Type 0) (is_usable : J → Bool)
+    (old : Keeper K J C) (q : Command) (reply : Reply) (fault : DeskFault) (new : Keeper K J C)
+    : Type 0 where
   unwritten : IsUnwritten shows text found may_leave old q reply fault new
-      → new.keeper ≡ old.keeper
-      → Misses takes kept shows text found may_leave old q reply fault new
+      → DoubtHasCause is_usable old new → new.keeper ≡ old.keeper
+      → Misses takes kept shows text found may_leave is_usable old q reply fault new
   unkept : IsNoted shows text old q reply new → new.last ≡ left (is_accepted reply) fault
       → (is_accepted reply ≡ true → IsDurable text may_leave new.journal)
       → takes old.keeper q reply (Err fault) new.keeper
       → StaysShown (kept old.keeper) (kept new.keeper)
-      → Misses takes kept shows text found may_leave old q reply fault new
+      → Misses takes kept shows text found may_leave is_usable old q reply fault new
   unasked : has_line q reply ≡ false → IsAsItWas old new
       → takes old.keeper q reply (Err fault) new.keeper
       → StaysShown (kept old.keeper) (kept new.keeper)
-      → Misses takes kept shows text found may_leave old q reply fault new
+      → Misses takes kept shows text found may_leave is_usable old q reply fault new
 
 -- A COMMAND AT A KEEPER WITH A JOURNAL: it is carried out only with its line, which is durable
 -- where it is accepted, and with the place at that line
 pub record Journals {K J C : Type 0} (takes : Taking K) (kept : K → State) (has_place : Placing)
     (shows : C → ℕ → Type 0) (text found : J → List ℕ) (may_leave : J → List ℕ → Type 0)
-    (old : Keeper K J C) (q : Command) (reply : Reply) (came : Came) (new : Keeper K J C)
-    : Type 0 where
+    (is_usable : J → Bool) (old : Keeper K J C) (q : Command) (reply : Reply) (came : Came)
+    (new : Keeper K J C) : Type 0 where
   pub noted : came ≡ Ok tt → has_line q reply ≡ true
       → IsNoted shows text old q reply new × (new.last ≡ Settled)
   pub asked : came ≡ Ok tt → has_line q reply ≡ false → IsAsItWas old new
@@ -239,9 +253,10 @@ pub record Journals {K J C : Type 0} (takes : Taking K) (kept : K → State) (ha
       → StaysShown (kept old.keeper) (kept new.keeper)
   pub taken : came ≡ Ok tt → takes old.keeper q reply (Ok tt) new.keeper
   pub missed : (fault : DeskFault) → came ≡ Err fault
-      → Misses takes kept shows text found may_leave old q reply fault new
+      → Misses takes kept shows text found may_leave is_usable old q reply fault new
   pub sound : IsSound text found may_leave old → IsSound text found may_leave new
   pub safe : StaySafe text may_leave old.journal new.journal
+  pub withdrawn : IsWithdrawn text may_leave old new
 
 -- the login of the next command is heard; nothing else changes
 pub record HearsLogin {K J C : Type 0} (old : Keeper K J C) (login : Option (List ℕ))

@@ -1,5 +1,5 @@
 -- THE REGISTER, ITS PLACE AND THE JOURNAL ARE LEVEL.
-use Rattle.std.specs.Prelude.{◌≡◌, ◌⊎◌, ℕ, true, List, [], ◌∷◌, ◌++◌}
+use Rattle.std.specs.Prelude.{◌≡◌, ◌⊎◌, ℕ, Bool, true, List, [], ◌∷◌, ◌++◌}
 use Rattle.sqlite.specs.State.{State}
 use Rattle.clr_rules.specs.Answer.{Answer, answer}
 use Rattle.clr_rules.specs.Good.{IsGood}
@@ -57,21 +57,22 @@ pub record IsKeptLevel {K J C : Type 0} (kept : K → State) (has_place : Placin
 
 -- LEVEL IS KEPT over any number of commands, logins and faults
 abbrev pub LevelIsKept : (K J C : Type 0) → Taking K → (K → State) → Placing → (C → ℕ → Type 0)
-    → (J → List ℕ) → (J → List ℕ) → (J → List ℕ → Type 0) → Type 0
-LevelIsKept K J C takes kept has_place shows text found may_leave = (first R S : Register)
-    (start : Place) (old new : Keeper K J C) (given : List Given) → IsGood first
-    → IsKeptLevel kept has_place text first start R old
-    → AreGiven (Journals takes kept has_place shows text found may_leave) HearsLogin R old given
-    S new
+    → (J → List ℕ) → (J → List ℕ) → (J → List ℕ → Type 0) → (J → Bool) → Type 0
+LevelIsKept K J C takes kept has_place shows text found may_leave is_usable =
+    (first R S : Register) (start : Place) (old new : Keeper K J C) (given : List Given)
+    → IsGood first → IsKeptLevel kept has_place text first start R old
+    → AreGiven (Journals takes kept has_place shows text found may_leave is_usable) HearsLogin
+    R old given S new
     → IsKeptLevel kept has_place text first start S new
 
 -- WHAT A KEEPER HOLDS OF ITS JOURNAL STAYS TRUE over them
 abbrev pub SoundIsKept : (K J C : Type 0) → Taking K → (K → State) → Placing → (C → ℕ → Type 0)
-    → (J → List ℕ) → (J → List ℕ) → (J → List ℕ → Type 0) → Type 0
-SoundIsKept K J C takes kept has_place shows text found may_leave = (R S : Register)
-    (old new : Keeper K J C) (given : List Given) → IsSound text found may_leave old
-    → AreGiven (Journals takes kept has_place shows text found may_leave) HearsLogin R old given
-    S new
+    → (J → List ℕ) → (J → List ℕ) → (J → List ℕ → Type 0) → (J → Bool) → Type 0
+SoundIsKept K J C takes kept has_place shows text found may_leave is_usable =
+    (R S : Register) (old new : Keeper K J C) (given : List Given)
+    → IsSound text found may_leave old
+    → AreGiven (Journals takes kept has_place shows text found may_leave is_usable) HearsLogin
+    R old given S new
     → IsSound text found may_leave new
 
 -- THE REGISTER IS WHAT ITS JOURNAL SAYS, where nothing is owed or in doubt: that of a run of the

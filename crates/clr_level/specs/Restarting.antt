@@ -1,5 +1,5 @@
 -- REGISTER AND JOURNAL ARE OPENED AGAIN, after a crash or after both were let go.
-use Rattle.std.specs.Prelude.{◌≡◌, ◌⊎◌, ℕ, true, List, [], ◌∷◌, ◌++◌, drop, length, Some}
+use Rattle.std.specs.Prelude.{◌≡◌, ◌⊎◌, ℕ, Bool, true, List, [], ◌∷◌, ◌++◌, drop, length, Some}
 use Rattle.std.specs.List.{list_any}
 use Rattle.sqlite.specs.State.{State}
 use Rattle.clr_append.specs.Journal.{BeginsWith}
@@ -48,13 +48,13 @@ pub record IsSafeAt {K J C : Type 0} (kept : K → State) (has_place : Placing) 
 -- THEY STAY SAFE over any number of commands, logins and faults: with each command that is carried
 -- out, its line is
 abbrev pub SafeIsKept : (K J C : Type 0) → Taking K → (K → State) → Placing → (C → ℕ → Type 0)
-    → (J → List ℕ) → (J → List ℕ) → (J → List ℕ → Type 0) → Type 0
-SafeIsKept K J C takes kept has_place shows text found may_leave = (first R S : Register)
-    (start : Place) (old new : Keeper K J C) (given : List Given) → IsGood first
-    → IsKeptLevel kept has_place text first start R old
+    → (J → List ℕ) → (J → List ℕ) → (J → List ℕ → Type 0) → (J → Bool) → Type 0
+SafeIsKept K J C takes kept has_place shows text found may_leave is_usable =
+    (first R S : Register) (start : Place) (old new : Keeper K J C) (given : List Given)
+    → IsGood first → IsKeptLevel kept has_place text first start R old
     → IsSafeAt kept has_place text may_leave first start R old
-    → AreGiven (Journals takes kept has_place shows text found may_leave) HearsLogin R old given
-    S new
+    → AreGiven (Journals takes kept has_place shows text found may_leave is_usable) HearsLogin
+    R old given S new
     → IsSafeAt kept has_place text may_leave first start S new
 
 -- SO ARE THE LINES WITH THAT OF A COMMAND THAT IS DUE, at the end of the journal, where its line is

@@ -1,8 +1,8 @@
 //! A keeper, and a journal in which each command has its line before the keeper takes it.
 ghost use Rattle.std.specs.Prelude.{◌≡◌, false, IfSome, IsSome, None};
 
-use crate::clock::Clock;
 use crate::last::Last;
+use clr_chain::Clock;
 use clr_desk::CommitAt;
 use clr_journal::Journal;
 use clr_place::Place;

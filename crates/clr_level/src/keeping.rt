@@ -4,9 +4,9 @@ ghost use Rattle.clr_level.specs.Journaling.{FailsToo, HearsLogin, Journals};
 ghost use Rattle.clr_level.specs.Journaling.{is_doubtful, left_by};
 
 use crate::brief::is_show;
-use crate::clock::Clock;
 use crate::keeper::Keeper;
 use crate::last::Last;
+use clr_chain::Clock;
 use clr_desk::{Commit, CommitAt, DeskFault};
 use clr_journal::Journal;
 use clr_rules::{Change, Command, Reply, Text};
@@ -19,7 +19,8 @@ impl<K: CommitAt, J: Journal + Drop, C: Clock> Commit for Keeper<K, J, C> {
 
     ghost fails = { FailsToo K.fails };
 
-    ghost takes = { Journals K.takes K.kept K.has_place C.shows J.text J.found J.may_leave };
+    ghost takes = { Journals K.takes K.kept K.has_place C.shows J.text J.found J.may_leave
+        J.is_usable };
 
     ghost hears = { HearsLogin };
 

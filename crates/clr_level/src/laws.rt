@@ -3,7 +3,7 @@ ghost use Rattle.clr_level.specs.Levelling.{BegunIsLevel, EitherIsLevel, LevelIs
 ghost use Rattle.clr_level.specs.Levelling.{SettledIsWhatItSays, SoundIsKept};
 ghost use Rattle.clr_level.specs.Restarting.{DueIsSafe, RestartsKeepLevel, SafeIsKept};
 
-use crate::clock::Clock;
+use clr_chain::Clock;
 use clr_desk::CommitAt;
 use clr_journal::Journal;
 
@@ -12,9 +12,9 @@ use clr_journal::Journal;
 /// what all lines of its journal say.
 pub fn level_is_kept<K: CommitAt, J: Journal + Drop, C: Clock>()
     ensures kept { LevelIsKept K J C K.takes K.kept K.has_place C.shows J.text J.found
-        J.may_leave }
+        J.may_leave J.is_usable }
     ensures sound { SoundIsKept K J C K.takes K.kept K.has_place C.shows J.text J.found
-        J.may_leave }
+        J.may_leave J.is_usable }
     ensures settled { SettledIsWhatItSays K J C K.kept K.has_place J.text }
 {}
 
@@ -33,7 +33,8 @@ pub fn begun_is_level<K: CommitAt>(keeper: &K)
 /// leaves the lines up to the register's place, whatever the desk was given, and those with the line
 /// of a command that may have been carried out.
 pub fn restarts_keep_level<K: CommitAt, J: Journal + Drop, C: Clock>()
-    ensures safe { SafeIsKept K J C K.takes K.kept K.has_place C.shows J.text J.found J.may_leave }
+    ensures safe { SafeIsKept K J C K.takes K.kept K.has_place C.shows J.text J.found J.may_leave
+        J.is_usable }
     ensures due { DueIsSafe K J C K.kept K.has_place J.text J.may_leave }
     ensures opened { RestartsKeepLevel }
 {}

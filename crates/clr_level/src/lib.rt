@@ -3,7 +3,6 @@
 #![tactic(auto)]
 
 mod brief;
-mod clock;
 mod fault;
 mod forward;
 mod keeper;
@@ -16,7 +15,6 @@ mod opening;
 mod placing;
 mod trying;
 
-pub use clock::Clock;
 pub use fault::OpeningFault;
 pub use keeper::Keeper;
 pub use last::Last;

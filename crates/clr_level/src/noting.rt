@@ -5,16 +5,16 @@ ghost use Rattle.sqlite_disk.specs.Disk.{Only};
 ghost use Rattle.clr_answer.specs.Decision.{is_accepted as accepts};
 ghost use Rattle.clr_chain.specs.Link.{link_text};
 ghost use Rattle.clr_chain.specs.Sums.{sum_after};
-ghost use Rattle.clr_level.specs.Journaling.{IsDurable, IsKept, IsNoted, IsOfJournal, IsSound};
-ghost use Rattle.clr_level.specs.Journaling.{IsUnnoted, IsUnwritten, StaySafe, end_said};
-ghost use Rattle.clr_level.specs.Journaling.{is_doubtful, line_of, said};
+ghost use Rattle.clr_level.specs.Journaling.{DoubtHasCause, IsDurable, IsKept, IsNoted};
+ghost use Rattle.clr_level.specs.Journaling.{IsOfJournal, IsSound, IsUnnoted, IsUnwritten};
+ghost use Rattle.clr_level.specs.Journaling.{IsWithdrawn, StaySafe, end_said, is_doubtful};
+ghost use Rattle.clr_level.specs.Journaling.{line_of, said};
 
 use crate::brief::{brief, is_accepted};
-use crate::clock::Clock;
 use crate::keeper::Keeper;
 use crate::last::Last;
 use crate::lines::append;
-use clr_chain::{Link, print_carried, print_withdrawn};
+use clr_chain::{Clock, Link, print_carried, print_withdrawn};
 use clr_desk::{CommitAt, DeskFault};
 use clr_journal::{Journal, Receipt};
 use clr_rules::{Command, Reply};
@@ -38,6 +38,8 @@ impl<K: CommitAt, J: Journal + Drop, C: Clock> Keeper<K, J, C> {
         ensures sound { IsSound J.text J.found J.may_leave self.old
             → IsSound J.text J.found J.may_leave self.new }
         ensures safe { StaySafe J.text J.may_leave self.old.journal self.new.journal }
+        ensures withdrawn { IsWithdrawn J.text J.may_leave self.old self.new }
+        ensures cause { DoubtHasCause J.is_usable self.old self.new }
         ensures before { accepts reply.now ≡ true → self.new.last ≡ Last.Settled
             → IsSound J.text J.found J.may_leave self.old
             → IsKept J.may_leave (said J.text self.old) self.new.journal }
@@ -68,6 +70,8 @@ impl<K: CommitAt, J: Journal + Drop, C: Clock> Keeper<K, J, C> {
         ensures sound { IsSound J.text J.found J.may_leave self.old
             → IsSound J.text J.found J.may_leave self.new }
         ensures safe { StaySafe J.text J.may_leave self.old.journal self.new.journal }
+        ensures withdrawn { IsWithdrawn J.text J.may_leave self.old self.new }
+        ensures cause { DoubtHasCause J.is_usable self.old self.new }
         ensures fault { IfErr result IsOfJournal }
     {
         self.note(command, reply)?;
@@ -92,6 +96,8 @@ impl<K: CommitAt, J: Journal + Drop, C: Clock> Keeper<K, J, C> {
         ensures sound { IsSound J.text J.found J.may_leave self.old
             → IsSound J.text J.found J.may_leave self.new }
         ensures safe { StaySafe J.text J.may_leave self.old.journal self.new.journal }
+        ensures withdrawn { IsWithdrawn J.text J.may_leave self.old self.new }
+        ensures cause { DoubtHasCause J.is_usable self.old self.new }
         ensures fault { IfErr result IsOfJournal }
     {
         self.settle()?;
@@ -115,6 +121,8 @@ impl<K: CommitAt, J: Journal + Drop, C: Clock> Keeper<K, J, C> {
         ensures sound { IsSound J.text J.found J.may_leave self.old
             → IsSound J.text J.found J.may_leave self.new }
         ensures safe { StaySafe J.text J.may_leave self.old.journal self.new.journal }
+        ensures withdrawn { IsWithdrawn J.text J.may_leave self.old self.new }
+        ensures cause { DoubtHasCause J.is_usable self.old self.new }
         ensures fault { IfErr result IsOfJournal }
     {
         match self.last {
@@ -133,11 +141,14 @@ impl<K: CommitAt, J: Journal + Drop, C: Clock> Keeper<K, J, C> {
         ensures settled { OnOk result (self.new.last ≡ Last.Settled) }
         ensures text { OnOk result (J.text self.new.journal ≡ said J.text self.old) }
         ensures at { OnOk result (self.new.at ≡ end_said self.old) }
+        ensures synced { OnOk result (IsDurable J.text J.may_leave self.new.journal) }
         ensures none { OnErr result (IsUnnoted J.text self.old self.new) }
         ensures unready { OnErr result (self.new.last ≢ Last.Settled) }
         ensures sound { IsSound J.text J.found J.may_leave self.old
             → IsSound J.text J.found J.may_leave self.new }
         ensures safe { StaySafe J.text J.may_leave self.old.journal self.new.journal }
+        ensures withdrawn { IsWithdrawn J.text J.may_leave self.old self.new }
+        ensures cause { DoubtHasCause J.is_usable self.old self.new }
         ensures fault { IfErr result IsOfJournal }
     {
         let Link { text, sum } = print_withdrawn(self.alloc, &self.at.sum, self.at.number)?;
@@ -163,6 +174,7 @@ impl<K: CommitAt, J: Journal + Drop, C: Clock> Keeper<K, J, C> {
         ensures sound { IsSound J.text J.found J.may_leave self.old
             → IsSound J.text J.found J.may_leave self.new }
         ensures safe { StaySafe J.text J.may_leave self.old.journal self.new.journal }
+        ensures cause { DoubtHasCause J.is_usable self.old self.new }
         ensures doubtful { OnErr result (self.new.last ≡ Last.Doubtful) }
         ensures fault { IfErr result (λ fault. fault ≡ DeskFault.Journal) }
     {
@@ -191,6 +203,7 @@ impl<K: CommitAt, J: Journal + Drop, C: Clock> Keeper<K, J, C> {
         ensures sound { IsSound J.text J.found J.may_leave self.old
             → IsSound J.text J.found J.may_leave self.new }
         ensures safe { StaySafe J.text J.may_leave self.old.journal self.new.journal }
+        ensures cause { DoubtHasCause J.is_usable self.old self.new }
         ensures no_more { (bytes : List ℕ) → J.may_leave self.new.journal bytes
             → J.may_leave self.old.journal bytes }
         ensures doubtful { OnErr result (self.new.last ≡ Last.Doubtful) }

@@ -12,12 +12,11 @@ ghost use Rattle.clr_level.specs.Journaling.{HasText, IsSound};
 ghost use Rattle.clr_level.specs.Levelling.{IsKeptLevel};
 ghost use Rattle.clr_level.specs.Placing.{IsAt};
 
-use crate::clock::Clock;
 use crate::fault::OpeningFault;
 use crate::forward::roll_forward;
 use crate::keeper::Keeper;
 use crate::last::Last;
-use clr_chain::{Ahead, Found};
+use clr_chain::{Ahead, Clock, Found};
 use clr_desk::{CommitAt, Desk};
 use clr_journal::{Journal, Line};
 use clr_place::Place;
