@@ -224,13 +224,34 @@ impl<'a> Checking<'a> {
             → IsRefusedFrom copied at first texts place R fault) }
     {
         let mut checking = self;
-        checking.settled()?;
-        checking.close(alloc)?;
-        if !checking.is_met {
+        checking.ended(alloc)
+    }
+
+    /// The same of a checking that stays.
+    fn ended(&mut self, alloc: Global) -> Result<usize, CheckFault>
+        requires { IsReady self.old }
+        ensures yes { IfOk result (λ count. (began : Register) (first place : AnyPlace)
+            (R : Register) (texts : List (List ℕ)) → CheckedTo began first place R self.old texts
+            → IsChecked began first texts place R count) }
+        ensures yes_from { IfOk result (λ count. (copied : Register) (at first place : AnyPlace)
+            (R : Register) (texts : List (List ℕ))
+            → CheckedToFrom copied at first place R self.old texts
+            → IsCheckedFrom copied at first texts place R count) }
+        ensures refused { IfErr result (λ fault. (began : Register) (first place : AnyPlace)
+            (R : Register) (texts : List (List ℕ)) → CheckedTo began first place R self.old texts
+            → IsRefused began first texts place R fault) }
+        ensures refused_from { IfErr result (λ fault. (copied : Register)
+            (at first place : AnyPlace) (R : Register) (texts : List (List ℕ))
+            → CheckedToFrom copied at first place R self.old texts
+            → IsRefusedFrom copied at first texts place R fault) }
+    {
+        self.settled()?;
+        self.close(alloc)?;
+        if !self.is_met {
             return Err(CheckFault::TooShort);
         }
-        match &checking.from {
-            None => Ok(checking.count),
+        match &self.from {
+            None => Ok(self.count),
             Some(_) => Err(CheckFault::TooShort),
         }
     }
