@@ -6,13 +6,14 @@ import collections
 import contextlib
 import functools
 import hashlib
+import itertools
 import json
 import pathlib
 import shutil
 import sqlite3
 import tempfile
 
-from looks import FILES, run
+from looks import FILES, copied, run
 
 RULES = 1
 FRONT = 4096  # bytes that a first line may have, with its line feed
@@ -69,6 +70,13 @@ def noted(entry):
 def sum_after(before, entry):
     """The sum at a line: of the sum before it, and of the line without its sum."""
     return sum_of(before.encode(), written(entry))
+
+
+def withdrawal_of(line):
+    """The line that withdraws the command of this one."""
+    value = value_in(line)
+    entry = withdrawn(value["number"])
+    return written(entry | {"sum": sum_after(value["sum"], entry)})
 
 
 class Chain:
@@ -188,6 +196,16 @@ def next_link(end, text):
     return (entry, End(entry["number"], accepts(entry), own)) if text == written(entry | {"sum": own}) else None
 
 
+def entries_in(first, lines):
+    """What the lines after the first one say, up to one that does not hold its sum."""
+    return list(itertools.takewhile(bool, (entry for _, entry in walk(first, lines[1:]))))
+
+
+def places_along(first, entries):
+    """The place of a first line, and of each line after it."""
+    return list(itertools.accumulate(entries, lambda place, entry: place_after(place, [entry]), initial=first))
+
+
 def sum_in_place(text):
     """The bytes of a command's line where it has its sum: the last 64 before its last two."""
     return text[:-2][-64:]
@@ -207,7 +225,7 @@ def said_by(end, text):
 def is_bad_alone(number, text, damaged):
     """A line of a command that was damaged, though not in its sum and not so that it says another number."""
     entry = entry_in(damaged)
-    return damaged[-66:-2] == text[-66:-2] and (entry is None or entry["number"] == number)
+    return b'"withdrawn"' not in text and damaged[-66:-2] == text[-66:-2] and (entry is None or entry["number"] == number)
 
 
 def walk(place, texts):
@@ -225,6 +243,49 @@ def bad_lines(data):
     lines = lines_in(data)
     first = first_in(lines[0]) if lines else None
     return [number for number, entry in walk(first, lines[1:]) if entry is None] if first else [0]
+
+
+# ---- what `verify` and `journal` say
+
+def verified_as(texts, place, data):
+    """What `verify` says of a register at a place, from three files on: `verified N commands`, or the words of a fault."""
+    lines = lines_in(data)
+    first = first_in(lines[0]) if lines else None
+    if first is None:
+        return unread(lines)
+    if first.number or files_sum(texts, first.id) != first.sum:
+        return "verify Files"
+    if first.id != place.id:
+        return "journal OtherRegister"
+    entries, bad = entries_in(first, lines), bad_lines(data)
+    places = places_along(first, entries)
+    same = [at for at, one in enumerate(places) if one.number == place.number]
+    if same and places[same[-1]] != place:
+        # at the line of an accepted command it waits for the next one, which may withdraw it
+        is_known = not accepts([None, *entries][same[-1]]) or same[-1] < len(entries) or not bad
+        return f"journal Differs {place.number}" if is_known else f"journal BadLine {bad[0]}"
+    if bad or not same:
+        return f"journal BadLine {bad[0]}" if bad else "journal TooShort"
+    return f"verified {len(carried_out(entries))} commands"
+
+
+def verify_ends(words):
+    """How a run of `verify` ends that says so."""
+    return (0, f"{words}\n", "") if words.startswith("verified") else (1, "", f"fault: {words}\n")
+
+
+def journal_ends(data):
+    """How a run of `journal` ends, and the numbers of the lines that it names. What no line feed ends is no line."""
+    bad = bad_lines(data)
+    if not bad:
+        return 0, "", []
+    return (1, f"fault: {unread(lines_in(data))}\n", []) if bad == [0] else (1, f"fault: journal BadLine {bad[0]}\n", bad)
+
+
+def ended(result):
+    """The same of what a run of `journal` ended with."""
+    status, output, errors = result
+    return status, errors, [int(line.split()[0]) for line in output.splitlines() if line.endswith("does not hold its sum")]
 
 
 # ---- what an opening finds
@@ -315,3 +376,17 @@ def place_of(path):
         return None
     (row,) = rows_of(path, "SELECT id, number, sum FROM journal")
     return Place(*row)
+
+
+# ---- a command that is withdrawn
+
+def withdraw_one(path, journal, give):
+    """The first command of what is given that is accepted is withdrawn, as where memory is refused to its commit: the register
+    lacks it, and its journal has both lines."""
+    with tempfile.TemporaryDirectory(prefix="withdrawn-") as folder:
+        one, other = copied(path, pathlib.Path(folder) / "one.db"), copied(journal, pathlib.Path(folder) / "journal")
+        give(one, other)
+        lines, begin = lines_in(other.read_bytes()), len(lines_in(journal.read_bytes()))
+    last = next((at for at in range(begin, len(lines)) if accepts(entry_in(lines[at]))), None)
+    if last:
+        journal.write_bytes(text_of([*lines[:last + 1], withdrawal_of(lines[last])]))

@@ -3,7 +3,10 @@
 say of lines that were changed, what an opening does with a register that is not at the end of its journal, when it is
 refused, and a journal in several parts.
 
-    tools/try/journals.py [--full]    --full flips a bit of each byte, and cuts at each"""
+    tools/try/journals.py [--full]    --full flips a bit of each byte, takes each byte out, and cuts at each
+
+A line is what a line feed ends. So half a line at the end is none: `journal` prints the lines before it with status 0,
+`verify` says of these what it says without it, and an opening cuts it off."""
 
 import concurrent.futures
 import contextlib
@@ -20,8 +23,9 @@ import sys
 import tempfile
 import time
 
-from chain import Ahead, Chain, Place, accepts, bad_lines, carried, carried_out, first_in, first_place, first_text, found
-from chain import is_bad_alone, lines_in, place_after, place_at_last, place_of, rows_of, text_of, unread, walk, written
+from chain import Ahead, Chain, Place, accepts, bad_lines, carried, carried_out, ended, entries_in, first_in, first_place
+from chain import first_text, found, is_bad_alone, journal_ends, lines_in, place_after, place_at_last, place_of, places_along
+from chain import rows_of, text_of, unread, verified_as, verify_ends, walk, withdraw_one, written
 from looks import FILES, TOP, Server, copied, fault, get, look, main, post, register, replied, run, same, shift
 
 IS_FULL = "--full" in sys.argv[1:]
@@ -263,26 +267,38 @@ def own_form(folder):
 
 
 class Whole:
-    """A register after a whole shift with lines of each kind, its journal, and a copy of it after each command."""
+    """A register after a whole shift with lines of each kind, its journal, and a copy of it after each command. Some of the
+    commands are withdrawn, and given again."""
 
     def __init__(self, folder):
         self.folder, commands = folder, every()
         self.path, self.journal = with_journal(folder)
-        self.copies = [copied(self.path, folder / "copy-0.db")]
+        self.copies, self.boards = [copied(self.path, folder / "copy-0.db")], [run("board", self.path)[1]]
         for number, command in enumerate(commands, 1):
-            run("run", "--db", self.path, "--journal", self.journal, lines=[command])
+            if number % 9 == 5:
+                withdraw_one(self.path, self.journal, lambda *both, command=command: self.give(command, *both))
+                self.boards += self.boards[-2:-1] if self.count() > len(self.boards) else []
+            self.give(command, self.path, self.journal)
             self.copies.append(copied(self.path, folder / f"copy-{number}.db"))
         self.data = self.journal.read_bytes()
         self.lines = lines_in(self.data)
-        self.places = [place_of(copy) for copy in self.copies]
-        self.boards = {place.number: run("board", copied(copy, folder / "board.db"))[1] for place, copy in zip(self.places, self.copies)}
-        self.last = self.places[-1]
         self.first = first_in(self.lines[0])
+        self.places = places_along(self.first, entries_in(self.first, self.lines))
+        self.at = [self.places.index(place_of(copy)) for copy in self.copies]
         self.log = run("journal", self.journal)[1]
 
-    def copy_at(self, number):
-        """The first copy whose place has this number or a greater one."""
-        return next(copy for copy, place in zip(self.copies, self.places) if place.number >= number)
+    def give(self, command, path, journal):
+        """Notes the board after a command that has a line."""
+        run("run", "--db", path, "--journal", journal, lines=[command])
+        if len(lines_in(journal.read_bytes())) > len(self.boards):
+            self.boards.append(run("board", path)[1])
+
+    def count(self):
+        return len(lines_in(self.journal.read_bytes()))
+
+    def copy_at(self, line):
+        """The first copy whose place is this line or a later one."""
+        return next(copy for copy, at in zip(self.copies, self.at) if at >= line)
 
     def opens(self, title, copy, data):
         """A copy of a register is opened with a journal of these bytes, as the reckoning says; and what it says."""
@@ -300,11 +316,23 @@ class Whole:
             same(f"{title}: refused", result, (1, "", f"fault: {wanted}\n"))
             look(f"{title}: nothing is changed", journal.read_bytes() == data and path.read_bytes() == before, wanted)
             same(f"{title}: its place", place_of(path), place)
-        same(f"{title}: its board", run("board", path)[1], self.boards[max(number for number in self.boards if number <= place.number)])
+        same(f"{title}: its board", run("board", path)[1], self.boards[self.places.index(place)])
         for one in (path, journal):
             one.unlink()
             one.with_name(f"{one.name}-wal").unlink(missing_ok=True)
         return wanted
+
+
+    def said(self, title, data):
+        """What `verify` and `journal` say of these bytes, which the second returns as `ended` has it."""
+        path, other = copied(self.path, self.folder / f"{next(NUMBERS)}.db"), self.folder / f"said-{next(NUMBERS)}"
+        other.write_bytes(data)
+        result, log = run("verify", path, other, *FILES), run("journal", other)
+        same(f"{title}: verify", result, verify_ends(verified_as(TEXTS, place_of(path), data)))
+        same(f"{title}: journal", ended(log), journal_ends(data))
+        path.unlink()
+        other.unlink()
+        return log[1]
 
 
 def side_by_side(work, cases):
@@ -316,19 +344,15 @@ def side_by_side(work, cases):
 def gaps(folder):
     """Each copy of the database, from none to all lines after its place, is rolled forward to its journal."""
     whole = Whole(folder)
-    chain, at = Chain(whole.first), whole.first
-    for number, place in enumerate(whole.places):
-        entries = [entry for _, entry in walk(whole.first, whole.lines[1:place.number + 1])]
-        same(f"after {number} commands the place is at its line", place, place_after(chain.place, entries))
-        look("places go on", place.number >= at.number, (at, place))
-        at = place
-    wanted = side_by_side(whole.opens, [(f"{len(whole.lines) - 1 - place.number} lines after it", copy, whole.data) for copy, place in zip(whole.copies, whole.places)])
+    same("places go on", sorted(whole.at), whole.at)
+    look("some commands are withdrawn", sum(b'"withdrawn":true' in line for line in whole.lines) > 3, whole.log)
+    wanted = side_by_side(whole.opens, [(f"{len(whole.lines) - 1 - at} lines after it", copy, whole.data) for copy, at in zip(whole.copies, whole.at)])
     look("each opening took the lines after it", all(one.keep == len(whole.data) for one in wanted))
     for number in (0, 20, 41):
         path = copied(whole.copies[number], folder / "rolled.db")
         with Server(path, "--journal", whole.journal) as server:
             board = server.ask(get("/board")).partition(b"\r\n\r\n")[2].decode()
-        same(f"served, rolled forward from {number}: the board", board, whole.boards[whole.last.number])
+        same(f"served, rolled forward from {number}: the board", board, whole.boards[-1])
         verified(f"served, rolled forward from {number}", path, whole.journal)
     found_here = run("verify", whole.copies[20], whole.journal, *FILES)
     same("verify of a copy that is not at the end", found_here, run("verify", whole.path, whole.journal, *FILES))
@@ -343,6 +367,7 @@ def shorter(folder):
         cases += [(f"cut {title} line {number}", whole.path, whole.data[:place]) for title, place in (("before the end of", size - 1), ("after", size))]
     cases += [(f"cut at byte {at}", whole.path, whole.data[:at]) for at in range(0, len(whole.data), 1 if IS_FULL else 311)]
     wanted = side_by_side(whole.opens, cases)
+    side_by_side(whole.said, [(title, data) for title, _, data in cases])
     counts = [sum(one == kind for one in wanted) for kind in ("journal TooShort", "journal BadLine 0", "journal OpenFailed")]
     look("most of them are too short", counts[0] > 0.8 * len(cases) and min(counts) > 0, counts)
 
@@ -370,7 +395,8 @@ def columns(text):
 
 
 def flips(folder):
-    """One bit is flipped in each line: `verify` and `journal` find it and name it, and an opening where it concerns it."""
+    """A bit is flipped in each line, or a byte is taken out: `verify` and `journal` find and name it, an opening where it
+    concerns it."""
     whole, chance = Whole(folder), random.Random(20261129)
     half = whole.copy_at(len(whole.lines) // 2)
     cases, size = [], 0
@@ -380,40 +406,32 @@ def flips(folder):
         for at in range(size, size + len(line) + 1) if IS_FULL else [size + chance.randrange(len(line))]:
             data = bytearray(whole.data)
             data[at] ^= 1 << chance.randrange(8)
-            cases.append((number, bytes(data)))
+            cases += [(number, bytes(data)), (number, whole.data[:at] + whole.data[at + 1:])]
         size += len(line) + 1
 
-    def flipped(number, data):
-        title, other = f"a bit of line {number}", folder / f"flipped-{next(NUMBERS)}"
-        other.write_bytes(data)
-        one = copied(whole.path, other.with_name(f"{other.name}.db"))
-        status, output, errors = run("verify", one, other, *FILES)
+    def damaged(number, data):
+        title, bad = f"a bit or a byte of line {number}", bad_lines(data)
         is_cut = number == len(whole.lines) - 1 and not data.endswith(b"\n")
-        lines = [unread(lines_in(data)), "verify Files"] if number == 0 else [f"journal BadLine {number}"]
-        look(f"{title}: verify", (status, output) == (1, "") and errors in [f"fault: {one}\n" for one in lines] or is_cut and status == 0, (errors, data[-60:]))
-        bad = bad_lines(data)
-        status, output, errors = run("journal", other)
-        ends = [one.split()[0] for one in output.splitlines() if one.endswith("does not hold its sum")]
-        fault = unread(lines_in(data)) if bad == [0] else f"journal BadLine {bad[0]}" if bad else None
-        wanted = (1, f"fault: {fault}\n") if fault else (0, "")
-        same(f"{title}: journal", ((status, errors), ends), (wanted, [str(one) for one in bad if one]))
-        if number and len(lines_in(data)) == len(whole.lines) and is_bad_alone(number, whole.lines[number], lines_in(data)[number]):
-            same(f"{title}: it alone is named", ends, [str(number)])
+        own = whole.places[number - 1].number + 1 if number else 0
+        look(f"{title}: it is named", number == 0 or bad[:1] == [own] or is_cut, (bad, data[-60:]))
+        output = whole.said(title, data)
+        if number and len(lines_in(data)) == len(whole.lines) and is_bad_alone(own, whole.lines[number], lines_in(data)[number]):
+            withdrawal = [own + 1] if b'"withdrawn":true' in b"".join(whole.lines[number + 1:number + 2]) else []
+            look(f"{title}: it alone is named", bad in ([own], [own, *withdrawal]), bad)
         others, joined = columns(whole.log) - columns(output), len(whole.lines) - len(lines_in(data))
         look(f"{title}: the other lines are printed", bad == [0] or len(others) <= len(bad) + joined, others)
-        one.unlink()
-        other.unlink()
         for name, copy in (("its register", whole.path), ("a register before it", half)):
             whole.opens(f"{title}, {name}", copy, data)
 
-    side_by_side(flipped, cases)
+    side_by_side(damaged, cases)
 
 
 def never_synced(folder):
     """What comes after the last line that holds its sum was never synced: an opening cuts it off, whatever it is."""
     whole, chance = Whole(folder), random.Random(20261130)
     chain = Chain(whole.first)
-    chain.lines, chain.place = list(whole.lines), Place(whole.first.id, len(whole.lines) - 1, json.loads(whole.lines[-1])["sum"])
+    chain.lines, chain.place = list(whole.lines), whole.places[-1]
+    last = chain.place.number
     whole_data = chain.text()
     refused, accepted = json.loads(whole.lines[-1]), next(line for line in reversed(whole.lines) if accepts(json.loads(line)))
     chain.add(json.loads(shift(3)[2]), {"card": {}, "reply": "accepted"})
@@ -429,15 +447,16 @@ def never_synced(folder):
         for copy in (whole.path, whole.copies[20]):
             wanted = whole.opens(title, copy, whole_data + rest)
             look(f"{title}: it alone is cut off", isinstance(wanted, Ahead) and wanted.keep == len(whole_data), wanted)
+        same(f"{title}: the log before it", whole.said(title, whole_data + rest)[:len(whole.log)], whole.log)
     for title, rest in {"an accepted line of a wrong sum": accepted.replace(b'"number":', b'"number":9') + b"\n", "an accepted line after a word": b"a word\n" + third + b"\n"}.items():
         wanted = whole.opens(title, whole.path, whole_data + rest)
-        same(f"{title}: no accepted line is cut off", wanted, f"journal BadLine {len(whole.lines)}")
+        same(f"{title}: no accepted line is cut off", wanted, f"journal BadLine {last + 1}")
     # what is cut off was no line: the numbers go on
     path, journal = copied(whole.path, folder / "on.db"), folder / "on"
     journal.write_bytes(whole_data + third[:40])
     status, output, _ = run("run", "--db", path, "--journal", journal, lines=[BAD[0], shift(1)[0]])
     same("after an unfinished line: two replies", (status, output.count("\n")), (0, 2))
-    same("after an unfinished line: the next numbers", [json.loads(line)["number"] for line in lines_in(journal.read_bytes())[-2:]], [len(whole.lines), len(whole.lines) + 1])
+    same("after an unfinished line: the next numbers", [json.loads(line)["number"] for line in lines_in(journal.read_bytes())[-2:]], [last + 1, last + 2])
     verified("after an unfinished line", path, journal)
 
 

@@ -25,7 +25,8 @@ REASONS = {200: "OK", 400: "Bad Request", 403: "Forbidden", 404: "Not Found", 40
 
 
 def look(title, good, found=""):
-    print(f"passed: {title}" if good else f"differs: {title}: {str(found)[:1500]}", flush=True)
+    # one write with its line feed: looks are made side by side
+    print(f"passed: {title}\n" if good else f"differs: {title}: {str(found)[:1500]}\n", end="", flush=True)
 
 
 def outcomes_counted(title, outcomes_of, seeds):
