@@ -24,21 +24,22 @@ use Rattle.clr_level.specs.Placing.{IsAt, ShowsAt}
 use Rattle.clr_desk.specs.Placing.{Placing}
 use Rattle.clr_level.specs.Restarting.{HasLines}
 use Rattle.clr_keeping.specs.Beginning.{IsMadeAt, IsPlacedOrNot}
-use Rattle.clr_keeping.specs.Laws.{MadeIsLevel, PartsAreOne, PlacedIsLevel, StoppedIsLevel, in_table}
+use Rattle.clr_keeping.specs.Laws.{MadeIsLevel, PartsAreOne, PlacedIsLevel, StoppedIsLevel}
+use Rattle.clr_keeping.specs.TakenUp.{store_place}
 
 -- ---- what begins
 
 pub made_level : {S : Type 0} (g : Ghosts S) → MadeIsLevel g
 made_level {S} g R start before after made =
-    begun_level in_table (state g after) R start (λ clean is_open. (tables_of R, (made.tables clean).0, (made.tables clean).1))
+    begun_level store_place (state g after) R start (λ clean is_open. (tables_of R, (made.tables clean).0, (made.tables clean).1))
 
 pub placed_level : {S : Type 0} (g : Ghosts S) → PlacedIsLevel g
 placed_level {S} g R start before after had placed =
-    begun_level in_table (state g after) R start (λ clean is_open. shown (had clean) (placed.made clean))
+    begun_level store_place (state g after) R start (λ clean is_open. shown (had clean) (placed.made clean))
   where
     shown : (t : Tables) × HasTables (state g before).now t
         → ((t : Tables) → HasTables (state g before).now t → HasTables (state g after).now (tables_edited [] t) × ArePlaced (state g after).now.trees (Some (place_row start)))
-        → ShowsAt in_table (state g after).now start
+        → ShowsAt store_place (state g after).now start
     shown (t, has) makes = (tables_edited [] t, (makes t has).0, (makes t has).1)
 
 -- ---- parts

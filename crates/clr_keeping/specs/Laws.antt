@@ -1,12 +1,12 @@
 -- WHAT BEGINS A JOURNAL MAKES ITS REGISTER LEVEL WITH IT, and the parts of a journal are one.
-use Rattle.std.specs.Prelude.{◌++◌, [], List, Ok, option_map}
+use Rattle.std.specs.Prelude.{◌++◌, [], List, Ok}
 use Rattle.sqlite.specs.Held.{Held, state}
 use Rattle.sqlite.specs.State.{HasCleanDisk, State}
 use Rattle.sqlite_trees.specs.declared.store.Store.{Ghosts}
 use Rattle.clr_rules.specs.Register.{Register}
 use Rattle.clr_place.specs.declared.place.Place.{Place}
-use Rattle.clr_tables.specs.Tables.{Tables, place_row}
-use Rattle.clr_load.specs.Stored.{ArePlaced, HasTables}
+use Rattle.clr_tables.specs.Tables.{Tables}
+use Rattle.clr_load.specs.Stored.{HasTables}
 use Rattle.clr_journal.specs.Line.{Entry}
 use Rattle.clr_chain.specs.Level.{IsLevel, place_after}
 use Rattle.clr_chain.specs.Opening.{new_text}
@@ -15,24 +15,21 @@ use Rattle.clr_level.specs.Forward.{CanBeOpened, HasStopped}
 use Rattle.clr_level.specs.Placing.{IsAt}
 use Rattle.clr_level.specs.Restarting.{HasLines}
 use Rattle.clr_keeping.specs.Beginning.{IsMadeAt, IsPlacedOrNot}
-
--- where a database has a place: in its table
-abbrev pub in_table : Placing
-in_table trees place = ArePlaced trees (option_map place_row place)
+use Rattle.clr_keeping.specs.TakenUp.{store_place}
 
 -- A REGISTER THAT WAS MADE WITH ITS FIRST PLACE can be opened with the journal that was begun there
 abbrev pub MadeIsLevel : {S : Type 0} → Ghosts S → Type 0
 MadeIsLevel {S} g = (R : Register) (start : Place) (before after : Held S)
     → IsMadeAt g before R start after
-    → CanBeOpened in_table R start start R (state g after) (new_text start) []
+    → CanBeOpened store_place R start start R (state g after) (new_text start) []
 
--- A REGISTER THAT WAS GIVEN A PLACE can be opened with the journal, or its next part, that was begun
--- there: the tables that it had are those that it has
+-- A REGISTER THAT WAS GIVEN A PLACE, and had tables, can be opened with the journal, or its next part,
+-- that was begun there. Which register these tables are of is for the caller to know
 abbrev pub PlacedIsLevel : {S : Type 0} → Ghosts S → Type 0
 PlacedIsLevel {S} g = (R : Register) (start : Place) (before after : Held S)
     → (HasCleanDisk (state g after) → (t : Tables) × HasTables (state g before).now t)
     → IsPlacedOrNot g before start (Ok tt) after
-    → CanBeOpened in_table R start start R (state g after) (new_text start) []
+    → CanBeOpened store_place R start start R (state g after) (new_text start) []
 
 -- PARTS ARE ONE JOURNAL: a register that had all lines of a part went to the next, which begins where
 -- that part ended. Where it is level with the lines of that, it is with the lines of both

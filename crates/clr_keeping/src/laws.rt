@@ -5,8 +5,8 @@ ghost use Rattle.clr_keeping.specs.Laws.{MadeIsLevel, PartsAreOne, PlacedIsLevel
 use clr_desk::CommitAt;
 use sqlite::Alter;
 
-/// What makes a register with a journal, and what gives one to a register that has none, makes them
-/// level; so does the next part of a journal.
+/// A register that was made with its first place can be opened with a journal of that line alone. So
+/// can one that had tables, once it has its place in a journal, or in the next part of one.
 pub fn begun_are_level<S: Alter + Drop>()
     ensures made { MadeIsLevel S.Store }
     ensures placed { PlacedIsLevel S.Store }
