@@ -7,4 +7,6 @@ pub mod LookedUp
 pub mod NearFacts
 pub mod NearGroups
 pub mod Opening
+pub mod OpenRecords
+pub mod PutLast
 pub mod StateFacts

@@ -28,7 +28,7 @@ impl<P: Shelf<PointState>, C: Shelf<Record>, T: Shelf<StepRow>, H: Shelf<Hold>> 
             (λ d. fit self.now.register.net d.change.edits.items ≡ true) }
     {
         self.network.is_network();
-        let near = self.near(command)?;
+        let near = self.near_answer(command)?;
         let decision = decide(&near, command)?;
         Ok(decision)
     }

@@ -1,4 +1,5 @@
-//! The book: the network, the staff, and the rows of the register on four shelves.
+//! The book: the network, the staff, and the rows of the register on four shelves. The records that
+//! are not closed are on a fifth.
 ghost use Rattle.std.specs.Prelude.{◌≡◌, ◌<◌, [], true, IfOk, IsOk, OnOk, map, option_copied};
 ghost use Rattle.clr_net.specs.Additions.{with_point, with_section};
 ghost use Rattle.clr_rules.specs.Edits.{after_edit, after_edits, fit, fits_edit};
@@ -8,14 +9,17 @@ ghost use Rattle.clr_rules.specs.Run.{IsReached};
 ghost use Rattle.clr_rules.specs.States.{state_of};
 ghost use Rattle.clr_rules.specs.Steps.{steps_of};
 ghost use Rattle.clr_rules.specs.declared.change.Edit.TheVariants.{AddPoint, AddSection};
-ghost use Rattle.clr_book.specs.Book.{Fits, Room, Shelved, need_of, needs};
+ghost use Rattle.clr_rules.specs.declared.change.Edit.TheVariants.{PutRecord};
+ghost use Rattle.clr_book.specs.Book.{Fits, Room, Shelved, need_of, needs, open_in};
 ghost use Rattle.clr_book.specs.Growth.{network_after, network_after_all};
 
 pub(crate) mod room;
 pub(crate) mod rows;
+pub(crate) mod unclosed;
 
 use crate::book::room::puts_of;
 use crate::book::rows::all_rows;
+use crate::book::unclosed::{open_shelf, put_if_open};
 use crate::states::{opening_states, set_hand, set_position};
 use clr_net::{Name, Network, PointRow, Position, SectionRow};
 use clr_rules::{Change, ClearanceId, Edit, Hold, PointState, Record, StepRow};
@@ -32,8 +36,11 @@ pub struct Book<P: Shelf<PointState>, C: Shelf<Record>, T: Shelf<StepRow>, H: Sh
     pub(crate) staff: Staff,
     pub(crate) states: P,
     pub(crate) records: C,
+    // Copies of the records that are not closed, so that no closed one is looked at to find them.
+    pub(crate) open_records: C,
     pub(crate) steps: T,
     pub(crate) holds: H,
+    ghost unclosed: { C.rows open_records ≡ open_in (C.rows records) },
 }
 
 impl<P: Shelf<PointState>, C: Shelf<Record>, T: Shelf<StepRow>, H: Shelf<Hold>> Model
@@ -56,6 +63,7 @@ impl<P: Shelf<PointState>, C: Shelf<Record>, T: Shelf<StepRow>, H: Shelf<Hold>> 
       room = record {
         states = P.room b.states;
         records = C.room b.records;
+        open_records = C.room b.open_records;
         steps = T.room b.steps;
         holds = H.room b.holds;
       };
@@ -79,6 +87,7 @@ impl<P: Shelf<PointState>, C: Shelf<Record>, T: Shelf<StepRow>, H: Shelf<Hold>> 
             staff,
             states,
             records: C::empty(alloc),
+            open_records: C::empty(alloc),
             steps: T::empty(alloc),
             holds: H::empty(alloc),
         })
@@ -115,26 +124,32 @@ impl<P: Shelf<PointState>, C: Shelf<Record>, T: Shelf<StepRow>, H: Shelf<Hold>> 
     }
 
     /// The book with these shelves in place of its own of records, steps and holds. The room is
-    /// theirs.
-    pub fn with_shelves(self, records: C, steps: T, holds: H) -> Self
-        ensures register { result.register ≡ record self.register {
+    /// theirs. The open records are copied, which needs memory and makes any room for more of them.
+    pub fn with_shelves(self, records: C, steps: T, holds: H) -> Result<Self, AllocError>
+        ensures register { IfOk result (λ book. book.register ≡ record self.register {
           records = C.rows records;
           steps = T.rows steps;
           holds = H.rows holds;
-        } }
-        ensures network { result.network ≡ self.network }
-        ensures room { result.room ≡ record self.room {
+        }) }
+        ensures network { IfOk result (λ book. book.network ≡ self.network) }
+        ensures room { IfOk result (λ book. book.room ≡ record self.room {
           records = C.room records;
+          open_records = book.room.open_records;
           steps = T.room steps;
           holds = H.room holds;
-        } }
+        }) }
     {
-        Book {
+        let open_records = open_shelf(self.alloc, &records)?;
+        Ok(Book {
+            alloc: self.alloc,
+            network: self.network,
+            staff: self.staff,
+            states: self.states,
             records,
+            open_records,
             steps,
             holds,
-            ..self
-        }
+        })
     }
 
     /// The position of a point, and whose order is at work on it.
@@ -159,6 +174,15 @@ impl<P: Shelf<PointState>, C: Shelf<Record>, T: Shelf<StepRow>, H: Shelf<Hold>> 
         all_rows(self.alloc, &self.records)
     }
 
+    /// The records that are not closed, in the order of their clearances. No closed one is looked
+    /// at.
+    pub fn open_records(&self) -> Result<Vec<&Record>, AllocError>
+        ensures { IfOk result (λ found. map (λ row. row.now) found.items
+            ≡ open_in self.now.register.records) }
+    {
+        all_rows(self.alloc, &self.open_records)
+    }
+
     /// The steps of a clearance, by round and then by their numbers.
     #[tactic(auto, unfolding(clr_rules::specs::Steps::steps_of))]
     pub fn steps(&self, id: &ClearanceId) -> Result<Vec<&StepRow>, AllocError>
@@ -181,6 +205,7 @@ impl<P: Shelf<PointState>, C: Shelf<Record>, T: Shelf<StepRow>, H: Shelf<Hold>> 
         let puts = puts_of(&change.edits);
         self.states.reserve(puts.states)?;
         self.records.reserve(puts.records)?;
+        self.open_records.reserve(puts.records)?;
         self.steps.reserve(puts.steps)?;
         self.holds.reserve(puts.holds)?;
         Ok(())
@@ -219,11 +244,23 @@ impl<P: Shelf<PointState>, C: Shelf<Record>, T: Shelf<StepRow>, H: Shelf<Hold>> 
             Edit::TakeHold(hold) => {
                 let _taken = self.holds.take(&hold);
             }
-            Edit::PutRecord(record) => self.records.put(record),
+            Edit::PutRecord(record) => self.put_record(record),
             Edit::PutStep(row) => self.steps.put(row),
             Edit::AddSection(section) => self.add_section(section),
             Edit::AddPoint(point) => self.add_point(point),
         }
+    }
+
+    /// Puts a record, and among the open ones unless it is closed.
+    fn put_record(&mut self, row: Record)
+        requires records { 0 < Room.records self.old.room }
+        requires open_records { 0 < Room.open_records self.old.room }
+        ensures register { self.new.register ≡ after_edit (PutRecord row) self.old.register }
+        ensures network { self.new.network ≡ self.old.network }
+        ensures room { Fits self.old.room (need_of (PutRecord row) self.new.room) }
+    {
+        put_if_open(&mut self.open_records, &row);
+        self.records.put(row);
     }
 
     /// Adds a section.

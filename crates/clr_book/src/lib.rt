@@ -8,4 +8,4 @@ mod near;
 mod states;
 
 pub use book::Book;
-pub use book::rows::all_rows;
+pub use book::rows::{all_rows, filled};

@@ -17,6 +17,7 @@ pub(crate) struct Puts {
 pub(crate) fn puts_of(edits: &[Edit]) -> Puts
     ensures states { result.states ≡ Room.states (needs edits.now) }
     ensures records { result.records ≡ Room.records (needs edits.now) }
+    ensures open_records { result.records ≡ Room.open_records (needs edits.now) }
     ensures steps { result.steps ≡ Room.steps (needs edits.now) }
     ensures holds { result.holds ≡ Room.holds (needs edits.now) }
 {

@@ -1,5 +1,6 @@
-//! Reads whole shelves.
-ghost use Rattle.std.specs.Prelude.{◌≡◌, IfOk, map};
+//! Reads whole shelves, and fills them.
+ghost use Rattle.std.specs.Prelude.{◌≡◌, IfOk, map, true};
+ghost use Rattle.clr_shelf.specs.Rows.{in_key_order};
 
 use clr_shelf::{Row, Shelf};
 use std::alloc::{AllocError, Global};
@@ -17,4 +18,17 @@ pub fn all_rows<R: Row, S: Shelf<R>>(alloc: Global, shelf: &S) -> Result<Vec<&R>
     }
     found.sort_unstable_by(|a, b| a.compare_key(&b.key()));
     Ok(found)
+}
+
+/// A shelf with copies of rows that are in the order of their keys.
+pub fn filled<R: Row + Copy, S: Shelf<R>>(alloc: Global, rows: &[&R]) -> Result<S, AllocError>
+    requires { in_key_order R.key_cmp R.key_of (map (λ row. row.now) rows.now) ≡ true }
+    ensures { IfOk result (λ shelf. S.rows shelf ≡ map (λ row. row.now) rows.now) }
+{
+    let mut shelf = S::empty(alloc);
+    for row in rows {
+        shelf.reserve(1)?;
+        shelf.put(**row);
+    }
+    Ok(shelf)
 }

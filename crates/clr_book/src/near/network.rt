@@ -35,11 +35,41 @@ impl<P: Shelf<PointState>, C: Shelf<Record>, T: Shelf<StepRow>, H: Shelf<Hold>> 
           rows = network_part self.now.register;
         }) }
     {
-        let records = self.records()?;
-        let crossed = self.crossed_by(&records, from, to)?;
+        let near = self.network_alone(command, from, to)?;
+        let records = all_rows(self.alloc, &self.records)?;
+        let steps = self.first_rounds()?;
+        Ok(Near {
+            records,
+            steps,
+            ..near
+        })
+    }
+
+    /// The same without records and steps: of all clearances the answer hangs only on the least one
+    /// whose fence is crossed, and that one is open.
+    pub(crate) fn network_alone(
+        &self,
+        command: &Command,
+        from: Name,
+        to: Name,
+    ) -> Result<Near<'_>, AllocError>
+        ensures { IfOk result (λ near. near ≡ record {
+          known = record {
+            greatest = greatest_number self.now.register.records
+                (requester_for command.now.caller (named_clearance command.now.kind));
+            fence = [];
+            crossed = crossed_by self.now.register from to;
+          };
+          rows = record (network_part self.now.register) {
+            records = [];
+            steps = [];
+          };
+        }) }
+    {
+        let open_records = self.open_records()?;
+        let crossed = self.crossed_by(&open_records, from, to)?;
         let sections = each_row(self.alloc, self.network.sections())?;
         let points = each_row(self.alloc, self.network.points())?;
-        let steps = self.first_rounds()?;
         Ok(Near {
             alloc: self.alloc,
             greatest: self.greatest_for(command),
@@ -49,8 +79,8 @@ impl<P: Shelf<PointState>, C: Shelf<Record>, T: Shelf<StepRow>, H: Shelf<Hold>> 
             points,
             staff: &self.staff,
             states: Vec::new(self.alloc),
-            records,
-            steps,
+            records: Vec::new(self.alloc),
+            steps: Vec::new(self.alloc),
             holds: Vec::new(self.alloc),
         })
     }

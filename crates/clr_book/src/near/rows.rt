@@ -4,6 +4,7 @@ ghost use Rattle.std.specs.List.{list_any};
 ghost use Rattle.std.specs.List.Sorted.{IsStrictlySortedBy};
 ghost use Rattle.clr_net.specs.Name.{name_cmp, same_name};
 ghost use Rattle.clr_net.specs.Names.{has_name};
+ghost use Rattle.clr_rules.specs.Answer.{answer_with};
 ghost use Rattle.clr_rules.specs.Hold.{hold_group_cmp, is_in_hold_group};
 ghost use Rattle.clr_rules.specs.Holds.{is_near_hold, is_own};
 ghost use Rattle.clr_rules.specs.Command.{is_jumper};
@@ -30,6 +31,19 @@ impl<P: Shelf<PointState>, C: Shelf<Record>, T: Shelf<StepRow>, H: Shelf<Hold>> 
     {
         match &command.kind {
             Kind::Jumper { from, to, .. } => self.network_near(command, *from, *to),
+            _ => self.near_clearance(command),
+        }
+    }
+
+    /// What the answer to a command looks at: what is near it, for a jumper without the records and
+    /// steps.
+    pub(crate) fn near_answer(&self, command: &Command) -> Result<Near<'_>, AllocError>
+        ensures { IfOk result (λ near. answer_with near.known near.rows command.now
+            ≡ answer_with (near_of self.now.register command.now).known
+            (near_of self.now.register command.now).rows command.now) }
+    {
+        match &command.kind {
+            Kind::Jumper { from, to, .. } => self.network_alone(command, *from, *to),
             _ => self.near_clearance(command),
         }
     }

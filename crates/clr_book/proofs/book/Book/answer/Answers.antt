@@ -1,22 +1,19 @@
 use Rattle.std.proofs.Common.{◌∙◌, ap, subst, sym}
 use Rattle.clr_net.specs.Grid.{IsNetwork}
-use Rattle.clr_rules.specs.Answer.{Answer, answer_with}
+use Rattle.clr_rules.specs.Answer.{Answer}
 use Rattle.clr_rules.specs.Edits.{fit}
-use Rattle.clr_rules.specs.Near.{Near}
 use Rattle.clr_rules.proofs.good.Opening.{unplaced_is_network}
+use Rattle.clr_rules.proofs.near.NewAnswers.{near_is_enough}
 use Rattle.clr_book.specs.Book.{Shelved}
 use Rattle.clr_book.proofs.BookEdits.{answers_taken}
 use Rattle.clr_book.proofs.book.Book.answer.Goals as goal
 
 pub returns-clause-lent : goal.returns-clause-lent
-returns-clause-lent g c =
-    ap (λ (near : Near). answer_with near.known near.rows c.args.command.now)
-    (sym c.in_ok-near.ensures)
-    ∙ c.in_ok-decision.ensures.lent
+returns-clause-lent g c = sym c.in_ok-near.ensures ∙ c.in_ok-decision.ensures.lent
 
 pub returns-clause-whole : goal.returns-clause-whole
 returns-clause-whole g c good =
-    c.in_ok-decision.ensures.whole c.args.self.now.register good.said good.besides.switch_orders.switching (sym c.in_ok-near.ensures)
+    near_is_enough c.args.self.now.register c.args.command.now good.said good.besides.switch_orders.switching ∙ returns-clause-lent g c
 
 pub returns-clause-nothing : goal.returns-clause-nothing
 returns-clause-nothing g c = c.in_ok-decision.ensures.nothing
