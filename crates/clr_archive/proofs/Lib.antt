@@ -4,4 +4,3 @@ pub mod Agreeing
 pub mod Answers
 pub mod Acting
 pub mod LastStep
-pub mod PutLast

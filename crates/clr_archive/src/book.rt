@@ -1,10 +1,9 @@
 //! The book after an archive.
-ghost use Rattle.std.specs.Prelude.{◌≡◌, IfOk, filter, map, not, true};
-ghost use Rattle.clr_shelf.specs.Rows.{in_key_order};
+ghost use Rattle.std.specs.Prelude.{◌≡◌, IfOk, filter, not};
 ghost use Rattle.clr_archive.specs.Archive.{archived, gives_up};
 
 use crate::past::gives_up;
-use clr_book::{Book, all_rows};
+use clr_book::{Book, all_rows, filled};
 use clr_rules::{Hold, Moment, PointState, Record, StepRow};
 use clr_shelf::{Row, Shelf};
 use std::alloc::{AllocError, Global};
@@ -28,7 +27,8 @@ where
     let records = copied(alloc, records)?;
     let holds = copied(alloc, holds)?;
     let steps = left(alloc, &book, steps, before)?;
-    Ok(book.with_shelves(records, steps, holds))
+    let after = book.with_shelves(records, steps, holds)?;
+    Ok(after)
 }
 
 /// A shelf with copies of the rows of a shelf.
@@ -78,17 +78,4 @@ where
         .copied()
         .filter(|row| !gives_up(book, row.id, before))
         .collect(alloc)
-}
-
-/// A shelf with copies of rows that are in the order of their keys.
-fn filled<R: Row + Copy, S: Shelf<R>>(alloc: Global, rows: &[&R]) -> Result<S, AllocError>
-    requires { in_key_order R.key_cmp R.key_of (map (λ row. row.now) rows.now) ≡ true }
-    ensures { IfOk result (λ shelf. S.rows shelf ≡ map (λ row. row.now) rows.now) }
-{
-    let mut shelf = S::empty(alloc);
-    for row in rows {
-        shelf.reserve(1)?;
-        shelf.put(**row);
-    }
-    Ok(shelf)
 }
