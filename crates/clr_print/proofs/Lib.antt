@@ -1,3 +1,4 @@
 pub mod Calendar
+pub mod OpenPrinted
 pub mod RowsLent
 pub mod LineLoops

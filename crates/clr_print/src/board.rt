@@ -1,16 +1,16 @@
 //! The board.
-ghost use Rattle.std.specs.Prelude.{◌≡◌, ◌++◌, IfOk, OnOk, filter, map, neg_ℤ, pos, string_bytes};
+ghost use Rattle.std.specs.Prelude.{◌≡◌, ◌++◌, IfOk, OnOk, map, neg_ℤ, pos, string_bytes};
 ghost use Rattle.std.specs.Prelude.{◌≤ℤ◌};
 ghost use Rattle.std.specs.List.{flat_map};
 ghost use Rattle.clr_net.specs.Grid.{unplaced};
-ghost use Rattle.clr_print.specs.Printed.{board_line, board_of, board_text, count_line, is_open};
+ghost use Rattle.clr_print.specs.Printed.{board_line, board_of, board_text, count_line};
 ghost use Rattle.clr_print.specs.Printed.{jumper_line, jumper_lines, position_word};
 
 use crate::columns::{id_text, name_or_dash, push_left};
 use crate::moments::{ClockOffset, moment_text};
 use clr_book::Book;
 use clr_net::{PointRow, Position};
-use clr_rules::{Hold, Phase, PointState, Record, StepRow};
+use clr_rules::{Hold, PointState, Record, StepRow};
 use clr_shelf::Shelf;
 use std::alloc::{AllocError, Global};
 
@@ -30,41 +30,10 @@ pub fn print_board<P: Shelf<PointState>, C: Shelf<Record>, T: Shelf<StepRow>, H:
         ≡ board_text book.now.register offset) }
 {
     let clock = ClockOffset::new(offset);
-    let records = book.records()?;
-    let standing = standing_records(alloc, records.as_slice())?;
+    let standing = book.open_records()?;
     let mut text = board_of(alloc, standing.as_slice(), clock)?;
     push_jumpers(alloc, &mut text, book.network().points(), book)?;
     Ok(text)
-}
-
-/// The records that are not closed.
-fn standing_records<'a>(
-    alloc: Global,
-    records: &[&'a Record],
-) -> Result<Vec<&'a Record>, AllocError>
-    ensures { IfOk result (λ standing. standing.items
-        ≡ filter (λ row. is_open row.now) records.now) }
-{
-    records
-        .iter()
-        .copied()
-        .filter(|record| is_open(record))
-        .collect(alloc)
-}
-
-/// Whether a record is not closed.
-fn is_open(record: &Record) -> bool
-    ensures { result ≡ is_open record.now }
-{
-    match record.phase {
-        Phase::Closed => false,
-        Phase::Requested
-        | Phase::Ordered
-        | Phase::Granted
-        | Phase::Released
-        | Phase::Restoring
-        | Phase::Switching => true,
-    }
 }
 
 /// The board of the records that are not closed.
