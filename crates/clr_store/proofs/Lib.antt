@@ -17,3 +17,4 @@ pub mod Renewing
 pub mod Places
 pub mod Setting
 pub mod Beginning
+pub mod Wanting

@@ -15,6 +15,7 @@ ghost use Rattle.clr_load.specs.Layout.{names_in};
 ghost use Rattle.clr_load.specs.Schema.{columns_in};
 ghost use Rattle.clr_load.specs.Stored.{fits_columns};
 ghost use Rattle.clr_load.specs.declared.layout.Layout.TheVariants.{AsMade, AsMadeLogged};
+ghost use Rattle.clr_load.specs.declared.fault.StoreFault.TheVariants.{NoMemory};
 ghost use Rattle.clr_store.specs.Change.{HasEmpty, MakesAt, PutsJournal, PutsPlace, Reaches};
 ghost use Rattle.clr_store.specs.Change.{SetsRows};
 ghost use Rattle.clr_store.specs.Contract.{AreEditedAt, MakesEditsAt};
@@ -156,6 +157,27 @@ pub(crate) fn commit_change_at<S: Alter>(
     make_all_at(&mut tx, change.edits.as_slice(), place)?;
     tx.commit()?;
     Ok(())
+}
+
+/// Want of memory, where the connection is open. Otherwise the database failed too.
+pub(crate) fn want_of_memory<S: Alter>(conn: &mut Connection<S>) -> StoreFault
+    ensures mode { conn.old.in_transaction ≡ false → conn.new.in_transaction ≡ false }
+    ensures open { HasCleanDisk (state S.Store conn.new) → result ≡ NoMemory
+        → IsTrue (state S.Store conn.new).is_open }
+    ensures saved { HasCleanDisk (state S.Store conn.new) → IsTrue (state S.Store conn.new).is_open
+        → IsSaved (state S.Store conn.old) → IsSaved (state S.Store conn.new) }
+    ensures none { HasCleanDisk (state S.Store conn.new) → IsTrue (state S.Store conn.new).is_open
+        → IsSaved (state S.Store conn.old)
+        → (state S.Store conn.new).now ≡ (state S.Store conn.old).now }
+    ensures was_open { HasCleanDisk (state S.Store conn.new)
+        → IsTrue (state S.Store conn.new).is_open → IsTrue (state S.Store conn.old).is_open }
+    ensures fault { IsOfDatabase result }
+    ensures crash { Survives (state S.Store conn.old) (state S.Store conn.new) (λ _. ⊥) }
+{
+    match conn.prepare("SELECT 1") {
+        Ok(_) => StoreFault::NoMemory,
+        Err(_) => StoreFault::Sql,
+    }
 }
 
 /// Makes the table of the journal in a register that has none, with this place.

@@ -1,7 +1,7 @@
 //! The store: the register of a database, over a connection to it.
 ghost use Rattle.std.specs.Prelude.{ℕ, ◌≡◌, ◌≢◌, ◌⊎◌, false, true, is_ok, pos, List, IsTrue, IfErr};
 ghost use Rattle.std.specs.Prelude.{IfOk, IsErrAnd, MatchResult, Ok, OnErr, OnOk, Option, Some};
-ghost use Rattle.std.specs.Prelude.{None, [], length};
+ghost use Rattle.std.specs.Prelude.{IsErrOf, None, [], length};
 ghost use Rattle.sqlite.specs.Held.{state};
 ghost use Rattle.sqlite.specs.Order.{Row};
 ghost use Rattle.sqlite.specs.State.{HasCleanDisk, Survives};
@@ -33,7 +33,7 @@ ghost use Rattle.clr_store.specs.StepsTaken.{AreWithoutSteps, TakesSteps};
 use crate::create::{make_logged_register, make_register};
 use crate::edits::make_all;
 use crate::migrate::move_tables;
-use crate::place::{begin_at, commit_change_at};
+use crate::place::{begin_at, commit_change_at, want_of_memory};
 use crate::renew::renew;
 use crate::steps::take_steps;
 use clr_load::{Fill, Loaded, Rows, StoreFault, expect_version, load_into, load_rows, read_place};
@@ -461,11 +461,16 @@ impl<S: Alter + Drop> Store<S> {
             ((state S.Store self.new).now ≡ (state S.Store self.old).now) }
         ensures was_open { HasCleanDisk (state S.Store self.new)
             → IsTrue (state S.Store self.new).is_open → IsTrue (state S.Store self.old).is_open }
+        ensures open { HasCleanDisk (state S.Store self.new)
+            → IsErrOf result StoreFault.NoMemory → IsTrue (state S.Store self.new).is_open }
         ensures crash { Survives (state S.Store self.old) (state S.Store self.new)
             (AreEditedAt (state S.Store self.old).now change.now.edits.items
             (place_row place.now)) }
     {
-        commit_change_at(&mut self.connection, change, place)
+        match commit_change_at(&mut self.connection, change, place) {
+            Err(StoreFault::NoMemory) => Err(want_of_memory(&mut self.connection)),
+            came => came,
+        }
     }
 
     /// Gives a register that has no journal this place in one. Its tables stay as they are.
