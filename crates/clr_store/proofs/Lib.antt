@@ -18,3 +18,4 @@ pub mod Places
 pub mod Setting
 pub mod Beginning
 pub mod Wanting
+pub mod Turned

@@ -21,7 +21,7 @@ use Rattle.clr_load.specs.Fault.{IsOfDatabase}
 use Rattle.clr_load.specs.Layout.{has_rows, has_table, is_of_register, is_two, tree_in}
 use Rattle.clr_load.specs.Schema.{columns_in, schema_in}
 use Rattle.clr_load.specs.Sql.{insert_sql}
-use Rattle.clr_load.specs.Stored.{ArePlaced, HasPlaceIn, HasRows, HasTables, Holds, IsPlaced, bodies, fits_columns, rows_in}
+use Rattle.clr_load.specs.Stored.{ArePlaced, HasPlaceIn, HasRows, HasTables, HasTablesIn, Holds, IsPlaced, bodies, fits_columns, rows_in}
 use Rattle.clr_load.specs.declared.fault.StoreFault.{StoreFault}
 use Rattle.clr_load.specs.declared.layout.Layout.{Layout}
 use Rattle.clr_load.specs.declared.layout.Layout.TheVariants.{AsMade, AsMadeLogged, AsMoved, AsMovedLogged, OfOne}
@@ -120,17 +120,22 @@ some_place : (l : Layout) (trees : Trees) → has_table l Journal ≡ true → I
 some_place l trees there (None, none) = absurd (true≢false (sym there ∙ none))
 some_place l trees there (Some place, has) = (place, has)
 
-pub made_at : (old new : State) (edits : List Edit) (place : Row) (t : Tables) (has : HasTables old.now t) → (table_named old.now.schema (table_text Journal) ≡ None → ⊥)
-    → ChangesAt old new (tables_edited edits) place → HasTables new.now (tables_edited edits t) × ArePlaced new.now.trees (Some place)
-made_at old new edits place t has named changes =
+-- the rows are changed, and the place is there
+pub placed_at : (old new : State) (change : Tables → Tables) (place : Row) (t : Tables) (has : HasTables old.now t) → (table_named old.now.schema (table_text Journal) ≡ None → ⊥)
+    → ChangesAt old new change place → Holds (HasTables.layout has) new.now (change t) × IsPlaced (HasTables.layout has) new.now.trees × ArePlaced new.now.trees (Some place)
+placed_at old new change place t has named changes =
     let l = HasTables.layout has in
     let here = HasTables.here has in
     let there = journal_there l has.two old.now here.holds.schema named in
     let had = some_place l old.now.trees there here.placed in
-    let it = changes.both l has.two t here.holds there (had.0 ∷ []) had.1.1 in (
-      edited_tables l has.two new.now edits t here.in_order it.0 (Some place, (there, it.1)),
-      record { layout = l; two = has.two; listed = it.0.listed; placed = (there, it.1) },
-    )
+    let it = changes.both l has.two t here.holds there (had.0 ∷ []) had.1.1 in
+    (it.0, (Some place, (there, it.1)), record { layout = l; two = has.two; listed = it.0.listed; placed = (there, it.1) })
+
+pub made_at : (old new : State) (edits : List Edit) (place : Row) (t : Tables) (has : HasTables old.now t) → (table_named old.now.schema (table_text Journal) ≡ None → ⊥)
+    → ChangesAt old new (tables_edited edits) place → HasTables new.now (tables_edited edits t) × ArePlaced new.now.trees (Some place)
+made_at old new edits place t has named changes =
+    let it = placed_at old new (tables_edited edits) place t has named changes in
+    (edited_tables (HasTables.layout has) has.two new.now edits t (HasTablesIn.in_order (HasTables.here has)) it.0 it.1, it.2)
 
 pub commit_crash_at : {S : Type 0} (g : Ghosts S) (old mid end : Held S) (edits : List Edit) (place : Row) → Survives (state g (record old { in_transaction = true })) (state g mid) (λ _. ⊥)
     → Survives (state g mid) (state g end) (λ db. db ≡ (state g mid).now.trees) → (table_named (state g old).now.schema (table_text Journal) ≡ None → ⊥)

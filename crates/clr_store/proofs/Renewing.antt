@@ -9,12 +9,10 @@ use Rattle.std.proofs.lemmas.Cmp.{nat_list_cmp_total}
 use Rattle.sqlite.specs.Command.{Command}
 use Rattle.sqlite.specs.Command.TheVariants.{Delete}
 use Rattle.sqlite.specs.Effect.{Database}
-use Rattle.sqlite.specs.Held.{Held, state}
 use Rattle.sqlite.specs.Listing.{understood}
 use Rattle.sqlite.specs.Order.{Row, row_cmp}
 use Rattle.sqlite.specs.Schema.{Schema}
-use Rattle.sqlite.specs.State.{State, ExecutesInside, HasCleanDisk, Survives}
-use Rattle.sqlite.specs.Store.{Ghosts}
+use Rattle.sqlite.specs.State.{State, ExecutesInside}
 use Rattle.sqlite.specs.Term.{col}
 use Rattle.sqlite.specs.Tree.{Trees}
 use Rattle.sqlite.proofs.Callers.{IsPlain, command_of}
@@ -36,7 +34,6 @@ use Rattle.clr_staff.specs.declared.employee.StaffRow.{StaffRow}
 use Rattle.clr_tables.specs.Tables.{Tables, jumper_row, section_row, staff_row, state_at}
 use Rattle.clr_tables.specs.declared.table_name.TableName.{TableName}
 use Rattle.clr_tables.specs.declared.table_name.TableName.TheVariants.{Meta, Section, Point, Staff, Clearance, Step, Hold, NetworkPoint, Journal}
-use Rattle.clr_load.proofs.Reopened.{left_of}
 use Rattle.clr_load.proofs.Texts.{IsRead, all_of, query_of}
 use Rattle.clr_load.specs.Layout.{has_table, is_two, place_in, tree_in}
 use Rattle.clr_load.specs.Schema.{columns_in, schema_in}
@@ -45,10 +42,11 @@ use Rattle.clr_load.specs.declared.layout.Layout.{Layout}
 use Rattle.clr_load.specs.declared.layout.Layout.TheVariants.{AsMade, AsMadeLogged, AsMoved, AsMovedLogged, OfOne}
 use Rattle.clr_store.proofs.Creating.{added_same, empty_rows, named_order}
 use Rattle.clr_store.proofs.Effects.{deleted, is_met}
-use Rattle.clr_store.proofs.Inside.{changed_to, crash_leaves, in_any_order, runs_inside, still_placed}
+use Rattle.clr_store.proofs.Inside.{changed_to, in_any_order, runs_inside}
 use Rattle.clr_store.proofs.Layouts.{in_two, rows_in_two}
+use Rattle.clr_store.proofs.Turned.{Lands}
 use Rattle.clr_store.specs.Change.{Changes, added, with_rows}
-use Rattle.clr_store.specs.Renewed.{AreRenewed, AreStatesOf, clear_sql, rows_in_state, rows_renewed, tables_renewed}
+use Rattle.clr_store.specs.Renewed.{AreStatesOf, clear_sql, rows_in_state, rows_renewed, tables_renewed}
 
 -- ---- DELETE of all rows
 abbrev clearing : Layout → TableName → Command
@@ -242,7 +240,7 @@ module _ (g : Grid) (staff : List StaffRow) (states : List PointState) (net : Is
   renewed_in_order AsMovedLogged two t ordered NetworkPoint = points_ordered
   renewed_in_order AsMovedLogged two t ordered Journal = refl
 
-  pub renewed_tables : (l : Layout) → is_two l ≡ true → (db : Database) (t : Tables) → IsInOrder l t → Holds l db (rows_renewed g.sections g.points states staff t) → IsPlaced l db.trees
+  renewed_tables : (l : Layout) → is_two l ≡ true → (db : Database) (t : Tables) → IsInOrder l t → Holds l db (rows_renewed g.sections g.points states staff t) → IsPlaced l db.trees
       → HasTables db (tables_renewed g staff states t)
   renewed_tables l two db t ordered has placed = record {
     layout = l;
@@ -250,16 +248,5 @@ module _ (g : Grid) (staff : List StaffRow) (states : List PointState) (net : Is
     here = record { holds = record { schema = has.schema; listed = has.listed; rows = rows_put l two db.trees t has.rows }; in_order = renewed_in_order l two t ordered; placed = placed };
   }
 
-  pub made_renewed : (old new : State) (t : Tables) (has : HasTables old.now t) → Changes old new (rows_renewed g.sections g.points states staff) → HasTables new.now (tables_renewed g staff states t)
-  made_renewed old new t has changes =
-      let here = HasTables.here has in
-      renewed_tables has.layout has.two new.now t here.in_order (changes.tables has.layout has.two t here.holds)
-      (still_placed has.layout old.now new.now (changes.place has.layout has.two t here.holds) here.placed)
-
-  pub renewed_crash : {S : Type 0} (s : Ghosts S) (old mid end : Held S) → Survives (state s (record old { in_transaction = true })) (state s mid) (λ _. ⊥)
-      → Survives (state s mid) (state s end) (λ db. db ≡ (state s mid).now.trees)
-      → (HasCleanDisk (state s mid) → Changes (state s (record old { in_transaction = true })) (state s mid) (rows_renewed g.sections g.points states staff))
-      → Survives (state s old) (state s end) (AreRenewed (state s old).now g staff states)
-  renewed_crash s old mid end inside ended changes = crash_leaves s old mid end _ inside ended (λ clean t has.
-      left_of (state s mid).now (tables_renewed g staff states t)
-      (made_renewed (state s (record old { in_transaction = true })) (state s mid) t has (changes clean)))
+  pub renewal_lands : Lands (rows_renewed g.sections g.points states staff) (tables_renewed g staff states)
+  renewal_lands l two db t ordered has placed = renewed_tables l two db t ordered has placed

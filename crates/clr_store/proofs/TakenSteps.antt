@@ -2,10 +2,8 @@
 use Rattle.std.proofs.Common.{◌≡◌, ◌∙◌, ◌++◌, ◌∷◌, ◌+◌, ◌<◌, ℕ, List, [], true, take, length, get_or, IsTrue, refl, sym, ap, subst}
 use Rattle.std.proofs.lemmas.List.{take_more}
 use Rattle.sqlite.specs.Effect.{Database}
-use Rattle.sqlite.specs.Held.{Held, state}
 use Rattle.sqlite.specs.Order.{row_cmp}
-use Rattle.sqlite.specs.State.{State, HasCleanDisk, Survives}
-use Rattle.sqlite.specs.Store.{Ghosts}
+use Rattle.sqlite.specs.State.{State}
 use Rattle.sqlite_value.proofs.OrderLemmas.{row_cmp_total}
 use Rattle.clr_shelf.proofs.KeyOrder.{in_key_order-without_row}
 use Rattle.clr_shelf.specs.Rows.{in_key_order}
@@ -13,15 +11,14 @@ use Rattle.clr_rules.specs.declared.step_row.StepKey.{StepKey}
 use Rattle.clr_tables.specs.TableEdits.{without_table_row}
 use Rattle.clr_tables.specs.Tables.{Tables}
 use Rattle.clr_tables.specs.declared.table_name.TableName.TheVariants.{Step}
-use Rattle.clr_load.proofs.Reopened.{left_of}
 use Rattle.clr_load.specs.Layout.{is_two}
 use Rattle.clr_load.specs.Schema.{keys_in}
 use Rattle.clr_load.specs.Stored.{HasTables, Holds, IsInOrder, IsPlaced}
 use Rattle.clr_load.specs.declared.layout.Layout.{Layout}
-use Rattle.clr_store.proofs.Inside.{crash_leaves, still_placed}
 use Rattle.clr_store.proofs.Layouts.{each_changed}
 use Rattle.clr_store.specs.Change.{Changes}
-use Rattle.clr_store.specs.StepsTaken.{AreWithoutSteps, step_key_values, without_step, without_steps}
+use Rattle.clr_store.proofs.Turned.{Lands}
+use Rattle.clr_store.specs.StepsTaken.{step_key_values, without_step, without_steps}
 
 pub no_keys : (s : State) → IsTrue s.in_transaction → Changes s s (without_steps [])
 unfolding without_steps
@@ -55,19 +52,9 @@ unfolding without_steps
 steps_in_order l two [] t ordered = ordered
 steps_in_order l two (key ∷ keys) t ordered = steps_in_order l two keys (without_step key t) (step_in_order l two key t ordered)
 
-pub taken_tables : (l : Layout) → is_two l ≡ true → (db : Database) (keys : List StepKey) (t : Tables) → IsInOrder l t → Holds l db (without_steps keys t) → IsPlaced l db.trees
+taken_tables : (l : Layout) → is_two l ≡ true → (db : Database) (keys : List StepKey) (t : Tables) → IsInOrder l t → Holds l db (without_steps keys t) → IsPlaced l db.trees
     → HasTables db (without_steps keys t)
 taken_tables l two db keys t ordered has placed = record { layout = l; two = two; here = record { holds = has; in_order = steps_in_order l two keys t ordered; placed = placed } }
 
-pub left_tables : (old new : State) (keys : List StepKey) (t : Tables) (has : HasTables old.now t) → Changes old new (without_steps keys) → HasTables new.now (without_steps keys t)
-left_tables old new keys t has changes =
-    let here = HasTables.here has in
-    taken_tables has.layout has.two new.now keys t here.in_order (changes.tables has.layout has.two t here.holds)
-    (still_placed has.layout old.now new.now (changes.place has.layout has.two t here.holds) here.placed)
-
-pub taken_crash : {S : Type 0} (g : Ghosts S) (old mid end : Held S) (keys : List StepKey) → Survives (state g (record old { in_transaction = true })) (state g mid) (λ _. ⊥)
-    → Survives (state g mid) (state g end) (λ db. db ≡ (state g mid).now.trees)
-    → (HasCleanDisk (state g mid) → Changes (state g (record old { in_transaction = true })) (state g mid) (without_steps keys))
-    → Survives (state g old) (state g end) (AreWithoutSteps (state g old).now keys)
-taken_crash g old mid end keys inside ended changes = crash_leaves g old mid end _ inside ended (λ clean t has.
-    left_of (state g mid).now (without_steps keys t) (left_tables (state g (record old { in_transaction = true })) (state g mid) keys t has (changes clean)))
+pub steps_land : (keys : List StepKey) → Lands (without_steps keys) (without_steps keys)
+steps_land keys l two db t ordered has placed = taken_tables l two db keys t ordered has placed

@@ -1,20 +1,24 @@
 -- What statements make of the tables, inside a transaction.
 use Rattle.std.specs.Prelude.{◌≡◌, ℕ, zero, suc, IsTrue, Bool, true, false, Result}
 use Rattle.std.specs.Prelude.{if◌then◌else◌, ◌==◌, List, [], take}
-use Rattle.std.specs.Prelude.{◌∷◌}
+use Rattle.std.specs.Prelude.{◌∷◌, ◌<◌, ◌^◌, ⊤, None, Option, Some}
 use Rattle.std.specs.Prelude.{fold, map, replicate}
 use Rattle.std.specs.List.{AllByRecursion}
 use Rattle.sqlite.specs.Effect.{Database, IsDatabase}
 use Rattle.sqlite.specs.Order.{Row}
 use Rattle.sqlite.specs.Held.{state}
 use Rattle.sqlite.specs.State.{State, KeepsCommit}
+use Rattle.sqlite.specs.Schema.{Schema}
 use Rattle.sqlite.specs.Store.{Ghosts}
 use Rattle.sqlite.specs.declared.transaction.Transaction.{Transaction}
+use Rattle.sqlite_schema.specs.Names.{table_named}
 use Rattle.clr_net.specs.declared.section.SectionRow.{SectionRow}
 use Rattle.clr_net.specs.declared.point.PointRow.{PointRow}
 use Rattle.clr_staff.specs.declared.employee.StaffRow.{StaffRow}
+use Rattle.clr_place.specs.declared.place.Place.{Place}
 use Rattle.clr_rules.specs.Register.{first_state}
 use Rattle.clr_tables.specs.TableEdits.{with_table_row, without_table_row}
+use Rattle.clr_tables.specs.TableText.{table_text}
 use Rattle.clr_tables.specs.Tables.{Tables, jumper_row, section_row, staff_row, version_row}
 use Rattle.clr_tables.specs.declared.table_name.TableName.{TableName}
 use Rattle.clr_tables.specs.declared.table_name.TableName.TheVariants.{Meta, Section, Staff}
@@ -143,6 +147,25 @@ MakesAt g old new change place result =
     (λ _. ChangesAt (state g old.conn.now) (state g new.conn.now) change place)
     (λ _. KeepsCommit (state g old.conn.now) (state g new.conn.now)) result
 
+-- whether a register of this schema can have this place, if one is given
+abbrev pub CanSet : Schema → Option Place → Type 0
+CanSet schema None = ⊤
+CanSet schema (Some place) = (place.number < 2 ^ 63)
+    × (table_named schema (table_text Journal) ≡ None → ⊥)
+
+-- the tables are changed, and the place is set, if one is given; otherwise it stays
+abbrev pub ChangesWith : State → State → (Tables → Tables) → Option Row → Type 0
+ChangesWith old new change None = Changes old new change
+ChangesWith old new change (Some place) = ChangesAt old new change place
+
+-- a call inside a transaction does both, or fails
+abbrev pub DoesWith : {S X : Type 0} → Ghosts S → Transaction S → Transaction S
+    → (Tables → Tables) → Option Row → Result X StoreFault → Type 0
+DoesWith g old new change place result =
+    RunsInside g old new IsOfDatabase
+    (λ _. ChangesWith (state g old.conn.now) (state g new.conn.now) change place)
+    (λ _. KeepsCommit (state g old.conn.now) (state g new.conn.now)) result
+
 -- A CALL INSIDE A TRANSACTION DOES THIS CHANGE, or fails; it commits nothing
 abbrev pub Does : {S X : Type 0} → Ghosts S → Transaction S → Transaction S → (Tables → Tables)
     → Result X StoreFault → Type 0
@@ -158,6 +181,12 @@ pub record Makes (old new : State) (From To : Database → Type 0) : Type 0 wher
   pub kept : KeepsCommit old new
   pub makes : From old.now → To new.now
   pub sound : From old.now → IsDatabase new.now
+
+-- a call inside a transaction sets the place, if one is given, or fails; the tables stay
+abbrev pub SetsIfGiven : {S X : Type 0} → Ghosts S → Transaction S → Transaction S → Option Row
+    → Result X StoreFault → Type 0
+SetsIfGiven g old new None result = Does g old new (λ t. t) result
+SetsIfGiven g old new (Some place) result = PutsPlace g old new (λ _. place ∷ []) result
 
 -- a call inside a transaction takes what the database has from one thing to another, or fails
 abbrev pub Reaches : {S X : Type 0} → Ghosts S → Transaction S → Transaction S

@@ -1,5 +1,5 @@
 -- What the store promises.
-use Rattle.std.specs.Prelude.{◌≡◌, ◌≢◌, ℤ, pos, List, [], ◌∷◌, Option, Some, Result, Ok, Err, ⊤}
+use Rattle.std.specs.Prelude.{◌≡◌, ◌≢◌, ℤ, pos, List, [], ◌∷◌, None, Option, Some, Result, Ok, Err, ⊤}
 use Rattle.sqlite.specs.Effect.{Database}
 use Rattle.sqlite.specs.Order.{Row}
 use Rattle.sqlite.specs.Tree.{Trees}
@@ -38,6 +38,25 @@ MakesEditsAt before edits place after = (t : Tables) → HasTables before t
 abbrev pub KeepsPlace : Database → Database → Type 0
 KeepsPlace before after = (t : Tables) → HasTables before t → (place : Option Row)
     → ArePlaced before.trees place → ArePlaced after.trees place
+
+-- the same of trees
+abbrev pub StaysPlaced : Trees → Trees → Type 0
+StaysPlaced before after = (place : Option Row) → ArePlaced before place → ArePlaced after place
+
+-- what becomes of a place: this one is set; where none is given, it stays as it was
+abbrev pub PlacesAs : Option Row → Trees → Trees → Type 0
+PlacesAs None before after = StaysPlaced before after
+PlacesAs (Some place) before after = ArePlaced after (Some place)
+
+-- whatever tables there were, they are now what these turn into, and so is their place
+abbrev pub TurnsInto : Database → (Tables → Tables) → Option Row → Database → Type 0
+TurnsInto before turned place after = (t : Tables) → HasTables before t
+    → HasTables after (turned t) × PlacesAs place before.trees after.trees
+
+-- the trees have what they turn into, with the place
+abbrev pub AreTurned : Database → (Tables → Tables) → Option Row → Trees → Type 0
+AreTurned before turned place trees = (t : Tables) → HasTables before t
+    → AreTables trees (turned t) × PlacesAs place before.trees trees
 
 -- the trees have the tables and this place
 abbrev pub AreTablesAt : Tables → Row → Trees → Type 0

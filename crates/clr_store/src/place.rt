@@ -1,6 +1,6 @@
 //! The place of a register in its journal, in its own table, inside a transaction.
 ghost use Rattle.std.specs.Prelude.{◌≡◌, ◌<◌, ◌^◌, ◌↔◌, [], ◌∷◌, false, true, IfErr, IsTrue, None};
-ghost use Rattle.std.specs.Prelude.{OnErr, OnOk};
+ghost use Rattle.std.specs.Prelude.{IfSome, OnErr, OnOk, option_copied, option_map};
 ghost use Rattle.sqlite.specs.Held.{state};
 ghost use Rattle.sqlite.specs.State.{HasCleanDisk, Survives};
 ghost use Rattle.sqlite.specs.Values.{bound};
@@ -16,8 +16,8 @@ ghost use Rattle.clr_load.specs.Schema.{columns_in};
 ghost use Rattle.clr_load.specs.Stored.{fits_columns};
 ghost use Rattle.clr_load.specs.declared.layout.Layout.TheVariants.{AsMade, AsMadeLogged};
 ghost use Rattle.clr_load.specs.declared.fault.StoreFault.TheVariants.{NoMemory};
-ghost use Rattle.clr_store.specs.Change.{HasEmpty, MakesAt, PutsJournal, PutsPlace, Reaches};
-ghost use Rattle.clr_store.specs.Change.{SetsRows};
+ghost use Rattle.clr_store.specs.Change.{CanSet, HasEmpty, MakesAt, PutsJournal, PutsPlace};
+ghost use Rattle.clr_store.specs.Change.{Reaches, SetsIfGiven, SetsRows};
 ghost use Rattle.clr_store.specs.Contract.{AreEditedAt, MakesEditsAt};
 
 use crate::edits::make_all;
@@ -111,6 +111,31 @@ fn set_place<S: Alter>(tx: &mut Transaction<'_, S>, place: &Place) -> Result<(),
 {
     let row = place_values(place);
     put_one(tx, &row)
+}
+
+/// Whether a register can have this place, if one is given.
+pub(crate) fn can_set(schema: &Schema, place: Option<&Place>) -> bool
+    ensures { IsTrue result → CanSet schema.now (option_copied place.entry) }
+{
+    match place {
+        Some(place) => fits(place) && has_journal(schema),
+        None => true,
+    }
+}
+
+/// Sets the place, if one is given.
+pub(crate) fn set_if_given<S: Alter>(
+    tx: &mut Transaction<'_, S>,
+    place: Option<&Place>,
+) -> Result<(), StoreFault>
+    requires { IfSome (option_copied place) (λ place. place.number < 2 ^ 63) }
+    ensures { SetsIfGiven S.Store tx.old tx.new
+        (option_map place_row (option_copied place.entry)) result }
+{
+    match place {
+        Some(place) => set_place(tx, place),
+        None => Ok(()),
+    }
 }
 
 /// Makes all edits, and sets the place.

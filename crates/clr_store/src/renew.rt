@@ -1,41 +1,48 @@
 //! Network, staff and states of points replaced in the tables, in one transaction.
 ghost use Rattle.std.specs.Prelude.{IfErr, ◌≡◌, ◌∷◌, [], false, true, IsTrue, OnErr, OnOk, map};
+ghost use Rattle.std.specs.Prelude.{◌<◌, ◌^◌, IfSome, option_copied, option_map};
 ghost use Rattle.sqlite.specs.Held.{state};
 ghost use Rattle.sqlite.specs.State.{HasCleanDisk, Survives};
 ghost use Rattle.clr_net.specs.Name.{name_cmp};
 ghost use Rattle.clr_rules.specs.States.{state_key};
 ghost use Rattle.clr_shelf.specs.Rows.{in_key_order};
-ghost use Rattle.clr_tables.specs.Tables.{jumper_row, section_row, staff_row};
+ghost use Rattle.clr_tables.specs.Tables.{jumper_row, place_row, section_row, staff_row};
 ghost use Rattle.clr_load.specs.Contract.{IsSaved};
 ghost use Rattle.clr_load.specs.Fault.{IsOfDatabase};
 ghost use Rattle.clr_load.specs.Layout.{has_table};
 ghost use Rattle.clr_load.specs.declared.layout.Layout.TheVariants.{AsMade};
-ghost use Rattle.clr_store.specs.Change.{Does, added, with_rows};
-ghost use Rattle.clr_store.specs.Renewed.{AreRenewed, AreStatesOf, RenewsTables, rows_in_state};
-ghost use Rattle.clr_store.specs.Renewed.{rows_renewed, with_only};
+ghost use Rattle.clr_store.specs.Change.{Does, DoesWith, added, with_rows};
+ghost use Rattle.clr_store.specs.Contract.{AreTurned, TurnsInto};
+ghost use Rattle.clr_store.specs.Renewed.{AreStatesOf, rows_in_state, rows_renewed};
+ghost use Rattle.clr_store.specs.Renewed.{tables_renewed, with_only};
 
 use crate::create::{add_sections, add_staff};
+use crate::place::{can_set, set_if_given};
 use crate::statements::{clear_table, insert_row};
 use crate::values::{handed_values, point_values};
 use clr_load::StoreFault;
 use clr_net::{Network, PointRow, SectionRow};
+use clr_place::Place;
 use clr_rules::PointState;
 use clr_staff::{Staff, StaffRow};
 use clr_tables::TableName;
 use sqlite::{Alter, Connection, Transaction};
 
-/// Replaces network, staff and states in one transaction, or leaves the tables as they are.
+/// Replaces network, staff and states, and sets the place, if one is given, in one transaction, or
+/// leaves all as it is.
 pub(crate) fn renew<S: Alter>(
     conn: &mut Connection<S>,
     network: &Network,
     staff: &Staff,
     states: &[PointState],
+    place: Option<&Place>,
 ) -> Result<(), StoreFault>
     requires { AreStatesOf network.now.points states.now }
     ensures mode { conn.old.in_transaction ≡ false → conn.new.in_transaction ≡ false }
     ensures renewed { HasCleanDisk (state S.Store conn.new) → OnOk result
-        (RenewsTables (state S.Store conn.old).now network.now staff.now states.now
-        (state S.Store conn.new).now) }
+        (TurnsInto (state S.Store conn.old).now
+        (tables_renewed network.now staff.now states.now)
+        (option_map place_row (option_copied place.entry)) (state S.Store conn.new).now) }
     ensures saved { HasCleanDisk (state S.Store conn.new) → OnOk result
         (IsSaved (state S.Store conn.new)) }
     ensures still_saved { conn.old.in_transaction ≡ false → HasCleanDisk (state S.Store conn.new)
@@ -47,18 +54,39 @@ pub(crate) fn renew<S: Alter>(
     ensures was_open { HasCleanDisk (state S.Store conn.new)
         → IsTrue (state S.Store conn.new).is_open → IsTrue (state S.Store conn.old).is_open }
     ensures crash { Survives (state S.Store conn.old) (state S.Store conn.new)
-        (AreRenewed (state S.Store conn.old).now network.now staff.now states.now) }
+        (AreTurned (state S.Store conn.old).now (tables_renewed network.now staff.now states.now)
+        (option_map place_row (option_copied place.entry))) }
 {
-    if !conn.is_autocommit() {
+    if !conn.is_autocommit() || !can_set(conn.schema(), place) {
         return Err(StoreFault::Sql);
     }
     let sections = network.sections();
     let points = network.points();
     let employees = staff.rows();
     let mut tx = conn.transaction();
-    replace_rows(&mut tx, sections, points, states, employees)?;
+    replace_all(&mut tx, sections, points, states, employees, place)?;
     tx.commit()?;
     Ok(())
+}
+
+/// Replaces the rows of sections, points and staff, and sets the place, if one is given.
+fn replace_all<S: Alter>(
+    tx: &mut Transaction<'_, S>,
+    sections: &[SectionRow],
+    points: &[PointRow],
+    states: &[PointState],
+    staff: &[StaffRow],
+    place: Option<&Place>,
+) -> Result<(), StoreFault>
+    requires states { AreStatesOf points.now states.now }
+    requires ordered { in_key_order name_cmp state_key states.now ≡ true }
+    requires fits { IfSome (option_copied place) (λ place. place.number < 2 ^ 63) }
+    ensures { DoesWith S.Store tx.old tx.new
+        (rows_renewed sections.now points.now states.now staff.now)
+        (option_map place_row (option_copied place.entry)) result }
+{
+    replace_rows(tx, sections, points, states, staff)?;
+    set_if_given(tx, place)
 }
 
 /// Replaces the rows of sections, points and staff.

@@ -1,28 +1,35 @@
 //! Steps taken out of the tables, in one transaction.
-ghost use Rattle.std.specs.Prelude.{IfErr, ◌≡◌, false, IsTrue, OnErr, OnOk};
+ghost use Rattle.std.specs.Prelude.{◌<◌, ◌≡◌, ◌^◌, IfErr, IfSome, IsTrue, OnErr, OnOk, false};
+ghost use Rattle.std.specs.Prelude.{option_copied, option_map};
 ghost use Rattle.sqlite.specs.Held.{state};
 ghost use Rattle.sqlite.specs.State.{HasCleanDisk, Survives};
 ghost use Rattle.clr_load.specs.Contract.{IsSaved};
 ghost use Rattle.clr_load.specs.Fault.{IsOfDatabase};
-ghost use Rattle.clr_store.specs.Change.{Does};
-ghost use Rattle.clr_store.specs.StepsTaken.{AreWithoutSteps, TakesSteps, without_step};
-ghost use Rattle.clr_store.specs.StepsTaken.{without_steps};
+ghost use Rattle.clr_tables.specs.Tables.{place_row};
+ghost use Rattle.clr_store.specs.Change.{Does, DoesWith};
+ghost use Rattle.clr_store.specs.Contract.{AreTurned, TurnsInto};
+ghost use Rattle.clr_store.specs.StepsTaken.{without_step, without_steps};
 
+use crate::place::{can_set, set_if_given};
 use crate::statements::delete_row;
 use crate::values::{name_value, number_value};
 use clr_load::StoreFault;
+use clr_place::Place;
 use clr_rules::StepKey;
 use clr_tables::TableName;
 use sqlite::{Alter, Connection, Transaction};
 
-/// Takes the steps of these keys in one transaction, or none.
+/// Takes the steps of these keys, and sets the place, if one is given, in one transaction, or
+/// leaves all as it is.
 pub(crate) fn take_steps<S: Alter>(
     conn: &mut Connection<S>,
     keys: &[StepKey],
+    place: Option<&Place>,
 ) -> Result<(), StoreFault>
     ensures mode { conn.old.in_transaction ≡ false → conn.new.in_transaction ≡ false }
     ensures taken { HasCleanDisk (state S.Store conn.new) → OnOk result
-        (TakesSteps (state S.Store conn.old).now keys.now (state S.Store conn.new).now) }
+        (TurnsInto (state S.Store conn.old).now (without_steps keys.now)
+        (option_map place_row (option_copied place.entry)) (state S.Store conn.new).now) }
     ensures saved { HasCleanDisk (state S.Store conn.new) → OnOk result
         (IsSaved (state S.Store conn.new)) }
     ensures still_saved { conn.old.in_transaction ≡ false → HasCleanDisk (state S.Store conn.new)
@@ -34,15 +41,30 @@ pub(crate) fn take_steps<S: Alter>(
     ensures was_open { HasCleanDisk (state S.Store conn.new)
         → IsTrue (state S.Store conn.new).is_open → IsTrue (state S.Store conn.old).is_open }
     ensures crash { Survives (state S.Store conn.old) (state S.Store conn.new)
-        (AreWithoutSteps (state S.Store conn.old).now keys.now) }
+        (AreTurned (state S.Store conn.old).now (without_steps keys.now)
+        (option_map place_row (option_copied place.entry))) }
 {
-    if !conn.is_autocommit() {
+    if !conn.is_autocommit() || !can_set(conn.schema(), place) {
         return Err(StoreFault::Sql);
     }
     let mut tx = conn.transaction();
-    take_each(&mut tx, keys)?;
+    take_all(&mut tx, keys, place)?;
     tx.commit()?;
     Ok(())
+}
+
+/// Takes the steps, and sets the place, if one is given.
+fn take_all<S: Alter>(
+    tx: &mut Transaction<'_, S>,
+    keys: &[StepKey],
+    place: Option<&Place>,
+) -> Result<(), StoreFault>
+    requires { IfSome (option_copied place) (λ place. place.number < 2 ^ 63) }
+    ensures { DoesWith S.Store tx.old tx.new (without_steps keys.now)
+        (option_map place_row (option_copied place.entry)) result }
+{
+    take_each(tx, keys)?;
+    set_if_given(tx, place)
 }
 
 /// Takes the steps, one after the other.

@@ -27,8 +27,10 @@ ghost use Rattle.clr_store.specs.Contract.{AreEdited, AreEditedAt, AreTablesAt, 
 ghost use Rattle.clr_store.specs.Contract.{KeepsPlace, MakesEdits, MakesEditsAt, RefusesOpening};
 ghost use Rattle.clr_store.specs.Contract.{RefusesVersion};
 ghost use Rattle.clr_store.specs.Moving.{IsOfMove, LeavesMoved, RefusesMove, RefusesToMove};
-ghost use Rattle.clr_store.specs.Renewed.{AreRenewed, AreStatesOf, RenewsTables};
-ghost use Rattle.clr_store.specs.StepsTaken.{AreWithoutSteps, TakesSteps};
+ghost use Rattle.clr_store.specs.Renewed.{AreRenewed, AreRenewedAt, AreStatesOf, RenewsTables};
+ghost use Rattle.clr_store.specs.Renewed.{RenewsTablesAt};
+ghost use Rattle.clr_store.specs.StepsTaken.{AreWithoutSteps, AreWithoutStepsAt, TakesSteps};
+ghost use Rattle.clr_store.specs.StepsTaken.{TakesStepsAt};
 
 use crate::create::{make_logged_register, make_register};
 use crate::edits::make_all;
@@ -445,7 +447,8 @@ impl<S: Alter + Drop> Store<S> {
     /// transaction.
     ///
     /// `Sql` where the register has no journal, where the number is 2^63 or more, and where the
-    /// database refuses or fails; `NoMemory` where memory runs out. On a fault none of it is done.
+    /// database refuses or fails; `NoMemory` where memory runs out, and then the connection is open.
+    /// On a fault none of it is done.
     pub fn commit_at(&mut self, change: &Change, place: &Place) -> Result<(), StoreFault>
         ensures made { HasCleanDisk (state S.Store self.new)
             → OnOk result (MakesEditsAt (state S.Store self.old).now change.now.edits.items
@@ -535,11 +538,13 @@ impl<S: Alter + Drop> Store<S> {
     /// Takes the steps of these keys out of the tables, in one transaction.
     ///
     /// `Sql` where the database refuses or fails, `NoMemory` where memory runs out. On a fault none
-    /// of them is taken.
+    /// of them is taken. A place in a journal stays as it is.
     pub fn take_steps(&mut self, keys: &[StepKey]) -> Result<(), StoreFault>
         ensures taken { HasCleanDisk (state S.Store self.new)
             → OnOk result (TakesSteps (state S.Store self.old).now keys.now
             (state S.Store self.new).now) }
+        ensures placed { HasCleanDisk (state S.Store self.new) → OnOk result
+            (KeepsPlace (state S.Store self.old).now (state S.Store self.new).now) }
         ensures saved { HasCleanDisk (state S.Store self.new)
             → OnOk result (IsSaved (state S.Store self.new)) }
         ensures still_saved { HasCleanDisk (state S.Store self.new)
@@ -554,11 +559,44 @@ impl<S: Alter + Drop> Store<S> {
         ensures crash { Survives (state S.Store self.old) (state S.Store self.new)
             (AreWithoutSteps (state S.Store self.old).now keys.now) }
     {
-        take_steps(&mut self.connection, keys)
+        take_steps(&mut self.connection, keys, None)
+    }
+
+    /// Takes the steps of these keys out of the tables and sets the place of the register in its
+    /// journal, both in one transaction.
+    ///
+    /// `Sql` where the register has no journal, where the number is 2^63 or more, and where the
+    /// database refuses or fails; `NoMemory` where memory runs out, and then the connection is open.
+    /// On a fault none of it is done.
+    pub fn take_steps_at(&mut self, keys: &[StepKey], place: &Place) -> Result<(), StoreFault>
+        ensures taken { HasCleanDisk (state S.Store self.new)
+            → OnOk result (TakesStepsAt (state S.Store self.old).now keys.now
+            (place_row place.now) (state S.Store self.new).now) }
+        ensures saved { HasCleanDisk (state S.Store self.new)
+            → OnOk result (IsSaved (state S.Store self.new)) }
+        ensures still_saved { HasCleanDisk (state S.Store self.new)
+            → IsTrue (state S.Store self.new).is_open
+            → OnErr result (IsSaved (state S.Store self.new)) }
+        ensures fault { IfErr result IsOfDatabase }
+        ensures none { HasCleanDisk (state S.Store self.new)
+            → IsTrue (state S.Store self.new).is_open → OnErr result
+            ((state S.Store self.new).now ≡ (state S.Store self.old).now) }
+        ensures was_open { HasCleanDisk (state S.Store self.new)
+            → IsTrue (state S.Store self.new).is_open → IsTrue (state S.Store self.old).is_open }
+        ensures open { HasCleanDisk (state S.Store self.new)
+            → IsErrOf result StoreFault.NoMemory → IsTrue (state S.Store self.new).is_open }
+        ensures crash { Survives (state S.Store self.old) (state S.Store self.new)
+            (AreWithoutStepsAt (state S.Store self.old).now keys.now (place_row place.now)) }
+    {
+        match take_steps(&mut self.connection, keys, Some(place)) {
+            Err(StoreFault::NoMemory) => Err(want_of_memory(&mut self.connection)),
+            came => came,
+        }
     }
 
     /// Puts a network, a staff and the states of the network's points in place of those that the
-    /// tables have, in one transaction. Clearances, steps and holds stay.
+    /// tables have, in one transaction. Clearances, steps and holds stay, and so does a place in a
+    /// journal.
     ///
     /// `Sql` where the database refuses or fails, `NoMemory` where memory runs out. On a fault the
     /// tables stay as they were.
@@ -572,6 +610,8 @@ impl<S: Alter + Drop> Store<S> {
         ensures renewed { HasCleanDisk (state S.Store self.new)
             → OnOk result (RenewsTables (state S.Store self.old).now network.now staff.now
             states.now (state S.Store self.new).now) }
+        ensures placed { HasCleanDisk (state S.Store self.new) → OnOk result
+            (KeepsPlace (state S.Store self.old).now (state S.Store self.new).now) }
         ensures saved { HasCleanDisk (state S.Store self.new)
             → OnOk result (IsSaved (state S.Store self.new)) }
         ensures still_saved { HasCleanDisk (state S.Store self.new)
@@ -586,6 +626,46 @@ impl<S: Alter + Drop> Store<S> {
         ensures crash { Survives (state S.Store self.old) (state S.Store self.new)
             (AreRenewed (state S.Store self.old).now network.now staff.now states.now) }
     {
-        renew(&mut self.connection, network, staff, states)
+        renew(&mut self.connection, network, staff, states, None)
+    }
+
+    /// Does what `update` does, and sets the place of the register in its journal, both in one
+    /// transaction.
+    ///
+    /// `Sql` where the register has no journal, where the number is 2^63 or more, and where the
+    /// database refuses or fails; `NoMemory` where memory runs out, and then the connection is open.
+    /// On a fault none of it is done.
+    pub fn update_at(
+        &mut self,
+        network: &Network,
+        staff: &Staff,
+        states: &[PointState],
+        place: &Place,
+    ) -> Result<(), StoreFault>
+        requires { AreStatesOf network.now.points states.now }
+        ensures renewed { HasCleanDisk (state S.Store self.new)
+            → OnOk result (RenewsTablesAt (state S.Store self.old).now network.now staff.now
+            states.now (place_row place.now) (state S.Store self.new).now) }
+        ensures saved { HasCleanDisk (state S.Store self.new)
+            → OnOk result (IsSaved (state S.Store self.new)) }
+        ensures still_saved { HasCleanDisk (state S.Store self.new)
+            → IsTrue (state S.Store self.new).is_open
+            → OnErr result (IsSaved (state S.Store self.new)) }
+        ensures fault { IfErr result IsOfDatabase }
+        ensures none { HasCleanDisk (state S.Store self.new)
+            → IsTrue (state S.Store self.new).is_open → OnErr result
+            ((state S.Store self.new).now ≡ (state S.Store self.old).now) }
+        ensures was_open { HasCleanDisk (state S.Store self.new)
+            → IsTrue (state S.Store self.new).is_open → IsTrue (state S.Store self.old).is_open }
+        ensures open { HasCleanDisk (state S.Store self.new)
+            → IsErrOf result StoreFault.NoMemory → IsTrue (state S.Store self.new).is_open }
+        ensures crash { Survives (state S.Store self.old) (state S.Store self.new)
+            (AreRenewedAt (state S.Store self.old).now network.now staff.now states.now
+            (place_row place.now)) }
+    {
+        match renew(&mut self.connection, network, staff, states, Some(place)) {
+            Err(StoreFault::NoMemory) => Err(want_of_memory(&mut self.connection)),
+            came => came,
+        }
     }
 }

@@ -1,0 +1,33 @@
+use Rattle.std.proofs.Common.{◌≡◌, OnOk, rules, subst}
+use Rattle.sqlite.specs.Held.{state}
+use Rattle.sqlite.specs.State.{HasCleanDisk, Survives}
+use Rattle.sqlite.proofs.StateLemmas.{survives_then}
+use Rattle.clr_tables.specs.Tables.{place_row}
+use Rattle.clr_store.specs.Renewed.{AreRenewedAt, RenewsTablesAt}
+use Rattle.clr_store.proofs.store.Store.update_at.Goals as goal
+
+pub returns-in_default-2-clause-renewed : goal.returns-in_default-2-clause-renewed
+returns-in_default-2-clause-renewed g c =
+    let new = state g.S.Store c.renew.new.conn in
+    let is : c.self.inside.connection ≡ c.args.self.now = search rules in
+    subst (λ h. HasCleanDisk new → OnOk c.renew.result (RenewsTablesAt (state g.S.Store h).now c.args.network.now c.args.staff.now c.args.states.now (place_row c.args.place.now) new.now)) is c.renew.ensures.renewed
+
+pub returns-in-Err-NoMemory-clause-crash : goal.returns-in-Err-NoMemory-clause-crash
+returns-in-Err-NoMemory-clause-crash g c =
+    let mid = state g.S.Store c.renew.new.conn in
+    let new = state g.S.Store c.want_of_memory.new.conn in
+    let is : c.self.inside.connection ≡ c.args.self.now = search rules in
+    let came = subst (λ h. Survives (state g.S.Store h) mid (AreRenewedAt (state g.S.Store h).now c.args.network.now c.args.staff.now c.args.states.now (place_row c.args.place.now))) is c.renew.ensures.crash in
+    survives_then (state g.S.Store c.args.self.now) mid new _ _ _ (λ _ db done. done) (λ _ db none. absurd none) came c.want_of_memory.ensures.crash
+
+pub returns-in_default-clause-crash : goal.returns-in_default-clause-crash
+returns-in_default-clause-crash g c =
+    let new = state g.S.Store c.renew.new.conn in
+    let is : c.self.inside.connection ≡ c.args.self.now = search rules in
+    subst (λ h. Survives (state g.S.Store h) new (AreRenewedAt (state g.S.Store h).now c.args.network.now c.args.staff.now c.args.states.now (place_row c.args.place.now))) is c.renew.ensures.crash
+
+pub returns-in_default-2-clause-crash : goal.returns-in_default-2-clause-crash
+returns-in_default-2-clause-crash g c =
+    let new = state g.S.Store c.renew.new.conn in
+    let is : c.self.inside.connection ≡ c.args.self.now = search rules in
+    subst (λ h. Survives (state g.S.Store h) new (AreRenewedAt (state g.S.Store h).now c.args.network.now c.args.staff.now c.args.states.now (place_row c.args.place.now))) is c.renew.ensures.crash
