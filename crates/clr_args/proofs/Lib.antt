@@ -1,4 +1,5 @@
 pub mod ArgumentRows
+pub mod AskedByName
 pub mod Numbers
 pub mod ParsedWords
 pub mod JournalAsked

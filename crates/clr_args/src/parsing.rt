@@ -7,7 +7,7 @@ ghost use Rattle.clr_args.specs.Parsed.{AsksMigrate, AsksNextPart, AsksOfJournal
 ghost use Rattle.clr_args.specs.Parsed.{AsksRun, AsksServe, AsksUpdate, AsksVerified};
 ghost use Rattle.clr_args.specs.Parsed.{AsksWayBack, IsMoreThanNext, IsNoInit, IsNoJournal};
 ghost use Rattle.clr_args.specs.Parsed.{IsNoRun, IsNoServe, IsNoVerify, IsParsedAs, IsSaid};
-ghost use Rattle.clr_args.specs.Parsed.{IsUnreadAs, Parses, run_usage};
+ghost use Rattle.clr_args.specs.Parsed.{IsUnread, IsUnreadAs, Parses, run_usage};
 
 use crate::asked::{
     ArchiveArgs, Asked, BoardArgs, FenceArgs, Files, InitArgs, JournalArgs, MigrateArgs,
@@ -96,45 +96,95 @@ fn asked<'a>(alloc: Global, name: &str, matches: &ArgMatches<'a>) -> Result<Pars
     ensures { IfOk result (IsParsedAs name.now (rows_of (found_of matches.now))) }
 {
     match name {
-        "fence" => {
-            let args = fence_args(alloc, matches)?;
-            Ok(Parsed::Asked(Asked::Fence(args)))
-        }
+        "fence" => fence_parsed(alloc, matches),
         "check" => Ok(Parsed::Asked(Asked::Check(three_files(matches)))),
-        "init" => match init_args(matches) {
-            Some(args) => Ok(Parsed::Asked(Asked::Init(args))),
-            None => unread(alloc, INIT_USAGE),
-        },
-        "run" => match run_args(alloc, matches)? {
-            Some(args) => Ok(Parsed::Asked(Asked::Run(args))),
-            None => unread(alloc, run_usage(matches)),
-        },
+        "init" => init_parsed(alloc, matches),
+        "run" => run_parsed(alloc, matches),
         "order" => Ok(Parsed::Asked(Asked::Order(order_args(matches)))),
         "board" => Ok(Parsed::Asked(Asked::Board(board_args(matches)))),
         "wayback" => Ok(Parsed::Asked(Asked::WayBack(way_back_args(matches)))),
-        "serve" => match serve_args(matches) {
-            Some(args) => Ok(Parsed::Asked(Asked::Serve(args))),
-            None => unread(alloc, SERVE_USAGE),
-        },
-        "journal" => match journal_asked(alloc, matches)? {
-            Some(asked) => Ok(Parsed::Asked(asked)),
-            None => unread(alloc, JOURNAL_USAGE),
-        },
-        "verify" => match verify_asked(alloc, matches)? {
-            Some(asked) => Ok(Parsed::Asked(asked)),
-            None => unread(alloc, VERIFY_USAGE),
-        },
-        "update" => {
-            let args = update_args(alloc, matches)?;
-            Ok(Parsed::Asked(Asked::Update(args)))
-        }
+        "serve" => serve_parsed(alloc, matches),
+        "journal" => journal_parsed(alloc, matches),
+        "verify" => verify_parsed(alloc, matches),
+        "update" => update_parsed(alloc, matches),
         "archive" => Ok(Parsed::Asked(Asked::Archive(archive_args(matches)))),
         "migrate" => Ok(Parsed::Asked(Asked::Migrate(migrate_args(matches)))),
-        _ => {
-            let text = format!(in alloc; "error: there is no subcommand {name}\n")?;
-            Ok(Parsed::Unread(text))
-        }
+        _ => unnamed(alloc, name),
     }
+}
+
+/// The words of a subcommand whose name is none of these.
+fn unnamed<'a>(alloc: Global, name: &str) -> Result<Parsed<'a>, AllocError>
+    ensures { IfOk result IsUnread }
+{
+    let text = format!(in alloc; "error: there is no subcommand {name}\n")?;
+    Ok(Parsed::Unread(text))
+}
+
+/// What the words of `fence` come to.
+fn fence_parsed<'a>(alloc: Global, matches: &ArgMatches<'a>) -> Result<Parsed<'a>, AllocError>
+    ensures { IfOk result (IsParsedAs (codes "fence") (rows_of (found_of matches.now))) }
+{
+    let args = fence_args(alloc, matches)?;
+    Ok(Parsed::Asked(Asked::Fence(args)))
+}
+
+/// What the words of `init` come to.
+fn init_parsed<'a>(alloc: Global, matches: &ArgMatches<'a>) -> Result<Parsed<'a>, AllocError>
+    ensures { IfOk result (IsParsedAs (codes "init") (rows_of (found_of matches.now))) }
+{
+    match init_args(matches) {
+        Some(args) => Ok(Parsed::Asked(Asked::Init(args))),
+        None => unread(alloc, INIT_USAGE),
+    }
+}
+
+/// What the words of `run` come to.
+fn run_parsed<'a>(alloc: Global, matches: &ArgMatches<'a>) -> Result<Parsed<'a>, AllocError>
+    ensures { IfOk result (IsParsedAs (codes "run") (rows_of (found_of matches.now))) }
+{
+    match run_args(alloc, matches)? {
+        Some(args) => Ok(Parsed::Asked(Asked::Run(args))),
+        None => unread(alloc, run_usage(matches)),
+    }
+}
+
+/// What the words of `serve` come to.
+fn serve_parsed<'a>(alloc: Global, matches: &ArgMatches<'a>) -> Result<Parsed<'a>, AllocError>
+    ensures { IfOk result (IsParsedAs (codes "serve") (rows_of (found_of matches.now))) }
+{
+    match serve_args(matches) {
+        Some(args) => Ok(Parsed::Asked(Asked::Serve(args))),
+        None => unread(alloc, SERVE_USAGE),
+    }
+}
+
+/// What the words of `journal` come to.
+fn journal_parsed<'a>(alloc: Global, matches: &ArgMatches<'a>) -> Result<Parsed<'a>, AllocError>
+    ensures { IfOk result (IsParsedAs (codes "journal") (rows_of (found_of matches.now))) }
+{
+    match journal_asked(alloc, matches)? {
+        Some(asked) => Ok(Parsed::Asked(asked)),
+        None => unread(alloc, JOURNAL_USAGE),
+    }
+}
+
+/// What the words of `verify` come to.
+fn verify_parsed<'a>(alloc: Global, matches: &ArgMatches<'a>) -> Result<Parsed<'a>, AllocError>
+    ensures { IfOk result (IsParsedAs (codes "verify") (rows_of (found_of matches.now))) }
+{
+    match verify_asked(alloc, matches)? {
+        Some(asked) => Ok(Parsed::Asked(asked)),
+        None => unread(alloc, VERIFY_USAGE),
+    }
+}
+
+/// What the words of `update` come to.
+fn update_parsed<'a>(alloc: Global, matches: &ArgMatches<'a>) -> Result<Parsed<'a>, AllocError>
+    ensures { IfOk result (IsParsedAs (codes "update") (rows_of (found_of matches.now))) }
+{
+    let args = update_args(alloc, matches)?;
+    Ok(Parsed::Asked(Asked::Update(args)))
 }
 
 /// Words that do not parse, for this reason.
