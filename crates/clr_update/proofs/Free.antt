@@ -32,7 +32,7 @@ all_none [] none = tt
 all_none (None ∷ rest) none = (refl, all_none rest none)
 all_none (Some obstacle ∷ rest) none = absurd cc
 
-named_none : (obstacle : List ℕ → Obstacle) (names : List (List ℕ)) (rest : Option Obstacle) → first_named obstacle names rest ≡ None → (names ≡ []) × (rest ≡ None)
+pub named_none : (obstacle : List ℕ → Obstacle) (names : List (List ℕ)) (rest : Option Obstacle) → first_named obstacle names rest ≡ None → (names ≡ []) × (rest ≡ None)
 named_none obstacle [] rest none = (refl, none)
 named_none obstacle (name ∷ names) rest none = absurd cc
 
@@ -52,7 +52,7 @@ so_none : (so : Bool) (obstacle : Obstacle) → where_so so obstacle ≡ None �
 so_none true obstacle none = absurd cc
 so_none false obstacle none = refl
 
-not_so : (b : Bool) → not b ≡ false → b ≡ true
+pub not_so : (b : Bool) → not b ≡ false → b ≡ true
 not_so true is = refl
 not_so false is = sym is
 

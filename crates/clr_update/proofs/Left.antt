@@ -39,7 +39,7 @@ module _ (R : Register) (good : IsGood R) (u : Update) (read : IsRead u) (free :
   abbrev S : Register
   S = updated R u
 
-  left_after : IsAllLeft R (updated R u)
+  pub left_after : IsAllLeft R (updated R u)
   left_after = record {
     left = λ c. record {
       frame = record {

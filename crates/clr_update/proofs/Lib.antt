@@ -10,3 +10,6 @@ pub mod Near
 pub mod Agreeing
 pub mod EntryFacts
 pub mod Entries
+pub mod Passed
+pub mod Delta
+pub mod Made

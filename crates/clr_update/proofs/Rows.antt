@@ -160,7 +160,7 @@ module _ {Row : Type 0} (name_of : Row → List ℕ) where
 -- ---- rows that are none of others
 
 module _ {Row : Type 0} (same : Row → Row → Bool) (exact : (a b : Row) → same a b ≡ true → a ≡ b) (itself : (a : Row) → same a a ≡ true) where
-  from_in : (rows : List Row) (row : Row) → list_any (same row) rows ≡ true → Contains rows row
+  pub from_in : (rows : List Row) (row : Row) → list_any (same row) rows ≡ true → Contains rows row
   from_in rows row is =
       let found = some_from (same row) rows is in
       subst (λ (x : Row). Contains rows x) (sym (exact row found.0 found.2)) found.1

@@ -114,14 +114,14 @@ module _ (R : Register) (good : IsGood R) (u : Update) (free : Free R u (updated
     pub filed_is : IsFiled (filed R u)
     filed_is = is_filed u read R free.fits
 
-    same_point_of : (states : List PointState) (new : PointState) → PointState.point (kept_state states new) ≡ new.point
+    pub same_point_of : (states : List PointState) (new : PointState) → PointState.point (kept_state states new) ≡ new.point
     same_point_of states new = at (state_of states new.point) refl
       where
         at : (o : Option PointState) → state_of states new.point ≡ o → PointState.point (unwrap_or o new) ≡ new.point
         at None is = refl
         at (Some state) is = state_of-point states new.point state is
 
-    same_keys : (states news : List PointState) → map state_key (map (kept_state states) news) ≡ map state_key news
+    pub same_keys : (states news : List PointState) → map state_key (map (kept_state states) news) ≡ map state_key news
     same_keys states [] = refl
     same_keys states (new ∷ news) = λ i. same_point_of states new i ∷ same_keys states news i
 
@@ -133,13 +133,13 @@ module _ (R : Register) (good : IsGood R) (u : Update) (free : Free R u (updated
     states_in_order = in_key_order-from_sorted name_cmp state_key S.states (rw known_states filed_is.network.points_rise)
 
     -- what is read of a point of the new network: its state of before, or else that of the files
-    record Reading (p : List ℕ) : Type 0 where
-      new : PointState
-      there : Contains F.states new
-      at_p : new.point ≡ p
-      state : state_of S.states p ≡ Some (unwrap_or (state_of R.states p) new)
+    pub record Reading (p : List ℕ) : Type 0 where
+      pub new : PointState
+      pub there : Contains F.states new
+      pub at_p : new.point ≡ p
+      pub state : state_of S.states p ≡ Some (unwrap_or (state_of R.states p) new)
 
-    reading : (p : List ℕ) → has_name (point_names (Grid.points (Register.net (updated R u)))) p ≡ true → Reading p
+    pub reading : (p : List ℕ) → has_name (point_names (Grid.points (Register.net (updated R u)))) p ≡ true → Reading p
     reading p named =
         let (new, there, at_p) = mapped_from state_key F.states p ((name_says (map state_key F.states) p).0 (ap (λ (names : List (List ℕ)). has_name names p) filed_is.known ∙ named)) in
         let here = there_mapped (kept_state R.states) F.states new there in

@@ -3,3 +3,5 @@ pub mod Changes
 pub mod Update
 pub mod Entries
 pub mod Laws
+pub mod Delta
+pub mod DeltaLaws

@@ -1,4 +1,5 @@
 //! Laws of updates: the contract of each function is the law, and its body is empty.
+ghost use Rattle.clr_update.specs.DeltaLaws.{ChangesKeepGood, ChangesSayAll, MadeChangesAreUpdates};
 ghost use Rattle.clr_update.specs.Laws.{EntriesKeepGood, NoEntryTakesAway, PointsKeepTheirStates};
 ghost use Rattle.clr_update.specs.Laws.{SameChangesAgree, SameSightsSameAnswers, SameStaffAgrees};
 ghost use Rattle.clr_update.specs.Laws.{StandingFencesStay, UnseenUpdatesAgree, UpdatesKeepGood};
@@ -46,4 +47,16 @@ pub fn no_entry_takes_away()
 /// After an update every open record has a way back.
 pub fn updates_leave_a_way_back()
     ensures { UpdatesLeaveAWayBack }
+{}
+
+/// The changes of an accepted update say all of it: they can be made, and lead where it leads.
+pub fn changes_say_all()
+    ensures { ChangesSayAll }
+{}
+
+/// Changes that can be made are an update that is accepted, whoever says them. So a good register
+/// is good after any changes, a staffed one staffed, and they take nothing away.
+pub fn made_changes_are_updates()
+    ensures updates { MadeChangesAreUpdates }
+    ensures good { ChangesKeepGood }
 {}
