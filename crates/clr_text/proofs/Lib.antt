@@ -11,3 +11,5 @@ pub mod ContentTexts
 pub mod TextsRead
 pub mod SaidTaken
 pub mod CommandsSent
+pub mod Unescaped
+pub mod ReplyPieces

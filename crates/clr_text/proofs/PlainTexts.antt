@@ -151,7 +151,7 @@ mutual
 
 -- ---- digits
 
-abbrev is_digit_byte : ℕ → Bool
+abbrev pub is_digit_byte : ℕ → Bool
 is_digit_byte b = nat_lt 47 b && nat_lt b 58
 
 glyph_is_digit : (n : ℕ) → n < 10 → is_digit_byte (digit_glyph false n) ≡ true
@@ -171,7 +171,7 @@ digits_onto_digits (suc k) n acc h =
     let here : list_all is_digit_byte more ≡ true = and_from _ _ (last_is_digit n) h in
     either_digits (n / 10 == 0) more _ here (digits_onto_digits k (n / 10) more here)
 
-decimal_digits : (n : ℕ) → list_all is_digit_byte (decimal n) ≡ true
+pub decimal_digits : (n : ℕ) → list_all is_digit_byte (decimal n) ≡ true
 unfolding digits
 decimal_digits n = digits_onto_digits 64 n [] refl
 

@@ -1,23 +1,14 @@
-//! Replies as JSON.
-ghost use Rattle.std.specs.Prelude.{◌≡◌, IfOk, string_bytes};
+//! Replies as JSON values.
+ghost use Rattle.std.specs.Prelude.{◌≡◌, IfOk};
 ghost use Rattle.serde_json.specs.View.{view};
-ghost use Rattle.clr_text.specs.Replies.{card_data, reply_data, reply_text, view_data};
+ghost use Rattle.clr_text.specs.Replies.{card_data, reply_data, view_data};
 
 use crate::parts::{ToJson, list_value, optional_value};
-use crate::refusal_text::refusal_value;
+use crate::refusal_values::refusal_value;
 use clr_net::Name;
 use clr_rules::{Card, Reply, View};
 use serde_json::{Value, json};
 use std::alloc::{AllocError, Global};
-
-/// The text of a reply: one JSON object without blanks and without a line feed, the keys of each
-/// object in the order of their bytes.
-pub fn reply_text(alloc: Global, reply: &Reply) -> Result<String, AllocError>
-    ensures { IfOk result (λ text. string_bytes text ≡ reply_text reply.now) }
-{
-    let value = reply_value(alloc, reply)?;
-    value.to_string(alloc)
-}
 
 /// The JSON value of a reply, as a part of another.
 pub fn reply_value(alloc: Global, reply: &Reply) -> Result<Value, AllocError>
@@ -38,7 +29,7 @@ fn accepted(alloc: Global, card: &Card) -> Result<Value, AllocError>
     json!(in alloc; {"card": card, "reply": "accepted"})
 }
 
-fn shown(alloc: Global, shown: &View) -> Result<Value, AllocError>
+pub(crate) fn shown(alloc: Global, shown: &View) -> Result<Value, AllocError>
     ensures { IfOk result (λ value. view value ≡ reply_data (Reply.Shown shown.now)) }
 {
     let shown = view_value(alloc, shown)?;
