@@ -122,11 +122,26 @@ def has_fraction(value):
     return any(map(has_fraction, value)) if isinstance(value, list) else isinstance(value, float)
 
 
-@functools.lru_cache(maxsize=None)
+READ = {}  # whether a text reads as a command, of each that was asked for
+
+
+def ask_commands(texts):
+    """Asks the program of all these lines at once which of them read as commands: a run of its own for each takes long."""
+    values = [value_in(text) for text in dict.fromkeys(texts)]
+    commands = [value["command"] for value in values if value and isinstance(value.get("command"), dict)]
+    new = sorted({written(command).decode() for command in commands} - READ.keys())
+    if new:
+        replies = run("run", *FILES, lines=new)[1].splitlines()
+        READ.update((text, not reply.startswith('{"fault":')) for text, reply in zip(new, replies, strict=True))
+
+
 def reads_as_command(text):
-    return not run("run", *FILES, lines=[text])[1].startswith('{"fault":')
+    if text not in READ:
+        READ[text] = not run("run", *FILES, lines=[text])[1].startswith('{"fault":')
+    return READ[text]
 
 
+@functools.lru_cache(maxsize=4096)
 def value_in(text):
     """The JSON object of a line; None where it has none."""
     with contextlib.suppress(ValueError):
@@ -135,6 +150,7 @@ def value_in(text):
     return None
 
 
+@functools.lru_cache(maxsize=4096)
 def entry_in(text):
     """What a text says, if it is a line of a journal, whatever its sum is."""
     value = value_in(text)
@@ -187,6 +203,7 @@ def is_next(end, entry):
     return entry["number"] == end.last + 1
 
 
+@functools.lru_cache(maxsize=4096)
 def next_link(end, text):
     """The next line of a chain and the end after it, if the text is that and holds its sum; or None."""
     entry = entry_in(text)
@@ -230,6 +247,7 @@ def is_bad_alone(number, text, damaged):
 
 def walk(place, texts):
     """Of each line its number, and what it says if it holds its sum."""
+    ask_commands(texts)
     end, steps = End(place.number, False, place.sum), []
     for text in texts:
         link = next_link(end, text)
@@ -293,6 +311,7 @@ def ended(result):
 def found(place, data):
     """What an opening finds at the place of a register: lines after it, or the words of a fault."""
     lines = lines_in(data)
+    ask_commands(lines)
     first = first_in(lines[0]) if lines else None
     if not data or first is None:
         return unread(lines) if data else "journal OpenFailed"

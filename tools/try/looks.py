@@ -5,6 +5,7 @@ import collections
 import concurrent.futures
 import contextlib
 import json
+import multiprocessing
 import os
 import pathlib
 import shutil
@@ -30,9 +31,11 @@ def look(title, good, found=""):
 
 
 def outcomes_counted(title, outcomes_of, seeds):
-    """How often each outcome came, of all seeds, some at a time. One that begins with `differs: ` is a look that differs."""
+    """How often each outcome came, of all seeds. One that begins with `differs: ` is a look that differs. Each processor has
+    a process: threads would wait for each other where one of them starts the program."""
     counts = collections.Counter()
-    with concurrent.futures.ThreadPoolExecutor(os.cpu_count()) as pool:
+    forked = multiprocessing.get_context("fork")
+    with concurrent.futures.ProcessPoolExecutor(os.cpu_count(), forked) as pool:
         for outcomes in pool.map(outcomes_of, seeds):
             for outcome in outcomes:
                 if outcome.startswith("differs: "):
