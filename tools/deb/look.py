@@ -8,9 +8,10 @@ import pathlib
 import re
 import subprocess
 import tarfile
+import time
 
 TOP = pathlib.Path(__file__).resolve().parent.parent.parent
-PROGRAMS = {"usr/bin/gridclear", "usr/sbin/gridclear-setup", *(f"usr/lib/gridclear/{name}" for name in ("serve", "finish", "verify", "forward", "log", "backup", "follow", "desk-conf"))}
+PROGRAMS = {"usr/bin/gridclear", "usr/sbin/gridclear-setup", *(f"usr/lib/gridclear/{name}" for name in ("serve", "pause", "finish", "verify", "forward", "log", "backup", "follow", "desk-conf"))}
 CONFIGURATION = {"etc/gridclear/gridclear.conf", "etc/logrotate.d/gridclear"}
 SCRIPTS = {"preinst", "postinst", "prerm", "postrm"}
 CONTROL = {"control", "conffiles", "md5sums", *SCRIPTS}
@@ -131,6 +132,25 @@ def words(tree, tally):
     tally.check("the completion of subcommands", found == {*commands, "help", "--help", "--version"}, found)
 
 
+def pauses(tree, tally):
+    """How long the register waits: one fault after another, after some minutes, and after it was stopped."""
+    place = tree / "run"
+    place.mkdir()
+
+    def after(result, minutes=0):
+        begun = time.time() - 60 * minutes
+        (place / "begun").touch()
+        os.utime(place / "begun", (begun, begun))
+        status, out = run("sh", str(tree / "usr/lib/gridclear/pause"), env=os.environ | {"RUNTIME_DIRECTORY": str(place), "SERVICE_RESULT": result})
+        found = (place / "pause").read_text() if (place / "pause").exists() else "none\n"
+        return found.strip() if (status, out) == (0, "") else out
+
+    found = [after("exit-code") for _ in range(9)]
+    tally.check("a pause is twice the one before, up to 60 seconds", found == "1 2 4 8 16 32 60 60 60".split(), found)
+    found = [after("exit-code", 4), after("exit-code", 6), after("signal"), after("success"), after("exit-code")]
+    tally.check("after 5 minutes, and after a stop, it is short again", found == "60 1 2 none 1".split(), found)
+
+
 def look(deb, folder, tally):
     """All of it; what is in the package is in the folder then."""
     package = Package(deb)
@@ -139,3 +159,4 @@ def look(deb, folder, tally):
     program(package, tally)
     unpacked(package, folder)
     words(folder, tally)
+    pauses(folder, tally)
