@@ -82,7 +82,7 @@ class Place:
         self.folder = pathlib.Path(folder)
         self.register_port, self.page, self.tls = free_ports(3)
         self.own, self.etc, self.log, self.srv = (self.folder / name for name in ("own", "etc", "log", "srv"))
-        for one in (self.own, self.etc, self.etc / "private", self.log, self.srv):
+        for one in (self.own, self.etc, self.etc / "private", self.log, self.srv, self.folder / "run"):
             one.mkdir(mode=0o755)
         shutil.copytree(TOP / "desk", self.srv / "desk", ignore=shutil.ignore_patterns("run", "files"))
         for name in ("files", "run"):
@@ -138,7 +138,7 @@ class Place:
         return self.programs[-1]
 
     def start_register(self):
-        self.register = self.start(f"env PORT={self.register_port} DEADLINE={self.deadline} sh {self.lib}/serve")
+        self.register = self.start(f"env PORT={self.register_port} DEADLINE={self.deadline} RUNTIME_DIRECTORY={self.folder}/run sh {self.lib}/serve")
         wait_until(lambda: socket.socket().connect_ex(("127.0.0.1", self.register_port)) == 0, "the register")
 
     def stop_register(self, how=signal.SIGTERM):

@@ -67,7 +67,7 @@ def install(root, tally):
         printed += out
     tally.check("the files were counted, and looked at", "sections 5 points 5 staff 6" in printed and "look: employee KIM may hold" in printed and "look: point T1 can be locked" in printed, printed)
     status, out = root.run("; ".join(guide("cd /var/lib/gridclear")))
-    tally.check("the user reads the files", status == 0 and out == "sections 5 points 5 staff 6\n", out)
+    tally.check("the user reads the files", status == 0 and "employee KIM may hold" in out and "point T1 can be locked" in out, out)
     tally.check("the register answers", root.curl("/board", port=8080) == ("200", "BOARD 0\n"), root.curl("/board", port=8080))
     status, page = root.curl("/")
     tally.check("the page is there", status == "200" and "gridclear desk" in page, page)

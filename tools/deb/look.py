@@ -8,6 +8,7 @@ import pathlib
 import re
 import subprocess
 import tarfile
+import tempfile
 import time
 
 TOP = pathlib.Path(__file__).resolve().parent.parent.parent
@@ -132,16 +133,13 @@ def words(tree, tally):
     tally.check("the completion of subcommands", found == {*commands, "help", "--help", "--version"}, found)
 
 
-def pauses(tree, tally):
+def pauses(program, place, tally):
     """How long the register waits: one fault after another, after some minutes, and after it was stopped."""
-    place = tree / "run"
-    place.mkdir()
-
     def after(result, minutes=0):
         begun = time.time() - 60 * minutes
         (place / "begun").touch()
         os.utime(place / "begun", (begun, begun))
-        status, out = run("sh", str(tree / "usr/lib/gridclear/pause"), env=os.environ | {"RUNTIME_DIRECTORY": str(place), "SERVICE_RESULT": result})
+        status, out = run("sh", str(program), env=os.environ | {"RUNTIME_DIRECTORY": str(place), "SERVICE_RESULT": result})
         found = (place / "pause").read_text() if (place / "pause").exists() else "none\n"
         return found.strip() if (status, out) == (0, "") else out
 
@@ -159,4 +157,5 @@ def look(deb, folder, tally):
     program(package, tally)
     unpacked(package, folder)
     words(folder, tally)
-    pauses(folder, tally)
+    with tempfile.TemporaryDirectory(prefix="pauses-") as place:
+        pauses(folder / "usr/lib/gridclear/pause", pathlib.Path(place), tally)
