@@ -1,4 +1,4 @@
-"""Man pages from the Markdown of docs/ and package/: headings, paragraphs, blocks of lines, tables, code, bold, links."""
+"""Man pages from the Markdown of docs/ and package/: headings, paragraphs, blocks of lines, lists, tables, code, bold, links."""
 
 import re
 
@@ -35,6 +35,10 @@ def row_of(row):
     return f".TP\n{guarded(plain('  '.join(cell for cell in first if cell)))}\n{guarded(plain(last))}"
 
 
+def item_of(item):
+    return ".IP \\(bu 2\n" + "\n".join(guarded(line.strip()) for line in plain(item).splitlines())
+
+
 def parts(text):
     """The paragraphs, tables, headings and blocks of lines of a document."""
     return [part for part in re.split(r"\n\s*\n", text.strip("\n")) if part.strip()]
@@ -50,6 +54,8 @@ def body(text):
             out.append("\n".join([".PP", ".nf", ".RS 4", *(guarded(escaped(line[4:])) for line in lines), ".RE", ".fi"]))
         elif part.startswith("|"):
             out += [row_of(row) for row in lines[2:]]
+        elif part.startswith("- "):
+            out += [item_of(item) for item in re.split(r"\n- ", part[2:])]
         else:
             out.append(".PP\n" + "\n".join(guarded(line) for line in plain(part).splitlines()))
     return re.sub(r"(?m)^(\.SH .*\n)\.PP\n", r"\1", "\n".join(out) + "\n").removeprefix(".PP\n")
@@ -75,7 +81,7 @@ class Subcommands:
             if line.startswith("| `"):
                 usage, does = cells(line)
                 self.rows.setdefault(usage.strip("`").split()[0], []).append((usage, does))
-        offset = re.search(r"^((?:`\w+`(?:, | and )?)+) take `--offset", self.text, re.M).group(1)
+        offset = re.search(r"^- ((?:`\w+`(?:, | and )?)+) take `--offset", self.text, re.M).group(1)
         self.options = {name: set(re.findall(r"--[a-z][a-z-]*", " ".join(usage + does.split(";")[-1] for usage, does in rows)))
                         for name, rows in self.rows.items()}
         for name in re.findall(r"`(\w+)`", offset):
