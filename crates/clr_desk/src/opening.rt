@@ -125,7 +125,8 @@ fn built_staff(alloc: Global, rows: Vec<StaffRow>) -> Result<Staff, StoreFault>
     }
 }
 
-/// The book of loaded rows. It takes their shelves, and copies no row of these.
+/// The book of loaded rows. It takes their shelves, and copies of these rows the open records
+/// alone.
 pub(crate) fn book_of(loaded: LoadedShelves) -> Result<DeskBook, StoreFault>
     ensures register { (rows : Rows) → HasRows loaded rows
         → IfOk result (λ book. IsRegisterOf rows book.register) }
@@ -146,7 +147,8 @@ pub(crate) fn book_of(loaded: LoadedShelves) -> Result<DeskBook, StoreFault>
     let records = loaded.records.into_shelf();
     let steps = loaded.steps.into_shelf();
     let holds = loaded.holds.into_shelf();
-    Ok(book.with_shelves(records, steps, holds))
+    let filled = book.with_shelves(records, steps, holds)?;
+    Ok(filled)
 }
 
 /// The book of what a store has. The store is only read.

@@ -23,9 +23,9 @@ returns-clause-register c rows has =
           (subst (λ (sections : List SectionRow). IsGridOf sections c.args.loaded.points.items network) has.sections c.in_ok-network.ensures.built);
       employees = subst (λ (employees : List StaffRow). IsStaffOf employees staff) has.staff c.in_ok-staff.ensures.built;
       filled =
-          shelves_fill rows.states rows.holds rows.records rows.steps network staff c.in_ok-book.book.register c.with_shelves.result.register _ _ _
+          shelves_fill rows.states rows.holds rows.records rows.steps network staff c.in_ok-book.book.register c.in_ok-filled.filled.register _ _ _
           (c.in_ok-book.ensures.register ∙ ap (λ (states : List PointState). after_edits (map hand_edit states) (opening network staff)) (c.deref.ensures.value ∙ has.states))
-          c.with_shelves.ensures.register
+          c.in_ok-filled.ensures.register
           (c.into_shelf-records.ensures ∙ has.records_are)
           (c.into_shelf-steps.ensures ∙ has.steps_are)
           (c.into_shelf-holds.ensures ∙ has.holds_are);
