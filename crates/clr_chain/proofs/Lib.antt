@@ -1,4 +1,5 @@
 pub mod Begun
+pub mod CutSynced
 pub mod Cutting
 pub mod Ending
 pub mod Firsts

@@ -31,11 +31,18 @@ is_opened place bytes lines len end all at (left, cut, found) =
           ∙ found_again place bytes [] cut.kept (read_ahead lines left) found cut.lines (nothing_says_nothing place lines.end);
     }
 
+-- what is kept of the bytes and what is not are all of them
+pub all_found : (place : Place) (bytes : List ℕ) (lines : SeenAhead) (len : ℕ) → len ≡ length bytes → IsFound bytes (seen.Ahead lines) (found_in place bytes) → (len - lines.rest) + lines.rest ≡ length bytes
+all_found place bytes lines len all (left, cut, found) =
+    let count = cut.count in
+    omega (arith, all, count)
+
 pub not_cut : {D : Type 0} (seen : D → List ℕ) (may_leave : D → List ℕ → Type 0) (faults : D → ℕ) (place : Place) (old mid back : D) (lines : SeenAhead) (end : ℕ)
     → seen mid ≡ seen old → ((c : List ℕ) → may_leave mid c → may_leave old c) → faults mid ≡ faults old → IsOpened place (seen old) lines (take end (seen old))
-    → end ≤ length (seen old) → Cut end (seen mid) (seen back) → Follows (Cut end) (may_leave mid) (may_leave back) → MoreFaults (faults mid) (faults back)
+    → end + lines.rest ≡ length (seen old) → Cut end (seen mid) (seen back) → Follows (Cut end) (may_leave mid) (may_leave back) → MoreFaults (faults mid) (faults back)
     → WasNotCut seen may_leave faults place old back
-not_cut {D} seen may_leave faults place old mid back lines end same no_more count opened within cut kept cause =
+not_cut {D} seen may_leave faults place old mid back lines end same no_more count opened all cut kept cause =
+    let within : end ≤ length (seen old) = omega (arith, all) in
     let size = length-take-le end (seen old) within in
     let failed : FailedToCut seen may_leave faults end old back = record {
       cut = subst (λ (bytes : List ℕ). Cut end bytes (seen back)) same cut;

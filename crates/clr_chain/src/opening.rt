@@ -1,7 +1,6 @@
 //! The journal of a register is opened: it is looked through first, and cut last.
-ghost use Rattle.std.specs.Prelude.{◌≡◌, ◌⊎◌, ◌≤◌, ℕ, List, length, take, IfErr, IfOk, IsTrue};
-ghost use Rattle.sqlite_disk.specs.Disk.{Cut, Follows, MoreFaults};
-ghost use Rattle.clr_append.specs.Journal.{BeginsWith};
+ghost use Rattle.std.specs.Prelude.{◌≡◌, ◌⊎◌, ◌+◌, length, take, IfErr, IfOk, IsTrue, OnErr, OnOk};
+ghost use Rattle.sqlite_disk.specs.Disk.{Cut, Follows, MoreFaults, Only};
 ghost use Rattle.clr_journal.specs.Opening.{Unchanged};
 ghost use Rattle.clr_chain.specs.Faults.{CountsRefused};
 ghost use Rattle.clr_chain.specs.Finding.{found_in};
@@ -15,6 +14,7 @@ use clr_append::{Journal, OnDisk, cut_at};
 use clr_place::Place;
 use sqlite_disk::Disk;
 use std::alloc::Global;
+use std::io;
 
 /// A journal that was opened, and its lines that come after the register's.
 #[derive(Drop)]
@@ -26,8 +26,10 @@ pub struct OpenedChain<D: Disk> {
 /// Opens the journal on a disk, at the place that a register has in it.
 ///
 /// What the journal holds is synced first. What comes after the last line that holds its sum was
-/// never synced, and is cut off. A journal that is refused is left as it is. `OpenFailed` where the
-/// disk fails; after a sync that failed it may not be used.
+/// never synced, and is cut off; where there is any, the disk is synced again. So a crash leaves the
+/// text of the journal and no byte more: what was cut off does not come back after a later line. A
+/// journal that is refused is left as it is. `OpenFailed` where the disk fails; after a sync that
+/// failed it may not be used.
 pub fn open_chain<D: Disk + Drop>(
     alloc: Global,
     place: &Place,
@@ -38,8 +40,8 @@ pub fn open_chain<D: Disk + Drop>(
         → IsOpened place.now (D.Disk.seen disk) opened.ahead
         (⟦<OnDisk<D> as Journal>⟧.text opened.journal)) }
     ensures durable { IfOk result (λ opened. IsTrue (D.Disk.is_clean opened.journal.disk)
-        → (c : List ℕ) → ⟦<OnDisk<D> as Journal>⟧.may_leave opened.journal c
-        → BeginsWith (⟦<OnDisk<D> as Journal>⟧.text opened.journal) c) }
+        → Only (⟦<OnDisk<D> as Journal>⟧.text opened.journal)
+        (⟦<OnDisk<D> as Journal>⟧.may_leave opened.journal)) }
     ensures crash { IfOk result (λ opened.
         Follows (Cut (length (⟦<OnDisk<D> as Journal>⟧.text opened.journal)))
         (D.Disk.may_leave disk) (⟦<OnDisk<D> as Journal>⟧.may_leave opened.journal)) }
@@ -59,7 +61,7 @@ pub fn open_chain<D: Disk + Drop>(
 {
     let mut disk = disk;
     match ahead_on(alloc, place, &mut disk) {
-        Ok((ahead, end)) => match cut_synced(disk, end) {
+        Ok((ahead, end)) => match cut_synced(disk, end, ahead.rest) {
             Ok(journal) => Ok(OpenedChain { journal, ahead }),
             Err(disk) => Err((ChainFault::OpenFailed, disk)),
         },
@@ -78,8 +80,8 @@ fn ahead_on<D: Disk>(
     ensures opened { IfOk result (λ found. IsTrue (D.Disk.is_clean disk.new)
         → IsOpened place.now (D.Disk.seen disk.old) found.0
         (take found.1 (D.Disk.seen disk.old))) }
-    ensures within { IfOk result (λ found. IsTrue (D.Disk.is_clean disk.new)
-        → found.1 ≤ length (D.Disk.seen disk.old)) }
+    ensures all { IfOk result (λ found. IsTrue (D.Disk.is_clean disk.new)
+        → found.1 + found.0.rest ≡ length (D.Disk.seen disk.old)) }
     ensures refused { IfErr result (λ fault. IsTrue (D.Disk.is_clean disk.new)
         → Refuses fault (found_in place.now (D.Disk.seen disk.old))) }
     ensures read { WasRead D.Disk.seen D.Disk.may_leave D.Disk.is_clean D.Disk.is_usable
@@ -100,17 +102,16 @@ fn ahead_on<D: Disk>(
     }
 }
 
-/// The journal of a disk up to this place. What the disk holds is synced; then what comes after the
-/// place is cut off. Where the disk fails it is given back.
-fn cut_synced<D: Disk + Drop>(disk: D, end: usize) -> Result<OnDisk<D>, D>
+/// The journal of a disk up to this place, after which the disk has this many bytes: they are cut
+/// off, and what is left is synced. Where the disk fails it is given back.
+fn cut_synced<D: Disk + Drop>(disk: D, end: usize, rest: usize) -> Result<OnDisk<D>, D>
     requires { IsTrue (D.Disk.is_usable disk) }
-    ensures text { IfOk result (λ journal. end ≤ length (D.Disk.seen disk)
+    ensures text { IfOk result (λ journal. end + rest ≡ length (D.Disk.seen disk)
         → ⟦<OnDisk<D> as Journal>⟧.text journal ≡ take end (D.Disk.seen disk)) }
     ensures len { IfOk result (λ journal.
         length (⟦<OnDisk<D> as Journal>⟧.text journal) ≡ end) }
-    ensures durable { IfOk result (λ journal. end ≤ length (D.Disk.seen disk)
-        → (c : List ℕ) → ⟦<OnDisk<D> as Journal>⟧.may_leave journal c
-        → BeginsWith (take end (D.Disk.seen disk)) c) }
+    ensures durable { IfOk result (λ journal. end + rest ≡ length (D.Disk.seen disk)
+        → Only (take end (D.Disk.seen disk)) (⟦<OnDisk<D> as Journal>⟧.may_leave journal)) }
     ensures crash { IfOk result (λ journal. Follows (Cut end) (D.Disk.may_leave disk)
         (⟦<OnDisk<D> as Journal>⟧.may_leave journal)) }
     ensures whole { IfOk result (λ journal. ⟦<OnDisk<D> as Journal>⟧.found journal
@@ -127,8 +128,29 @@ fn cut_synced<D: Disk + Drop>(disk: D, end: usize) -> Result<OnDisk<D>, D>
         MoreFaults (D.Disk.faults disk) (D.Disk.faults back)) }
 {
     let mut disk = disk;
-    match disk.sync() {
+    match cut_off(&mut disk, end, rest) {
         Ok(()) => cut_at(disk, end),
         Err(_) => Err(disk),
     }
+}
+
+/// Syncs what a disk holds. Where it has bytes after this place, this many, they are cut off then,
+/// and the disk is synced again: a crash leaves none of them.
+fn cut_off<D: Disk>(disk: &mut D, end: usize, rest: usize) -> io::Result<()>
+    requires { IsTrue (D.Disk.is_usable disk.old) }
+    ensures durable { OnOk result (end + rest ≡ length (D.Disk.seen disk.old)
+        → Only (take end (D.Disk.seen disk.old)) (D.Disk.may_leave disk.new)) }
+    ensures usable { OnOk result (IsTrue (D.Disk.is_usable disk.new)) }
+    ensures count { OnOk result (D.Disk.faults disk.new ≡ D.Disk.faults disk.old) }
+    ensures cause { OnErr result (MoreFaults (D.Disk.faults disk.old) (D.Disk.faults disk.new)) }
+    ensures cut { Cut end (D.Disk.seen disk.old) (D.Disk.seen disk.new) }
+    ensures crash { Follows (Cut end) (D.Disk.may_leave disk.old) (D.Disk.may_leave disk.new) }
+    ensures clean { D.Disk.is_clean disk.new ≡ D.Disk.is_clean disk.old }
+{
+    disk.sync()?;
+    if rest == 0 {
+        return Ok(());
+    }
+    disk.set_len(end)?;
+    disk.sync()
 }
