@@ -1,8 +1,9 @@
 -- THE FIRST LINE OF A JOURNAL is a place: the id of the register's journal, and the number and the
 -- sum after which its lines go on. They are those of the last line of the part before it; in a
 -- first part the number is 0. It names the rules by which its commands were answered.
-use Rattle.std.specs.Prelude.{◌==◌, ℕ, List, codes, Option, None, Some, bytes_eq}
-use Rattle.std.specs.Prelude.{if◌then◌else◌, false, option_and_then, option_map}
+use Rattle.std.specs.Prelude.{◌==◌, ◌≡◌, ◌^◌, ℕ, nat_lt, List, codes, Option, None, Some, bytes_eq}
+use Rattle.std.specs.Prelude.{if◌then◌else◌, true, false, option_and_then, option_map}
+use Rattle.std.specs.Str.{is_utf8}
 use Rattle.serde_json.specs.Data.{Data, member, no_members, object, string}
 use Rattle.serde_json.specs.Find.{as_str}
 use Rattle.serde_json.specs.Written.{compact_text}
@@ -35,6 +36,12 @@ first_data place = first_data_by rules place
 -- THE TEXT OF A FIRST LINE, without its line feed
 unfoldable pub first_text : Place → List ℕ
 first_text place = first_text_by rules place
+
+-- A PLACE CAN BE PRINTED: its number has 64 bits, and its texts are UTF-8
+pub record CanBePrinted (place : Place) : Type 0 where
+  pub number : nat_lt place.number (2 ^ 64) ≡ true
+  pub id : is_utf8 place.id ≡ true
+  pub sum : is_utf8 place.sum ≡ true
 
 abbrev pub place_in : Data → Option Place
 place_in d =

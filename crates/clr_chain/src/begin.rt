@@ -3,9 +3,9 @@ ghost use Rattle.std.specs.Prelude.{◌≡◌, ◌≢◌, ◌<◌, ◌≤◌, []
 ghost use Rattle.std.specs.Prelude.{OnErr, string_bytes};
 ghost use Rattle.sqlite_disk.specs.Disk.{MoreFaults, Only};
 ghost use Rattle.clr_append.specs.Lines.{with_feed};
-ghost use Rattle.clr_chain.specs.First.{first_text};
+ghost use Rattle.clr_chain.specs.First.{CanBePrinted, first_text};
 ghost use Rattle.clr_chain.specs.OnDisk.{WasRead};
-ghost use Rattle.clr_chain.specs.Opening.{new_text};
+ghost use Rattle.clr_chain.specs.Opening.{CanBegin, new_text};
 
 use crate::fault::NewFault;
 use crate::first::{FRONT, print_first};
@@ -30,6 +30,7 @@ pub fn new_chain<D: Disk + Drop>(
     ensures text { IfOk result (λ journal. IsTrue (D.Disk.is_clean journal.disk)
         → ⟦<OnDisk<D> as Journal>⟧.text journal ≡ new_text first.now) }
     ensures short { IfOk result (λ _. length (new_text first.now) ≤ 4096) }
+    ensures can { IfOk result (λ _. CanBegin first.now) }
     ensures whole { IfOk result (λ journal. ⟦<OnDisk<D> as Journal>⟧.found journal
         ≡ ⟦<OnDisk<D> as Journal>⟧.text journal) }
     ensures durable { IfOk result (λ journal. IsTrue (D.Disk.is_clean journal.disk)
@@ -63,6 +64,7 @@ fn begin<D: Disk>(alloc: Global, first: &Place, disk: &mut D) -> Result<usize, N
         → D.Disk.seen disk.new ≡ new_text first.now) }
     ensures len { IfOk result (λ len. len ≡ length (new_text first.now)) }
     ensures short { OnOk result (length (new_text first.now) ≤ 4096) }
+    ensures can { OnOk result (CanBegin first.now) }
     ensures durable { OnOk result (Only (D.Disk.seen disk.new) (D.Disk.may_leave disk.new)) }
     ensures usable { OnOk result (IsTrue (D.Disk.is_usable disk.new)) }
     ensures count { OnOk result (D.Disk.faults disk.new ≡ D.Disk.faults disk.old) }
@@ -93,7 +95,8 @@ fn begin<D: Disk>(alloc: Global, first: &Place, disk: &mut D) -> Result<usize, N
 
 /// The text of a first line, with its line feed.
 fn first_line_text(alloc: Global, first: &Place) -> Result<String, AllocError>
-    ensures { IfOk result (λ text. string_bytes text ≡ new_text first.now) }
+    ensures text { IfOk result (λ text. string_bytes text ≡ new_text first.now) }
+    ensures can { IfOk result (λ _. CanBePrinted first.now) }
 {
     let mut text = print_first(alloc, first)?;
     text.push_str("\n")?;

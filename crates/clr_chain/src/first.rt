@@ -4,8 +4,8 @@ ghost use Rattle.serde_json.specs.Find.{as_str};
 ghost use Rattle.serde_json.specs.View.{view};
 ghost use Rattle.clr_text.specs.Reading.{value_of};
 ghost use Rattle.clr_journal.specs.Line.{at_key};
-ghost use Rattle.clr_chain.specs.First.{first_data_by, first_text, first_text_by, other_rules_in};
-ghost use Rattle.clr_chain.specs.First.{place_in, read_first};
+ghost use Rattle.clr_chain.specs.First.{CanBePrinted, first_data_by, first_text, first_text_by};
+ghost use Rattle.clr_chain.specs.First.{other_rules_in, place_in, read_first};
 ghost use Rattle.clr_chain.specs.Finding.{first_of, other_rules_of};
 
 use crate::values::is_same;
@@ -24,7 +24,8 @@ pub(crate) const FRONT: usize = 4096;
 /// The text of a first line, without its line feed.
 #[tactic(auto, unfolding(crate::specs::First::first_text))]
 pub fn print_first(alloc: Global, place: &Place) -> Result<String, AllocError>
-    ensures { IfOk result (λ text. string_bytes text ≡ first_text place.now) }
+    ensures text { IfOk result (λ text. string_bytes text ≡ first_text place.now) }
+    ensures can { IfOk result (λ _. CanBePrinted place.now) }
 {
     print_first_by(alloc, RULES, place)
 }
@@ -32,7 +33,8 @@ pub fn print_first(alloc: Global, place: &Place) -> Result<String, AllocError>
 /// The text of a first line that names the rules of this number, without its line feed.
 #[tactic(auto, unfolding(crate::specs::First::first_text_by))]
 fn print_first_by(alloc: Global, number: u64, place: &Place) -> Result<String, AllocError>
-    ensures { IfOk result (λ text. string_bytes text ≡ first_text_by number place.now) }
+    ensures text { IfOk result (λ text. string_bytes text ≡ first_text_by number place.now) }
+    ensures can { IfOk result (λ _. CanBePrinted place.now) }
 {
     let value = first_value(alloc, number, place)?;
     value.to_string(alloc)
@@ -40,7 +42,8 @@ fn print_first_by(alloc: Global, number: u64, place: &Place) -> Result<String, A
 
 /// The JSON value of a first line that names the rules of this number.
 fn first_value(alloc: Global, number: u64, place: &Place) -> Result<Value, AllocError>
-    ensures { IfOk result (λ value. view value ≡ first_data_by number place.now) }
+    ensures value { IfOk result (λ value. view value ≡ first_data_by number place.now) }
+    ensures can { IfOk result (λ _. CanBePrinted place.now) }
 {
     let id = Value::try_from_str(alloc, place.id.as_str())?;
     let sum = Value::try_from_str(alloc, place.sum.as_str())?;
