@@ -13,6 +13,7 @@ import socket
 import subprocess
 import sys
 import tempfile
+import time
 
 TOP = pathlib.Path(__file__).resolve().parent.parent.parent
 GRIDCLEAR = os.environ.get("GRIDCLEAR", str(TOP / "tools" / "gridclear"))
@@ -31,18 +32,25 @@ def look(title, good, found=""):
 
 
 def outcomes_counted(title, outcomes_of, seeds):
-    """How often each outcome came, of all seeds. One that begins with `differs: ` is a look that differs. Each processor has
-    a process: threads would wait for each other where one of them starts the program."""
-    counts = collections.Counter()
-    forked = multiprocessing.get_context("fork")
-    with concurrent.futures.ProcessPoolExecutor(os.cpu_count(), forked) as pool:
-        for outcomes in pool.map(outcomes_of, seeds):
-            for outcome in outcomes:
+    """How often each outcome came, and of how many seeds: of all, or of those that were begun within TRY_SECONDS, if that is set.
+    An outcome that begins with `differs: ` is a look that differs. Each processor has a process: threads would wait for each
+    other where one of them starts the program."""
+    counts, tried, end = collections.Counter(), 0, time.monotonic() + float(os.environ.get("TRY_SECONDS", "inf"))
+    with concurrent.futures.ProcessPoolExecutor(os.cpu_count(), multiprocessing.get_context("fork")) as pool:
+        futures = [pool.submit(outcomes_of, seed) for seed in seeds]
+        for future in futures:
+            if time.monotonic() > end:  # all at once: a further one begins as soon as another has ended
+                for one in futures:
+                    one.cancel()
+            if future.cancelled():
+                continue
+            tried += 1
+            for outcome in future.result():
                 if outcome.startswith("differs: "):
                     look(title, False, outcome)
                     outcome = "differs"
                 counts[outcome] += 1
-    return counts
+    return counts, tried
 
 
 def same(title, found, wanted):

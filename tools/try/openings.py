@@ -9,7 +9,8 @@ Of each the reckoning says which fault it is, or which lines are carried out and
 that and nothing more, and the register that is left has to be the one that its journal leads to. `journal` and `verify`
 have to name the lines that do not hold their sums. A loss of power may leave any sectors of what came after the last
 sync; the others have zeros, bytes of another file, or what an opening had cut off there: of these none is refused. Lines count what was tried, and the gaps between register and journal by their lines;
---full has each from 0 to 20 on each side. GRIDCLEAR names another program than tools/gridclear."""
+--full has each from 0 to 20 on each side. TRY_SECONDS, if it is set, is when the last shift begins. GRIDCLEAR names another
+program than tools/gridclear."""
 
 import collections
 import os
@@ -285,18 +286,18 @@ def openings_of(seed):
 
 
 def openings(_):
-    counts = outcomes_counted("an opening", openings_of, range(SEED, SEED + COUNT))
+    counts, tried = outcomes_counted("an opening", openings_of, range(SEED, SEED + COUNT))
     gaps, lines = ({name: counts.pop(name, 0) for name in names} for names in (GAPS, WITHDRAWN))
     lost = counts.pop(LOST, 0)
     counted = ", ".join(f"{count} {outcome}" for outcome, count in sorted(counts.items()))
     look(f"{sum(counts.values())} openings: {counted}", not counts["differs"], counted)
     kinds = ("opened, cut", "opened, level", "opened, rolled forward", "BadLine", "Differs", "OtherRegister", "TooShort")
-    look("each kind of outcome has some", COUNT < 14 or all(counts[kind] for kind in kinds), counted)
+    look("each kind of outcome has some", tried < 14 or all(counts[kind] for kind in kinds), counted)
     sides = (f"{side} {' '.join(str(gaps[f'{side} {size}']) for size in range(21))}" for side in ("behind", "ahead"))
     held = ", ".join(f"{count} with {name}" for name, count in lines.items())
     told = f"registers by lines, 0 to 20: {', '.join(sides)}; {held}; {lost} losses of power, each opened"
-    look("each gap on each side, and withdrawals in each kind, had some", COUNT < 2_000 or all((gaps | lines).values()), told)
-    print(f"{sum(counts.values())} openings of {COUNT} shifts: {counted}", told, sep="\n", flush=True)
+    look("each gap on each side, and withdrawals in each kind, had some", tried < 2_000 or all((gaps | lines).values()), told)
+    print(f"{sum(counts.values())} openings of {tried} shifts: {counted}", told, sep="\n", flush=True)
 
 
 if __name__ == "__main__":

@@ -8,7 +8,8 @@ rows come of it. The program has to report the same, with --dry-run too, which c
 the same rows. After an update that is accepted an opening finds the register good, and each clearance has
 its fence. The commands of what is open are answered as in a copy that was not updated, and each open record
 has a way back. Files that `init` refuses are refused with the same line. A line counts what was tried; of
-2,000 each obstacle has some. GRIDCLEAR names another program than tools/gridclear."""
+2,000 each obstacle has some. TRY_SECONDS, if it is set, is when the last register begins. GRIDCLEAR names another
+program than tools/gridclear."""
 
 import hashlib
 import json
@@ -294,11 +295,11 @@ def years(seed):
 
 
 def updates(_):
-    counts = outcomes_counted("an update", years, range(SEED, SEED + -(-COUNT // EACH)))
+    counts, _ = outcomes_counted("an update", years, range(SEED, SEED + -(-COUNT // EACH)))
     tried = ", ".join(f"{kind} {counts[kind]}" for kind in ("accepted", "files", *KINDS))
     look(f"{sum(counts.values())} updates: {tried}", not counts["differs"], f"{counts['differs']} differ")
     missing = [kind for kind in ("accepted", *KINDS) if not counts[kind]]
-    look("each obstacle came up", not missing or COUNT < ENOUGH, missing)
+    look("each obstacle came up", not missing or sum(counts.values()) < ENOUGH, missing)
 
 
 def too_large(folder):
