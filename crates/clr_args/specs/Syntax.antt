@@ -1,8 +1,9 @@
 -- The command line: its subcommands, and the arguments of each.
-use Rattle.std.specs.Prelude.{codes, true, neg_ℤ, pos, Some, List, [], ℕ}
-use Rattle.clap.specs.Words.{App, Rule, new_app, new_rule, with_rule, with_subcommand}
+use Rattle.std.specs.Prelude.{◌≡◌, codes, true, neg_ℤ, pos, IfOk, Result, Some, List, [], ℕ}
+use Rattle.clap.specs.Words.{App, Rule, app_of, new_app, new_rule, with_rule, with_subcommand}
 use Rattle.clap.specs.Simple.{new_shape}
 use Rattle.clap.specs.declared.builder.action.ArgAction.TheVariants.{Append, SetTrue}
+use Rattle.clap.specs.declared.builder.command.Command.{Command}
 use Rattle.clap.specs.declared.builder.value_parser.ValueParser.TheVariants.{Signed, Unsigned}
 
 -- an argument that has to be given, by its place
@@ -171,3 +172,7 @@ gridclear =
     (with_subcommand (with_subcommand (with_subcommand top fence.top) check.top) init.top) run.top)
     order.top) board.top) wayback.top) serve.top) journal.top) verify.top) update.top) archive.top)
     migrate.top
+
+-- a command line was written down, unless memory ran out
+abbrev pub IsWritten : {E : Type 0} → App → Result Command E → Type 0
+IsWritten app written = IfOk written (λ c. app_of c ≡ app)

@@ -1,6 +1,6 @@
 //! What the words of a command line come to: what they ask for, help, or why they do not parse.
 ghost use Rattle.std.specs.Prelude.{◌≡◌, ◌≢◌, IfOk, MatchOption, codes, map, option_map};
-ghost use Rattle.clap.specs.Words.{first_of, found_of, kind_of, rows_of};
+ghost use Rattle.clap.specs.Words.{app_of, first_of, found_of, kind_of, rows_of};
 ghost use Rattle.clr_args.specs.ArgumentWords.{flag_in, offset_in, word_in, words_in};
 ghost use Rattle.clr_args.specs.Parsed.{AsksArchive, AsksBoard, AsksFence, AsksFiles, AsksInit};
 ghost use Rattle.clr_args.specs.Parsed.{AsksMigrate, AsksNextPart, AsksOfJournal, AsksOrder};
@@ -8,6 +8,7 @@ ghost use Rattle.clr_args.specs.Parsed.{AsksRun, AsksServe, AsksUpdate, AsksVeri
 ghost use Rattle.clr_args.specs.Parsed.{AsksWayBack, IsMoreThanNext, IsNoInit, IsNoJournal};
 ghost use Rattle.clr_args.specs.Parsed.{IsNoRun, IsNoServe, IsNoVerify, IsParsedAs, IsSaid};
 ghost use Rattle.clr_args.specs.Parsed.{IsUnread, IsUnreadAs, Parses, run_usage};
+ghost use Rattle.clr_args.specs.Syntax.{gridclear};
 
 use crate::asked::{
     ArchiveArgs, Asked, BoardArgs, FenceArgs, Files, InitArgs, JournalArgs, MigrateArgs,
@@ -18,8 +19,8 @@ use crate::syntax;
 use crate::words::{
     count_of, deadline_of, flag_of, moment_of, offset_of, option_of, port_of, word_of, words_of,
 };
-use clap::ArgMatches;
 use clap::error::ErrorKind;
+use clap::{ArgMatches, Command};
 use std::alloc::{AllocError, Global};
 use std::convert::AsStr;
 
@@ -62,6 +63,18 @@ pub fn parse<'a, S: AsStr>(alloc: Global, words: &'a [S]) -> Result<Parsed<'a>, 
     ensures { IfOk result (Parses (map S.text words.now)) }
 {
     let mut command = syntax::command(alloc)?;
+    parsed_by(alloc, &mut command, words)
+}
+
+/// The same by the command line of gridclear, which stays.
+fn parsed_by<'a, S: AsStr>(
+    alloc: Global,
+    command: &mut Command<'a>,
+    words: &'a [S],
+) -> Result<Parsed<'a>, AllocError>
+    requires { app_of command.old ≡ gridclear }
+    ensures { IfOk result (Parses (map S.text words.now)) }
+{
     let matches = match command.try_get_matches_from_mut(words) {
         Ok(matches) => matches,
         Err(error) => return unparsed(alloc, &error),

@@ -4,8 +4,10 @@ ghost use Rattle.clap.specs.Words.{app_of};
 ghost use Rattle.clr_args.specs.Syntax.{gridclear, top};
 
 mod arguments;
+mod draft;
 mod subcommands;
 
+use self::draft::Draft;
 use clap::Command;
 use std::alloc::{AllocError, Global};
 
@@ -30,34 +32,21 @@ const VERSION: &str = "1.0.0";
 pub fn command<'a>(alloc: Global) -> Result<Command<'a>, AllocError>
     ensures { IfOk result (λ c. app_of c ≡ gridclear) }
 {
-    let bare = top(alloc);
-    let fence = subcommands::fence(alloc)?;
-    let with_fence = bare.subcommand(fence)?;
-    let check = subcommands::check(alloc)?;
-    let with_check = with_fence.subcommand(check)?;
-    let init = subcommands::init(alloc)?;
-    let with_init = with_check.subcommand(init)?;
-    let run = subcommands::run(alloc)?;
-    let with_run = with_init.subcommand(run)?;
-    let order = subcommands::order(alloc)?;
-    let with_order = with_run.subcommand(order)?;
-    let board = subcommands::board(alloc)?;
-    let with_board = with_order.subcommand(board)?;
-    let wayback = subcommands::wayback(alloc)?;
-    let with_wayback = with_board.subcommand(wayback)?;
-    let serve = subcommands::serve(alloc)?;
-    let with_serve = with_wayback.subcommand(serve)?;
-    let journal = subcommands::journal(alloc)?;
-    let with_journal = with_serve.subcommand(journal)?;
-    let verify = subcommands::verify(alloc)?;
-    let with_verify = with_journal.subcommand(verify)?;
-    let update = subcommands::update(alloc)?;
-    let with_update = with_verify.subcommand(update)?;
-    let archive = subcommands::archive(alloc)?;
-    let with_archive = with_update.subcommand(archive)?;
-    let migrate = subcommands::migrate(alloc)?;
-    let command = with_archive.subcommand(migrate)?;
-    Ok(command)
+    Draft::of(top(alloc))
+        .subcommand(subcommands::fence(alloc))
+        .subcommand(subcommands::check(alloc))
+        .subcommand(subcommands::init(alloc))
+        .subcommand(subcommands::run(alloc))
+        .subcommand(subcommands::order(alloc))
+        .subcommand(subcommands::board(alloc))
+        .subcommand(subcommands::wayback(alloc))
+        .subcommand(subcommands::serve(alloc))
+        .subcommand(subcommands::journal(alloc))
+        .subcommand(subcommands::verify(alloc))
+        .subcommand(subcommands::update(alloc))
+        .subcommand(subcommands::archive(alloc))
+        .subcommand(subcommands::migrate(alloc))
+        .end()
 }
 
 /// The command line without its subcommands.

@@ -1,10 +1,8 @@
-use Rattle.std.proofs.Common.{rules, ◌≡◌, ◌∙◌, ap₂, codes}
-use Rattle.clap.specs.Words.{app_of, new_app, with_rule}
 use Rattle.clr_args.proofs.syntax.subcommands.board.Goals as goal
 
 -- the command with each argument added in turn
 pub returns : goal.returns
 returns c =
-    let begun : app_of c.about.result ≡ new_app (codes "board") = search rules in
-    let first = c.in_ok-arg.ensures.shape c.required.ensures.local ∙ ap₂ with_rule begun c.required.ensures.rule in
-    c.in_ok-command.ensures.shape c.offset.ensures.local ∙ ap₂ with_rule first c.offset.ensures.rule
+    let first = c.arg.ensures _ _ c.required.ensures.rule c.required.ensures.local c.new.ensures in
+    let second = c.arg-2.ensures _ _ c.offset.ensures.rule c.offset.ensures.local first in
+    c.end.ensures _ second

@@ -1,13 +1,11 @@
-use Rattle.std.proofs.Common.{rules, ◌≡◌, ◌∙◌, ap₂, codes}
-use Rattle.clap.specs.Words.{app_of, new_app, with_rule}
 use Rattle.clr_args.proofs.syntax.subcommands.init.Goals as goal
 
 -- the command with each argument added in turn
 pub returns : goal.returns
 returns c =
-    let begun : app_of c.about.result ≡ new_app (codes "init") = search rules in
-    let first = c.in_ok-arg.ensures.shape c.required.ensures.local ∙ ap₂ with_rule begun c.required.ensures.rule in
-    let second = c.in_ok-arg-2.ensures.shape c.required-2.ensures.local ∙ ap₂ with_rule first c.required-2.ensures.rule in
-    let third = c.in_ok-arg-3.ensures.shape c.required-3.ensures.local ∙ ap₂ with_rule second c.required-3.ensures.rule in
-    let fourth = c.in_ok-arg-4.ensures.shape c.option.ensures.local ∙ ap₂ with_rule third c.option.ensures.rule in
-    c.in_ok-command.ensures.shape c.option-2.ensures.local ∙ ap₂ with_rule fourth c.option-2.ensures.rule
+    let first = c.arg.ensures _ _ c.required.ensures.rule c.required.ensures.local c.new.ensures in
+    let second = c.arg-2.ensures _ _ c.required-2.ensures.rule c.required-2.ensures.local first in
+    let third = c.arg-3.ensures _ _ c.required-3.ensures.rule c.required-3.ensures.local second in
+    let fourth = c.arg-4.ensures _ _ c.option.ensures.rule c.option.ensures.local third in
+    let fifth = c.arg-5.ensures _ _ c.option-2.ensures.rule c.option-2.ensures.local fourth in
+    c.end.ensures _ fifth

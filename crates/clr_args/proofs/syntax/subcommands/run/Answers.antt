@@ -1,11 +1,9 @@
-use Rattle.std.proofs.Common.{rules, ◌≡◌, ◌∙◌, ap₂, codes}
-use Rattle.clap.specs.Words.{app_of, new_app, with_rule}
 use Rattle.clr_args.proofs.syntax.subcommands.run.Goals as goal
 
 -- the command with each argument added in turn
 pub returns : goal.returns
 returns c =
-    let begun : app_of c.about.result ≡ new_app (codes "run") = search rules in
-    let first = c.in_ok-arg.ensures.shape c.option.ensures.local ∙ ap₂ with_rule begun c.option.ensures.rule in
-    let second = c.in_ok-arg-2.ensures.shape c.option-2.ensures.local ∙ ap₂ with_rule first c.option-2.ensures.rule in
-    c.in_ok-command.ensures.shape c.repeated.ensures.local ∙ ap₂ with_rule second c.repeated.ensures.rule
+    let first = c.arg.ensures _ _ c.option.ensures.rule c.option.ensures.local c.new.ensures in
+    let second = c.arg-2.ensures _ _ c.option-2.ensures.rule c.option-2.ensures.local first in
+    let third = c.arg-3.ensures _ _ c.repeated.ensures.rule c.repeated.ensures.local second in
+    c.end.ensures _ third

@@ -1,11 +1,13 @@
-use Rattle.std.proofs.Common.{◌∙◌, ap₂}
-use Rattle.clap.specs.Words.{with_rule}
 use Rattle.clr_args.proofs.syntax.subcommands.serve.Goals as goal
 
--- the command with each further argument added in turn
+-- the command with each argument added in turn
 pub returns : goal.returns
 returns c =
-    let first = c.in_ok-arg.ensures.shape c.at_most.ensures.local ∙ ap₂ with_rule c.in_ok-plain.ensures c.at_most.ensures.rule in
-    let second = c.in_ok-arg-2.ensures.shape c.flag.ensures.local ∙ ap₂ with_rule first c.flag.ensures.rule in
-    let third = c.in_ok-arg-3.ensures.shape c.option.ensures.local ∙ ap₂ with_rule second c.option.ensures.rule in
-    c.in_ok-command.ensures.shape c.option-2.ensures.local ∙ ap₂ with_rule third c.option-2.ensures.rule
+    let first = c.arg.ensures _ _ c.required.ensures.rule c.required.ensures.local c.new.ensures in
+    let second = c.arg-2.ensures _ _ c.number.ensures.rule c.number.ensures.local first in
+    let third = c.arg-3.ensures _ _ c.number-2.ensures.rule c.number-2.ensures.local second in
+    let fourth = c.arg-4.ensures _ _ c.at_most.ensures.rule c.at_most.ensures.local third in
+    let fifth = c.arg-5.ensures _ _ c.flag.ensures.rule c.flag.ensures.local fourth in
+    let sixth = c.arg-6.ensures _ _ c.option.ensures.rule c.option.ensures.local fifth in
+    let seventh = c.arg-7.ensures _ _ c.option-2.ensures.rule c.option-2.ensures.local sixth in
+    c.end.ensures _ seventh
