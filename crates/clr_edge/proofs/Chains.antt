@@ -4,7 +4,6 @@ use Rattle.std.specs.Prelude.{IsTrue}
 use Rattle.sqlite_disk.specs.Disk.{Cut, Follows, MoreFaults, Only}
 use Rattle.sqlite_disk.specs.declared.Disk as disk
 use Rattle.sqlite_disk.specs.declared.Files.{Files}
-use Rattle.clr_append.specs.Journal.{BeginsWith}
 use Rattle.clr_append.specs.declared.journal.Journal as append
 use Rattle.clr_journal.specs.Opening.{Unchanged}
 use Rattle.clr_chain.specs.Finding.{found_in}
@@ -35,7 +34,7 @@ module _ {Y D : Type 0} (has : Y → List ℕ → Files D → Y → Type 0) (let
   pub chain_at : {J : Type 0} (log : append.Ghosts J) (disk_of : J → D) (new : Y) (disk : D) (journal : J) (ahead : Ahead)
       → HasJournalDisk has lets_go old path new disk
       → (IsTrue (g.is_clean (disk_of journal)) → IsOpened place (g.seen disk) ahead (log.text journal))
-      → (IsTrue (g.is_clean (disk_of journal)) → (c : List ℕ) → log.may_leave journal c → BeginsWith (log.text journal) c)
+      → (IsTrue (g.is_clean (disk_of journal)) → Only (log.text journal) (log.may_leave journal))
       → log.found journal ≡ log.text journal → Follows (Cut (length (log.text journal))) (g.may_leave disk) (log.may_leave journal)
       → IsChainAt has lets_go g log disk_of old path place journal ahead new
   chain_at log disk_of new disk journal ahead (files, middle, had, gone, is) opened durable whole crash = record {

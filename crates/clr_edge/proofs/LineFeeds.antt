@@ -1,5 +1,5 @@
 -- Lines that line feeds end, in bytes that were read and bytes that are still to be read.
-use Rattle.std.proofs.Common.{◌≡◌, ◌∙◌, ◌+◌, ◌<◌, ◌≤◌, ℕ, Bool, true, false, cond, List, [], ◌∷◌, ◌++◌, length, take, drop, get_or, None, Option, Some, Vec, nat_lt}
+use Rattle.std.proofs.Common.{◌≡◌, ◌∙◌, ◌+◌, ◌-◌, ◌<◌, ◌≤◌, ℕ, Bool, true, false, cond, List, [], ◌∷◌, ◌++◌, length, take, drop, get_or, None, Option, Some, Vec, nat_lt}
 use Rattle.std.proofs.Common.{refl, ap, sym, subst, arith, length-take, length-drop, ltb-true, append_assoc, length-append}
 use Rattle.std.proofs.lemmas.List.{append-nil, drop-append-le, drop-drop, get_or-take}
 use Rattle.std.proofs.lemmas.List.Folds.{list_any_none}
@@ -7,11 +7,12 @@ use Rattle.std.proofs.lemmas.List.Sums.{fails_before_first, passes_at_first, spl
 use borrow.Author.Tests.{eqb-true}
 use Rattle.std.specs.Io.KnownBytes.{Consumes, IsAtEnd, Keeps, prepend_known}
 use Rattle.std.specs.List.{list_any, position_or_len}
-use Rattle.std.specs.Prelude.{IfSome, position}
+use Rattle.std.specs.Option.{option_map_or}
+use Rattle.std.specs.Prelude.{IfSome, position, slice_get}
 use Rattle.std.specs.declared.alloc.Global.{Global}
 use Rattle.clr_append.specs.Lines.{ended_lines, is_line_feed}
 use Rattle.clr_append.proofs.Pieces.{line_first}
-use Rattle.clr_edge.specs.Lines.{IsNextLine, IsTooLong}
+use Rattle.clr_edge.specs.Lines.{EndsAs, IsNextLine, IsTooLong, ends_whole}
 
 -- ---- the first line feed
 
@@ -81,3 +82,30 @@ pub too-long : (held : List ℕ) (first known : Option (List ℕ)) → Keeps fir
 too-long held None known keeps none more = tt
 too-long held (Some bytes) None keeps none more = absurd keeps
 too-long held (Some bytes) (Some xs) keeps none more = (held, xs, sym keeps, none, more)
+
+-- ---- how a file ends
+
+ends-after : (line rest : List ℕ) → ends_whole (line ++ 10 ∷ rest) ≡ ends_whole rest
+ends-after [] [] = refl
+ends-after [] (b ∷ rest) = refl
+ends-after (a ∷ []) rest = ends-after [] rest
+ends-after (a ∷ b ∷ line) rest = ends-after (b ∷ line) rest
+
+-- by its last byte
+ends-at : (b : ℕ) (rest : List ℕ) → ends_whole (b ∷ rest) ≡ option_map_or is_line_feed (slice_get (b ∷ rest) (length rest)) true
+ends-at b [] = refl
+ends-at b (c ∷ rest) = ends-at c rest
+
+pub ends-last : (bytes : List ℕ) → ends_whole bytes ≡ option_map_or is_line_feed (slice_get bytes (length bytes - 1)) true
+ends-last [] = refl
+ends-last (b ∷ rest) =
+    let last : length rest ≡ length (b ∷ rest) - 1 = omega (arith) in
+    ends-at b rest ∙ ap (λ (n : ℕ). option_map_or is_line_feed (slice_get (b ∷ rest) n) true) last
+
+-- after a line it ends as before
+pub line-ends : (line held rest : List ℕ) (first known : Option (List ℕ)) → Keeps first (prepend_known held known) → held ≡ line ++ 10 ∷ rest
+    → IfSome first (EndsAs (prepend_known rest known))
+line-ends line held rest None known keeps is = tt
+line-ends line held rest (Some bytes) None keeps is = absurd keeps
+line-ends line held rest (Some bytes) (Some xs) keeps is =
+    ap ends_whole (sym keeps ∙ ap (λ t. t ++ xs) is ∙ append_assoc line (10 ∷ rest) xs) ∙ ends-after line (rest ++ xs)

@@ -5,7 +5,6 @@ use Rattle.std.specs.declared.io.ErrorKind.TheVariants.{OutOfMemory}
 use Rattle.sqlite_disk.specs.Disk.{Cut, Follows, MoreFaults, Only}
 use Rattle.sqlite_disk.specs.declared.Disk as disk
 use Rattle.sqlite_disk.specs.declared.Files.{Files}
-use Rattle.clr_append.specs.Journal.{BeginsWith}
 use Rattle.clr_append.specs.declared.journal.Journal as append
 use Rattle.clr_journal.specs.Opening.{Unchanged}
 use Rattle.clr_chain.specs.Finding.{found_in}
@@ -69,8 +68,8 @@ HasJournalDisk {Y} {D} has lets_go old path new disk = (files : Files D) × (mid
 -- ---- a journal that is opened
 
 -- A JOURNAL OVER THE FILE AT A PATH, OPENED AT A PLACE: it has what the file held, up to the last
--- line that holds its sum, and these lines come after the place. A crash leaves that text, whatever
--- comes after it. The log of that file is let go as it was had
+-- line that holds its sum, and these lines come after the place. A crash leaves that text and no
+-- more. The log of that file is let go as it was had
 pub record IsChainAt {Y D J : Type 0} (has : Y → List ℕ → Files D → Y → Type 0)
     (lets_go : Y → D → Y → Type 0) (g : disk.Ghosts D) (log : append.Ghosts J) (disk_of : J → D)
     (old : Y) (path : List ℕ) (place : Place) (journal : J) (ahead : Ahead) (new : Y)
@@ -81,8 +80,8 @@ pub record IsChainAt {Y D J : Type 0} (has : Y → List ℕ → Files D → Y �
   pub gone : lets_go middle files.log new
   pub opened : IsTrue (g.is_clean (disk_of journal))
       → IsOpened place (g.seen files.db) ahead (log.text journal)
-  pub durable : IsTrue (g.is_clean (disk_of journal)) → (c : List ℕ)
-      → log.may_leave journal c → BeginsWith (log.text journal) c
+  pub durable : IsTrue (g.is_clean (disk_of journal))
+      → Only (log.text journal) (log.may_leave journal)
   pub whole : log.found journal ≡ log.text journal
   pub crash : Follows (Cut (length (log.text journal))) (g.may_leave files.db)
       (log.may_leave journal)

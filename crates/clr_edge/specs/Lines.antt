@@ -1,8 +1,8 @@
 -- THE LINES OF A FILE, one after the other.
-use Rattle.std.specs.Prelude.{◌≡◌, ◌<◌, ℕ, List, [], ◌∷◌, ◌++◌, None, Option, Some, Vec, drop}
-use Rattle.std.specs.Prelude.{length, option_map}
+use Rattle.std.specs.Prelude.{◌≡◌, ◌<◌, ℕ, Bool, true, List, [], ◌∷◌, ◌++◌, None, Option, Some}
+use Rattle.std.specs.Prelude.{Vec, drop, length, option_map}
 use Rattle.std.specs.declared.alloc.Global.{Global}
-use Rattle.clr_append.specs.Lines.{ended_lines}
+use Rattle.clr_append.specs.Lines.{ended_lines, is_line_feed}
 use Rattle.clr_edge.specs.declared.lines.Lines.{Lines}
 
 -- what was read and not given yet
@@ -24,3 +24,16 @@ IsNextLine (Some line) (Some after) bytes =
 abbrev pub IsTooLong : List ℕ → Type 0
 IsTooLong bytes = (front : List ℕ) × (rest : List ℕ) × (bytes ≡ front ++ rest)
     × (ended_lines front ≡ []) × (1048576 < length front)
+
+-- ---- the end of a file
+
+-- A TEXT ENDS WHOLE: it has no byte, or its last is a line feed
+abbrev pub ends_whole : List ℕ → Bool
+ends_whole [] = true
+ends_whole (b ∷ []) = is_line_feed b
+ends_whole (b ∷ c ∷ rest) = ends_whole (c ∷ rest)
+
+-- what is left after some of it ends as all of it does
+abbrev pub EndsAs : Option (List ℕ) → List ℕ → Type 0
+EndsAs None bytes = ⊥
+EndsAs (Some after) bytes = ends_whole bytes ≡ ends_whole after

@@ -26,7 +26,8 @@ pub struct Lines {
 }
 
 impl Lines {
-    ghost use Rattle.clr_edge.specs.Lines.{IsNextLine, IsTooLong, held_of, left_of};
+    ghost use Rattle.clr_edge.specs.Lines.{EndsAs, IsNextLine, IsTooLong, ends_whole, held_of};
+    ghost use Rattle.clr_edge.specs.Lines.{left_of};
 
     /// Nothing was read yet.
     pub fn new(alloc: Global) -> Lines
@@ -39,7 +40,7 @@ impl Lines {
     }
 
     /// The next line, without its line feed. None at the end of the file: what no line feed ends is
-    /// passed over.
+    /// none, and stays held.
     ///
     /// `ReadFailed` where the reader failed, `TooLong` where a line has more than 1,048,576 bytes,
     /// `NoMemory` where memory ran out.
@@ -52,6 +53,9 @@ impl Lines {
             (IsNextLine line (left_of self.new (R.remaining reader.new)))) }
         ensures short { IfOk result (λ line.
             IfSome line (λ text. length text.items ≤ 1_048_576)) }
+        ensures ends { IfOk result (λ _. IfSome (left_of self.old (R.remaining reader.old))
+            (EndsAs (left_of self.new (R.remaining reader.new)))) }
+        ensures none { IfOk result (λ line. IfNone line (IsAtEnd (R.remaining reader.new))) }
         ensures long { IsErrOf result ReadFault.TooLong
             → IfSome (left_of self.old (R.remaining reader.old)) IsTooLong }
         ensures cause { IsErrOf result ReadFault.ReadFailed
@@ -71,6 +75,16 @@ impl Lines {
         match self.take_line(alloc)? {
             Some(line) => Ok(Some(line)),
             None => Err(ReadFault::TooLong),
+        }
+    }
+
+    /// Whether what is held ends whole. At the end of a file this is whether the file does.
+    pub fn ends_whole(&self) -> bool
+        ensures { result ≡ ends_whole (held_of self.now) }
+    {
+        match self.held[self.given..].last() {
+            Some(byte) => *byte == b'\n',
+            None => true,
         }
     }
 
