@@ -26,7 +26,7 @@ returns-clause-crash g c =
     let new = state g.S.Store c.take_steps.new.self in
     let keys : c.as_slice.result.now ≡ map step_key (steps_that_go c.args.before R) = c.as_slice.ensures.value ∙ c.in_ok-keys.ensures in
     survives_weaker old new _ (AreArchived old.now c.args.before R)
-    (λ _ trees left has. subst (AreTables trees) (ap (λ (l : List StepKey). without_steps l (tables_of R)) keys ∙ tables_archived c.args.before R) (left (tables_of R) has))
+    (λ _ trees left has. subst (AreTables trees) (ap (λ (l : List StepKey). without_steps l (tables_of R)) keys ∙ tables_archived c.args.before R) (left (tables_of R) has).0)
     c.take_steps.ensures.crash
 
 pub returns-in_err-take_steps-clause-crash : goal.returns-in_err-take_steps-clause-crash
@@ -36,7 +36,7 @@ returns-in_err-take_steps-clause-crash g c =
     let new = state g.S.Store c.take_steps.new.self in
     let keys : c.as_slice.result.now ≡ map step_key (steps_that_go c.args.before R) = c.as_slice.ensures.value ∙ c.in_ok-keys.ensures in
     survives_weaker old new _ (AreArchived old.now c.args.before R)
-    (λ _ trees left has. subst (AreTables trees) (ap (λ (l : List StepKey). without_steps l (tables_of R)) keys ∙ tables_archived c.args.before R) (left (tables_of R) has))
+    (λ _ trees left has. subst (AreTables trees) (ap (λ (l : List StepKey). without_steps l (tables_of R)) keys ∙ tables_archived c.args.before R) (left (tables_of R) has).0)
     c.take_steps.ensures.crash
 
 pub returns-in_err-keys-clause-crash : goal.returns-in_err-keys-clause-crash

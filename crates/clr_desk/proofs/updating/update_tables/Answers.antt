@@ -72,7 +72,7 @@ returns-in_ok-update-in-Accepted-clause-crash g c =
       is.0,
       subst (AreTables trees)
           (ap (λ (states : List PointState). tables_renewed after.network after.staff states (tables_of R)) c.deref.ensures.value ∙ tables_after R u after is.1)
-          (left (tables_of R) has),
+          (left (tables_of R) has).0,
     ))
     c.update.ensures.crash
 
@@ -90,7 +90,7 @@ returns-in_err-update-in-Accepted-clause-crash g c =
       is.0,
       subst (AreTables trees)
           (ap (λ (states : List PointState). tables_renewed after.network after.staff states (tables_of R)) c.deref.ensures.value ∙ tables_after R u after is.1)
-          (left (tables_of R) has),
+          (left (tables_of R) has).0,
     ))
     c.update.ensures.crash
 
