@@ -5,18 +5,23 @@ ghost use Rattle.clr_answer.specs.Decision.{is_accepted};
 ghost use Rattle.clr_place.specs.declared.place.Place.{Place};
 ghost use Rattle.clr_tables.specs.Tables.{place_row};
 ghost use Rattle.clr_load.specs.Stored.{ArePlaced};
+ghost use Rattle.clr_store.specs.Renewed.{AreStatesOf, tables_renewed};
+ghost use Rattle.clr_store.specs.StepsTaken.{without_steps};
 ghost use Rattle.clr_desk.specs.Faults.{IsOfKeeper};
-ghost use Rattle.clr_desk.specs.Placing.{CommitsAt};
+ghost use Rattle.clr_desk.specs.Placing.{CommitsAt, TurnsAt};
 
 use crate::commit::Commit;
 use crate::desk_fault::DeskFault;
+use clr_net::Network;
 use clr_place::Place;
-use clr_rules::{Change, Command, Reply};
+use clr_rules::{Change, Command, PointState, Reply, StepKey};
+use clr_staff::Staff;
 use clr_store::Store;
 use sqlite::Alter;
 use std::alloc::Global;
 
-/// Keeps, beside what accepted commands change, the place that the register has in its journal.
+/// Keeps, beside what accepted commands change, the place that the register has in its journal; and
+/// with it what an update and an archive change.
 pub trait CommitAt: Commit {
     /// That trees have this place, or have none.
     ghost has_place: { Trees → Option Place → Type 0 };
@@ -41,6 +46,27 @@ pub trait CommitAt: Commit {
         ensures commits { CommitsAt has_place (Self.kept self.old) (Self.kept self.new)
             [] place.now result }
         ensures fault { IfErr result (IsOfKeeper Self.fails) };
+
+    /// Keeps another network, another staff and the states of the network's points, and the place
+    /// after it: all, or nothing.
+    fn update_at(
+        &mut self,
+        network: &Network,
+        staff: &Staff,
+        states: &[PointState],
+        place: &Place,
+    ) -> Result<(), DeskFault>
+        requires { AreStatesOf network.now.points states.now }
+        ensures turns { TurnsAt has_place (Self.kept self.old) (Self.kept self.new)
+            (tables_renewed network.now staff.now states.now) place.now result }
+        ensures fault { IfErr result (IsOfKeeper Self.fails) };
+
+    /// Takes the steps of these keys out of what is kept, and keeps the place after it: both, or
+    /// neither.
+    fn take_steps_at(&mut self, keys: &[StepKey], place: &Place) -> Result<(), DeskFault>
+        ensures turns { TurnsAt has_place (Self.kept self.old) (Self.kept self.new)
+            (without_steps keys.now) place.now result }
+        ensures fault { IfErr result (IsOfKeeper Self.fails) };
 }
 
 /// A store keeps the place in a table of its own, in the transaction of the change.
@@ -63,6 +89,22 @@ impl<S: Alter + Drop> CommitAt for Store<S> {
             edits: Vec::new(alloc),
         };
         self.commit_at(&none, place)?;
+        Ok(())
+    }
+
+    fn update_at(
+        &mut self,
+        network: &Network,
+        staff: &Staff,
+        states: &[PointState],
+        place: &Place,
+    ) -> Result<(), DeskFault> {
+        self.update_at(network, staff, states, place)?;
+        Ok(())
+    }
+
+    fn take_steps_at(&mut self, keys: &[StepKey], place: &Place) -> Result<(), DeskFault> {
+        self.take_steps_at(keys, place)?;
         Ok(())
     }
 }
