@@ -8,7 +8,7 @@ ghost use Rattle.clr_rules.specs.Register.{Register};
 ghost use Rattle.clr_rules.specs.Run.{after};
 ghost use Rattle.clr_place.specs.declared.place.Place.{Place as AnyPlace};
 ghost use Rattle.clr_tables.specs.Tables.{tables_of};
-ghost use Rattle.clr_journal.specs.Journals.{turn_after, withdraws};
+ghost use Rattle.clr_journal.specs.Journals.{next_place, turn_after, withdraws};
 ghost use Rattle.clr_journal.specs.Line.{Entry, carried, entry_of, is_accepted, withdrawn};
 ghost use Rattle.clr_journal.specs.declared.reading.Turn.{Turn};
 ghost use Rattle.clr_chain.specs.First.{end_at, read_first};
@@ -175,6 +175,13 @@ impl<'a> Checking<'a> {
             Step::Bad(number) => Err(CheckFault::BadLine(number)),
             Step::Holds(line) => self.next(alloc, line),
         }
+    }
+
+    /// The number that a line more would have.
+    pub fn next_number(&self) -> u64
+        ensures { result ≡ next_place self.now.walk.end.turn.last }
+    {
+        self.walk.end.turn.last.saturating_add(1)
     }
 
     /// The first line of the next part, as it is without its line feed.
