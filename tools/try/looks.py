@@ -19,7 +19,7 @@ TOP = pathlib.Path(__file__).resolve().parent.parent.parent
 GRIDCLEAR = os.environ.get("GRIDCLEAR", str(TOP / "tools" / "gridclear"))
 EXAMPLES = TOP / "examples"
 FILES = [str(EXAMPLES / f"{name}.csv") for name in ("sections", "points", "staff")]
-ALLOWED = 60  # seconds for one run of the program
+ALLOWED = float(os.environ.get("TRY_ALLOWED", "60"))  # seconds for one run of the program; a busy machine needs more
 
 REQUEST = '{"at":1795503600,"by":"JONES","do":"request","section":"L2"}'
 REASONS = {200: "OK", 400: "Bad Request", 403: "Forbidden", 404: "Not Found", 405: "Method Not Allowed", 409: "Conflict",
