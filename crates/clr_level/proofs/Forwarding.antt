@@ -1,6 +1,9 @@
 -- How far a register has come of the lines after its place.
-use Rattle.std.proofs.Common.{◌≡◌, ◌∙◌, Bool, true, false, cond, ℕ, List, [], ◌∷◌, ◌++◌, map, Option, None, Some, IfSome, IfErr, IfOk, OnErr, OnOk, Result, Ok, Err, refl, ap, sym, subst, append_assoc, append-nil, reverse}
-use Rattle.std.proofs.lemmas.List.{reverse-append, reverse-reverse}
+use Rattle.std.proofs.Common.{◌≡◌, ◌∙◌, Bool, true, false, cond, ℕ, List, [], ◌∷◌, ◌++◌, ◌||◌, map, Option, None, Some, IfSome, IfErr, IfOk, OnErr, OnOk, Result, Ok, Err, refl, ap, sym, subst, append_assoc, append-nil, reverse, inr}
+use Rattle.std.proofs.Math.Bool.{or-false, or-true}
+use Rattle.std.proofs.lemmas.List.{map-append, reverse-append, reverse-reverse}
+use Rattle.std.proofs.lemmas.List.Folds.{list_any-append}
+use Rattle.std.specs.List.{list_any}
 use Rattle.sqlite.specs.State.{State}
 use Rattle.serde_json.specs.Data.{Data}
 use Rattle.serde_json.specs.View.{view}
@@ -14,22 +17,26 @@ use Rattle.clr_rules.specs.declared.command.Command.{Command}
 use Rattle.clr_rules.specs.declared.reply.Reply.{Reply}
 use Rattle.clr_rules.proofs.keeps.EveryKind.{runs_keep_good}
 use Rattle.clr_text.specs.Replies.{reply_data}
-use Rattle.clr_journal.specs.Journals.{carried_out, withdraws}
+use Rattle.clr_journal.specs.Journals.{carried_out, next_place, withdraws}
 use Rattle.clr_journal.specs.Line.{Entry, entry_of, is_accepted, withdrawn}
 use Rattle.clr_journal.specs.declared.line.Carried.{Carried}
 use Rattle.clr_journal.specs.declared.line.Line.{Line}
 use Rattle.clr_journal.specs.declared.line.Line.TheVariants as line
 use Rattle.clr_journal.proofs.JournalsRead.{withdrawn_is_left_out}
 use Rattle.clr_chain.specs.Level.{IsRunOf, place_after, place_with}
+use Rattle.clr_chain.specs.Link.{has_fraction}
 use Rattle.clr_chain.proofs.LevelKept.{carried_out-append}
 use Rattle.clr_desk.specs.Given.{LeadsTo}
 use Rattle.clr_desk.specs.Taking.{Hearing, Taking}
 use Rattle.clr_desk.specs.declared.desk.Desk.{Desk}
+use Rattle.clr_desk.specs.declared.desk_fault.DeskFault.{DeskFault}
 use Rattle.clr_desk.proofs.Givings.{leads_itself}
-use Rattle.clr_level.specs.Forward.{AreAnswered, AreShallow, Arrives, HasCome, HasStopped, IsAccepted, StopsAt, Went, entry_with, open_after, open_entries, opened_by}
+use Rattle.clr_level.specs.Forward.{AreAnswered, AreShallow, Arrives, HasCome, HasFractionAt, HasStopped, IsAccepted, IsOfCarrying, IsOfForward, StopsAt, Went}
+use Rattle.clr_level.specs.Forward.{entry_with, open_after, open_entries, opened_by}
 use Rattle.clr_desk.specs.Placing.{Placing}
 use Rattle.clr_level.specs.Placing.{ComesTo, IsAt, StaysShown}
 use Rattle.clr_level.specs.declared.fault.OpeningFault.{OpeningFault}
+use Rattle.clr_level.specs.declared.fault.OpeningFault.TheVariants as opening
 use Rattle.clr_level.proofs.Accepting.{accepted_data}
 use Rattle.clr_level.proofs.Chains.{accepted_out, front_kept, no_run, place_more, refused_out, reply_in_run, run_more, withdrawn_out}
 use Rattle.clr_level.proofs.Places.{at_moves, at_stays}
@@ -245,6 +252,19 @@ module _ (has_place : Placing) (R : Register) (place : Place) (lines : List Entr
       → HasStopped has_place R place lines S s
   stopped S s at open_one rest come = record { at = at; open_one = open_one; rest = rest; come = come }
 
+  -- at a line that has a fraction
+  pub stopped_at_fraction : (S : Register) (s : State) (at : Place) (open_one : Option Carried) (entry : Entry) (rest : List Entry) (number : ℕ)
+      → HasCome has_place R place lines S s at open_one (entry ∷ rest) → has_fraction entry ≡ true → number ≡ next_place at.number
+      → HasFractionAt has_place R place lines number S s
+  stopped_at_fraction S s at open_one entry rest number come fraction number_is = record {
+    stopped = record { at = at; open_one = open_one; rest = entry ∷ rest; come = come };
+    entry = entry;
+    later = rest;
+    rest_is = refl;
+    fraction = fraction;
+    number_is = number_is;
+  }
+
 pub on_ok : {A B : Type 0} (came : Result A B) (value : A) (P : Type 0) → came ≡ Ok value → OnOk came P → P
 on_ok {A} {B} came value P is holds = subst (λ (r : Result A B). OnOk r P) is holds
 
@@ -256,6 +276,50 @@ if_ok {A} {B} came value P is holds = subst (λ (r : Result A B). IfOk r P) is h
 
 pub if_err : {A B : Type 0} (came : Result A B) (fault : B) (P : B → Type 0) → came ≡ Err fault → IfErr came P → P fault
 if_err {A} {B} came fault P is holds = subst (λ (r : Result A B). IfErr r P) is holds
+
+-- ---- the faults
+
+pub has_one : (entry : Entry) → has_fraction entry ≡ true → list_any has_fraction (entry ∷ []) ≡ true
+has_one entry is = ap (λ (b : Bool). b || false) is
+
+-- of more lines
+pub among : (fails : DeskFault → Type 0) (lines more : List Entry) (fault : OpeningFault) → (list_any has_fraction lines ≡ true → list_any has_fraction more ≡ true)
+    → IsOfCarrying fails lines fault → IsOfCarrying fails more fault
+among fails lines more (opening.OtherRules n) within is = is
+among fails lines more opening.OtherRegister within is = is
+among fails lines more opening.TooShort within is = is
+among fails lines more (opening.Differs n) within is = is
+among fails lines more (opening.BadLine n) within is = within is
+among fails lines more (opening.Desk cause) within is = is
+
+pub none_has : (more : List Entry) → list_any has_fraction [] ≡ true → list_any has_fraction more ≡ true
+none_has more is = absurd (cc is)
+
+pub of_more : {A : Type 0} (fails : DeskFault → Type 0) (lines more : List Entry) (came : Result A OpeningFault) (fault : OpeningFault) → came ≡ Err fault
+    → (list_any has_fraction lines ≡ true → list_any has_fraction more ≡ true) → IfErr came (IsOfCarrying fails lines) → IsOfCarrying fails more fault
+of_more fails lines more came fault is within of = among fails lines more fault within (if_err came fault (IsOfCarrying fails lines) is of)
+
+-- one that is of none
+pub at_its_end : (fails : DeskFault → Type 0) (lines : List Entry) (came : Result (Unit {0}) OpeningFault) → IfErr came (IsOfCarrying fails [])
+    → IfErr came (IsOfCarrying fails lines)
+at_its_end fails lines (Ok done) of = tt
+at_its_end fails lines (Err fault) of = among fails [] lines fault (none_has lines) of
+
+pub of_forward : (fails : DeskFault → Type 0) (lines : List Entry) (came : Result (Unit {0}) OpeningFault) → IfErr came (IsOfCarrying fails lines)
+    → IfErr came (IsOfForward fails lines)
+of_forward fails lines (Ok done) of = tt
+of_forward fails lines (Err fault) of = inr of
+
+-- one of the lines is the one after the first
+pub in_lines : (before after : List Line) (one : Line) (lines : List Line) → lines ≡ before ++ one ∷ after
+    → list_any has_fraction (entry_of one ∷ []) ≡ true → list_any has_fraction (map entry_of lines) ≡ true
+in_lines before after one lines all is =
+    let own : has_fraction (entry_of one) ≡ true = sym (or-false (has_fraction (entry_of one))) ∙ is in
+    ap (λ (ls : List Line). list_any has_fraction (map entry_of ls)) all
+    ∙ ap (list_any has_fraction) (map-append entry_of before (one ∷ after))
+    ∙ list_any-append has_fraction (map entry_of before) (entry_of one ∷ map entry_of after)
+    ∙ ap (λ (b : Bool). list_any has_fraction (map entry_of before) || (b || list_any has_fraction (map entry_of after))) own
+    ∙ or-true (list_any has_fraction (map entry_of before))
 
 -- a line that has a command withdraws none
 pub carried_kept : (one : Line) (c : Carried) (rest : List Entry) → one ≡ line.Carried c → withdraws (entry_of one ∷ rest) ≡ false
@@ -309,6 +373,8 @@ pub record SoFar {K : Type 0} (kept : K → State) (takes : Taking K) (hears : H
   pub come : IsGood desk.book.register → AreAnswered desk.book.register (map entry_of lines) → withdraws (map entry_of lines) ≡ false → AreShallow (map entry_of lines) → IsAt has_place (kept desk.store) place
       → HasCome has_place desk.book.register place (map entry_of lines) now.book.register (kept now.store) at open_one (map entry_of (reverse left))
   pub led : LeadsTo kept takes hears desk now
+  pub before : List Line
+  pub all : lines ≡ before ++ reverse left
 
 module _ {K : Type 0} (kept : K → State) (takes : Taking K) (hears : Hearing K) (has_place : Placing) (desk : Desk K) (place : Place) (lines : List Line) where
   pub none_yet : (left : List Line) → left ≡ reverse lines → SoFar kept takes hears has_place desk desk place place None lines left
@@ -318,7 +384,21 @@ module _ {K : Type 0} (kept : K → State) (takes : Taking K) (hears : Hearing K
         (sym (ap (λ ls. map entry_of (reverse ls)) is ∙ ap (map entry_of) (reverse-reverse lines)))
         (begun has_place desk.book.register place (map entry_of lines) (kept desk.store) begins shallow at);
     led = leads_itself kept takes hears desk;
+    before = [];
+    all = sym (ap reverse is ∙ reverse-reverse lines);
   }
+
+  -- the next line is one of them
+  pub one_of_all : (now : Desk K) (at : Place) (open_one : Option Carried) (left rest : List Line) (one : Line) → left ≡ rest ++ one ∷ []
+      → (so_far : SoFar kept takes hears has_place desk now place at open_one lines left) → lines ≡ SoFar.before so_far ++ one ∷ reverse rest
+  one_of_all now at open_one left rest one is so_far =
+      so_far.all ∙ ap (λ ls. so_far.before ++ ls) (ap reverse is ∙ reverse-append rest (one ∷ []))
+
+  -- and is before those that are left then
+  pub one_before : (now : Desk K) (at : Place) (open_one : Option Carried) (left rest : List Line) (one : Line) → left ≡ rest ++ one ∷ []
+      → (so_far : SoFar kept takes hears has_place desk now place at open_one lines left) → lines ≡ (SoFar.before so_far ++ one ∷ []) ++ reverse rest
+  one_before now at open_one left rest one is so_far =
+      one_of_all now at open_one left rest one is so_far ∙ sym (append_assoc so_far.before (one ∷ []) (reverse rest))
 
   taken_last : (left rest : List Line) (one : Line) → left ≡ rest ++ one ∷ [] → map entry_of (reverse left) ≡ entry_of one ∷ map entry_of (reverse rest)
   taken_last left rest one is = ap (λ ls. map entry_of (reverse ls)) is ∙ ap (map entry_of) (reverse-append rest (one ∷ []))

@@ -1,6 +1,7 @@
 -- ROLLING FORWARD: what an opening carries out of the lines after a register's place.
 use Rattle.std.specs.Prelude.{◌≡◌, ◌≢◌, ◌≤◌, ◌⊎◌, ℕ, true, false, List, [], ◌∷◌, ◌++◌, Option}
 use Rattle.std.specs.Prelude.{None, Some, IfSome, Result, Ok, Err, ⊤, if◌then◌else◌, ◌&&◌, not}
+use Rattle.std.specs.List.{list_any}
 use Rattle.serde_json.specs.Data.{depth}
 use Rattle.serde_json.specs.View.{view}
 use Rattle.sqlite.specs.State.{State}
@@ -11,16 +12,18 @@ use Rattle.clr_rules.specs.declared.reply.Reply.{Reply}
 use Rattle.clr_answer.specs.Decision.{is_accepted as accepts}
 use Rattle.clr_place.specs.declared.place.Place.{Place}
 use Rattle.clr_text.specs.Replies.{reply_data}
-use Rattle.clr_journal.specs.Journals.{carried_out, withdraws}
+use Rattle.clr_journal.specs.Journals.{carried_out, next_place, withdraws}
 use Rattle.clr_journal.specs.Line.{Entry, carried, is_accepted, withdrawn}
 use Rattle.clr_journal.specs.declared.line.Carried.{Carried}
 use Rattle.clr_journal.specs.declared.line.Line.{Line}
 use Rattle.clr_journal.specs.declared.line.Line.TheVariants as line
 use Rattle.clr_chain.specs.Chain.{chain_text}
 use Rattle.clr_chain.specs.Level.{IsLevel, IsRunOf, place_after}
+use Rattle.clr_chain.specs.Link.{has_fraction}
 use Rattle.clr_chain.specs.declared.finding.Ahead.{Ahead}
 use Rattle.clr_chain.specs.declared.finding.Found.{Found}
 use Rattle.clr_chain.specs.declared.finding.Found.TheVariants as found
+use Rattle.clr_desk.specs.Faults.{IsOfKeeper}
 use Rattle.clr_desk.specs.Given.{LeadsTo}
 use Rattle.clr_desk.specs.Placing.{CommitsAt, Placing}
 use Rattle.clr_desk.specs.Taking.{Came, Hearing, Taking}
@@ -130,24 +133,43 @@ IsTried R lines (Some number) = DiffersAt R lines number
 
 -- ---- what comes of lines
 
--- where lines stop, by the fault: at one that differs the register is as it was
+-- it has come to a line whose reply has a number that is no whole number, as no line of a chain
+-- has. The line would have this number
+pub record HasFractionAt (has_place : Placing) (R : Register) (place : Place) (lines : List Entry)
+    (number : ℕ) (S : Register) (s : State) : Type 0 where
+  pub stopped : HasStopped has_place R place lines S s
+  pub entry : Entry
+  pub later : List Entry
+  pub rest_is : HasStopped.rest stopped ≡ entry ∷ later
+  pub fraction : has_fraction entry ≡ true
+  pub number_is : number ≡ next_place (HasStopped.at stopped).number
+
+-- WHERE LINES STOP, by the fault: at one that differs the register is as it was. What an opening
+-- finds in the journal is no fault of this
 abbrev pub StopsAt : Placing → Register → Place → List Entry → OpeningFault → Register → State
     → Type 0
 StopsAt has_place R place lines (Differs n) S s = (S ≡ R) × DiffersAt R lines n
-StopsAt has_place R place lines (OtherRules n) S s = HasStopped has_place R place lines S s
-StopsAt has_place R place lines OtherRegister S s = HasStopped has_place R place lines S s
-StopsAt has_place R place lines TooShort S s = HasStopped has_place R place lines S s
-StopsAt has_place R place lines (BadLine n) S s = HasStopped has_place R place lines S s
+StopsAt has_place R place lines (OtherRules n) S s = ⊥
+StopsAt has_place R place lines OtherRegister S s = ⊥
+StopsAt has_place R place lines TooShort S s = ⊥
+StopsAt has_place R place lines (BadLine n) S s = HasFractionAt has_place R place lines n S s
 StopsAt has_place R place lines (Failed cause) S s = HasStopped has_place R place lines S s
 
--- a fault as commands are carried out: no line differs
-abbrev pub IsOfCarrying : OpeningFault → Type 0
-IsOfCarrying (OtherRules n) = ⊤
-IsOfCarrying OtherRegister = ⊤
-IsOfCarrying TooShort = ⊤
-IsOfCarrying (Differs n) = ⊥
-IsOfCarrying (BadLine n) = ⊤
-IsOfCarrying (Failed cause) = ⊤
+-- WHY COMMANDS OF LINES ARE NOT CARRIED OUT: what keeps their changes answered this fault, memory ran
+-- out, or the reply of one of the lines has a number that is no whole number
+abbrev pub IsOfCarrying : (DeskFault → Type 0) → List Entry → OpeningFault → Type 0
+IsOfCarrying fails lines (OtherRules n) = ⊥
+IsOfCarrying fails lines OtherRegister = ⊥
+IsOfCarrying fails lines TooShort = ⊥
+IsOfCarrying fails lines (Differs n) = ⊥
+IsOfCarrying fails lines (BadLine n) = list_any has_fraction lines ≡ true
+IsOfCarrying fails lines (Failed cause) = IsOfKeeper fails cause
+
+-- WHY A DESK IS NOT GIVEN ITS JOURNAL: as they were tried one line differed, or commands were not
+-- carried out
+abbrev pub IsOfForward : (DeskFault → Type 0) → List Entry → OpeningFault → Type 0
+IsOfForward fails lines fault = ((number : ℕ) × (fault ≡ Differs number))
+    ⊎ IsOfCarrying fails lines fault
 
 abbrev pub Went : {K : Type 0} → (K → State) → Placing → Register → Place → List Entry
     → Result (Unit {0}) OpeningFault → Desk K → Place → Option Carried → List Entry → Type 0

@@ -7,7 +7,7 @@ ghost use Rattle.clr_journal.specs.Journals.{withdraws};
 ghost use Rattle.clr_journal.specs.Line.{Entry, entry_of};
 ghost use Rattle.clr_desk.specs.Given.{LeadsTo};
 ghost use Rattle.clr_level.specs.Forward.{AreAnswered, AreShallow, Arrives, HasCome, IsOfCarrying};
-ghost use Rattle.clr_level.specs.Forward.{RollsTo, Went, open_after, opened_by};
+ghost use Rattle.clr_level.specs.Forward.{IsOfForward, RollsTo, Went, open_after, opened_by};
 ghost use Rattle.clr_level.specs.Placing.{IsAt};
 
 use crate::fault::OpeningFault;
@@ -45,6 +45,7 @@ pub(crate) fn roll_forward<K: CommitAt>(
         result.0 result.1 result.2 [] }
     ensures led { RollsTo K.kept K.takes K.hears K.has_place desk result.1 }
     ensures unchanged { (n : ℕ) → result.0 ≡ Err (OpeningFault.Differs n) → result.1 ≡ desk }
+    ensures fault { IfErr result.0 (IsOfForward K.fails (map entry_of lines.items)) }
 {
     if lines.as_slice().is_empty() {
         return (Ok(()), desk, place);
@@ -69,7 +70,7 @@ fn carry_all<K: CommitAt>(
         → Arrives K.kept K.has_place desk.book.register place (map entry_of lines.items)
         result.0 result.1 result.2 [] }
     ensures led { RollsTo K.kept K.takes K.hears K.has_place desk result.1 }
-    ensures fault { IfErr result.0 IsOfCarrying }
+    ensures fault { IfErr result.0 (IsOfCarrying K.fails (map entry_of lines.items)) }
 {
     let mut left = lines;
     left.reverse();
@@ -98,7 +99,7 @@ impl<K: CommitAt> Forward<K> {
             → Went K.kept K.has_place R place lines result.0 result.1.desk result.1.at
             result.1.pending rest }
         ensures led { LeadsTo K.kept K.takes K.hears self.desk result.1.desk }
-        ensures fault { IfErr result.0 IsOfCarrying }
+        ensures fault { IfErr result.0 (IsOfCarrying K.fails (entry_of line ∷ [])) }
     {
         let (came, before) = self.before(&line);
         if let Err(fault) = came {
@@ -117,7 +118,7 @@ impl<K: CommitAt> Forward<K> {
             result.1.pending (entry_of line.now ∷ rest) }
         ensures closed { OnOk result.0 (result.1.pending ≡ open_after line.now self.pending) }
         ensures led { LeadsTo K.kept K.takes K.hears self.desk result.1.desk }
-        ensures fault { IfErr result.0 IsOfCarrying }
+        ensures fault { IfErr result.0 (IsOfCarrying K.fails []) }
     {
         match line {
             Line::Carried(_) => self.close(),
@@ -134,7 +135,7 @@ impl<K: CommitAt> Forward<K> {
             → Went K.kept K.has_place R place lines result.0 result.1.desk result.1.at
             result.1.pending rest }
         ensures desk { result.1.desk ≡ self.desk }
-        ensures fault { IfErr result.0 IsOfCarrying }
+        ensures fault { IfErr result.0 (IsOfCarrying K.fails (entry_of line ∷ [])) }
     {
         let mut forward = self;
         match step(alloc, &mut forward.at, &line) {
@@ -159,7 +160,7 @@ impl<K: CommitAt> Forward<K> {
             → Went K.kept K.has_place R place lines result.0 result.1.desk result.1.at None rest }
         ensures closed { OnOk result.0 (result.1.pending ≡ None) }
         ensures led { LeadsTo K.kept K.takes K.hears self.desk result.1.desk }
-        ensures fault { IfErr result.0 IsOfCarrying }
+        ensures fault { IfErr result.0 (IsOfCarrying K.fails []) }
     {
         let Forward { desk, at, pending } = self;
         match pending {
@@ -183,7 +184,7 @@ impl<K: CommitAt> Forward<K> {
             self.at self.pending []
             → Arrives K.kept K.has_place R place lines result.0 result.1 result.2 [] }
         ensures led { RollsTo K.kept K.takes K.hears K.has_place self.desk result.1 }
-        ensures fault { IfErr result.0 IsOfCarrying }
+        ensures fault { IfErr result.0 (IsOfCarrying K.fails []) }
     {
         let Forward { desk, at, pending } = self;
         match pending {
@@ -206,7 +207,7 @@ fn move_to<K: CommitAt>(
         → HasCome K.has_place R place lines desk.book.register (K.kept desk.store) at None []
         → Arrives K.kept K.has_place R place lines result.0 result.1 result.2 [] }
     ensures led { RollsTo K.kept K.takes K.hears K.has_place desk result.1 }
-    ensures fault { IfErr result.0 IsOfCarrying }
+    ensures fault { IfErr result.0 (IsOfCarrying K.fails []) }
 {
     let faults = desk.faults();
     let (book, keeper) = desk.parted();
@@ -231,7 +232,7 @@ fn carry_out<K: CommitAt>(
         → Arrives K.kept K.has_place R place lines result.0 result.1.desk result.1.at rest }
     ensures closed { OnOk result.0 (result.1.pending ≡ None) }
     ensures led { LeadsTo K.kept K.takes K.hears desk result.1.desk }
-    ensures fault { IfErr result.0 IsOfCarrying }
+    ensures fault { IfErr result.0 (IsOfCarrying K.fails []) }
 {
     let (came, desk, at) = carry_at(desk, one.command, at);
     let forward = Forward {

@@ -6,8 +6,8 @@ ghost use Rattle.clr_place.specs.declared.place.Place.{Place};
 ghost use Rattle.clr_journal.specs.Journals.{carried_out, withdraws};
 ghost use Rattle.clr_journal.specs.Line.{entry_of};
 ghost use Rattle.clr_chain.specs.Level.{IsRunOf};
-ghost use Rattle.clr_level.specs.Forward.{AreShallow, CanBeOpened, IsAheadOf, IsOver, RollsTo};
-ghost use Rattle.clr_level.specs.Forward.{StopsAt};
+ghost use Rattle.clr_level.specs.Forward.{AreShallow, CanBeOpened, IsAheadOf, IsOfForward, IsOver};
+ghost use Rattle.clr_level.specs.Forward.{RollsTo, StopsAt};
 ghost use Rattle.clr_level.specs.Journaling.{HasText, IsSound};
 ghost use Rattle.clr_level.specs.Levelling.{IsKeptLevel};
 ghost use Rattle.clr_level.specs.Placing.{IsAt};
@@ -42,9 +42,10 @@ pub fn ahead_of(found: Found) -> Result<Ahead, OpeningFault>
 /// last of them, so that the next opening begins there.
 ///
 /// `Differs` where a command is answered otherwise than its line says. All commands are tried first,
-/// so none is carried out then, and the desk is given back as it was. `Desk` where a command is not
-/// carried out, the place is not moved, or memory runs out. A fault gives the desk back, as far as
-/// it has come, and the journal, in which nothing was written.
+/// so none is carried out then, and the desk is given back as it was. `BadLine` where the reply of a
+/// line has a number that is no whole number, as no line that an opening finds has. `Desk` where a
+/// command is not carried out, the place is not moved, or memory runs out. There is no other fault.
+/// It gives the desk back, as far as it has come, and the journal, in which nothing was written.
 pub fn with_journal<K: CommitAt, J: Journal + Drop, C: Clock>(
     alloc: Global,
     desk: Desk<K>,
@@ -81,6 +82,8 @@ pub fn with_journal<K: CommitAt, J: Journal + Drop, C: Clock>(
         back.1.book.register (K.kept back.1.store)) }
     ensures unchanged { IfErr result (λ back. (n : ℕ)
         → back.0 ≡ OpeningFault.Differs n → back.1 ≡ desk) }
+    ensures fault { IfErr result (λ back.
+        IsOfForward K.fails (map entry_of lines.items) back.0) }
     ensures back { IfErr result (λ back.
         RollsTo K.kept K.takes K.hears K.has_place desk back.1) }
     ensures unwritten { IfErr result (λ back. back.2 ≡ journal) }

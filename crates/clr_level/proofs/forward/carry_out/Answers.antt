@@ -5,7 +5,8 @@ use Rattle.clr_rules.specs.Run.{after}
 use Rattle.clr_place.specs.declared.place.Place.{Place}
 use Rattle.clr_level.specs.Forward.{HasCome}
 use Rattle.clr_level.specs.Placing.{ComesTo, IsAt, StaysShown}
-use Rattle.clr_level.proofs.Forwarding.{answered_on, if_ok, on_err, on_ok, stayed, stopped}
+use Rattle.clr_desk.specs.Faults.{IsOfKeeper}
+use Rattle.clr_level.proofs.Forwarding.{answered_on, if_err, if_ok, on_err, on_ok, stayed, stopped}
 use Rattle.clr_level.proofs.forward.carry_out.Goals as goal
 
 pub returns-in-Ok-clause-went : goal.returns-in-Ok-clause-went
@@ -35,3 +36,6 @@ returns-clause-went g c = λ R place lines rest good answered kept come.
     (stayed g.K.CommitAt.has_place R place lines old.book.register new.book.register s t c.args.at (Some c.args.one) rest come
     (on_err c.carry_at-came.result.0 c.in-Err.fault (new.book.register ≡ old.book.register) c.in-Err.is c.carry_at-came.ensures.unchanged)
     (on_err c.carry_at-came.result.0 c.in-Err.fault (StaysShown s t) c.in-Err.is c.carry_at-came.ensures.stays))
+
+pub returns-clause-fault : goal.returns-clause-fault
+returns-clause-fault g c = if_err c.carry_at-came.result.0 c.in-Err.fault (IsOfKeeper g.K.Commit.fails) c.in-Err.is c.carry_at-came.ensures.fault

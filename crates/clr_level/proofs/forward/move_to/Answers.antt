@@ -1,4 +1,6 @@
 use Rattle.std.proofs.Common.{◌∙◌}
+use Rattle.clr_desk.specs.Faults.{IsOfKeeper}
+use Rattle.clr_level.proofs.Forwarding.{if_err}
 use Rattle.clr_level.proofs.Rolling.{move_arrives, move_rolls, move_stops}
 use Rattle.clr_level.proofs.forward.move_to.Goals as goal
 
@@ -25,3 +27,6 @@ returns-in-Err-clause-led g c =
     move_rolls g.K.Commit.kept g.K.CommitAt.has_place c.args.desk c.of-desk.result c.parted-book.result.1 c.move_to-came.new.self c.args.at
     (c.of-desk.ensures.book ∙ c.parted-book.ensures.book) c.parted-book.ensures.kept c.of-desk.ensures.store g.K.Commit.takes g.K.Commit.hears
     c.move_to-came.result c.move_to-came.ensures.commits
+
+pub returns-in-Err-clause-fault : goal.returns-in-Err-clause-fault
+returns-in-Err-clause-fault g c = if_err c.move_to-came.result c.in-Err.fault (IsOfKeeper g.K.Commit.fails) c.in-Err.is c.move_to-came.ensures.fault

@@ -1,4 +1,4 @@
-use Rattle.std.proofs.Common.{◌≡◌, ◌==◌, [], ◌∷◌, length, true, None, Option, Some, List, Result, arith, map, refl, rules, subst, ℕ}
+use Rattle.std.proofs.Common.{◌≡◌, ◌==◌, [], ◌∷◌, length, true, None, Option, Some, List, Result, arith, inl, inr, map, refl, rules, subst, ℕ}
 use Rattle.std.proofs.lemmas.Bool.{eqb-true}
 use Rattle.std.specs.Prelude.{IfErr}
 use Rattle.clr_book.specs.Book.{Shelved}
@@ -7,7 +7,7 @@ use Rattle.clr_journal.specs.Line.{entry_of}
 use Rattle.clr_journal.specs.declared.line.Line.{Line}
 use Rattle.clr_level.specs.Forward.{AreShallow, IsOfCarrying, IsTried}
 use Rattle.clr_level.specs.declared.fault.OpeningFault.{OpeningFault}
-use Rattle.clr_level.proofs.Forwarding.{begun, begun_there, stopped}
+use Rattle.clr_level.proofs.Forwarding.{begun, begun_there, of_forward, stopped}
 use Rattle.clr_level.proofs.Rolling.{rolls_itself}
 use Rattle.clr_level.proofs.forward.roll_forward.Goals as goal
 
@@ -44,7 +44,10 @@ returns-in-Ok-None-clause-went g c = λ good begins shallow at.
 
 pub returns-in-Ok-None-clause-unchanged : goal.returns-in-Ok-None-clause-unchanged
 returns-in-Ok-None-clause-unchanged g c = λ n is.
-    absurd (subst (λ (r : Result (Unit {0}) OpeningFault). IfErr r IsOfCarrying) is c.carry_all.ensures.fault)
+    absurd (subst (λ (r : Result (Unit {0}) OpeningFault). IfErr r (IsOfCarrying g.K.Commit.fails (map entry_of c.args.lines.items))) is c.carry_all.ensures.fault)
+
+pub returns-in-Ok-None-clause-fault : goal.returns-in-Ok-None-clause-fault
+returns-in-Ok-None-clause-fault g c = of_forward g.K.Commit.fails (map entry_of c.args.lines.items) c.carry_all.result.0 c.carry_all.ensures.fault
 
 -- or one is not
 pub returns-in-Ok-Some-clause-went : goal.returns-in-Ok-Some-clause-went
@@ -57,6 +60,9 @@ returns-in-Ok-Some-clause-went g c = λ good begins shallow at.
 pub returns-in-Ok-Some-clause-led : goal.returns-in-Ok-Some-clause-led
 returns-in-Ok-Some-clause-led g c = rolls_itself g.K.Commit.kept g.K.Commit.takes g.K.Commit.hears g.K.CommitAt.has_place c.args.desk
 
+pub returns-in-Ok-Some-clause-fault : goal.returns-in-Ok-Some-clause-fault
+returns-in-Ok-Some-clause-fault g c = inl (c.in-Ok-Some.number, refl)
+
 -- or memory ran out
 pub returns-in-Err-clause-went : goal.returns-in-Err-clause-went
 returns-in-Err-clause-went g c = λ good begins shallow at.
@@ -67,3 +73,6 @@ returns-in-Err-clause-went g c = λ good begins shallow at.
 
 pub returns-in-Err-clause-led : goal.returns-in-Err-clause-led
 returns-in-Err-clause-led g c = rolls_itself g.K.Commit.kept g.K.Commit.takes g.K.Commit.hears g.K.CommitAt.has_place c.args.desk
+
+pub returns-in-Err-clause-fault : goal.returns-in-Err-clause-fault
+returns-in-Err-clause-fault g c = inr tt

@@ -2,9 +2,9 @@ use Rattle.std.proofs.Common.{[], Err, ◌∙◌, ap, map, sym}
 use Rattle.clr_book.specs.Book.{Shelved}
 use Rattle.clr_journal.specs.Journals.{carried_out, withdraws}
 use Rattle.clr_journal.specs.Line.{entry_of}
-use Rattle.clr_level.specs.Forward.{CanBeOpened}
+use Rattle.clr_level.specs.Forward.{CanBeOpened, IsOfForward}
 use Rattle.clr_level.specs.declared.keeper.Keeper.{Keeper}
-use Rattle.clr_level.proofs.Forwarding.{arrives_on, still_good, stops_there}
+use Rattle.clr_level.proofs.Forwarding.{arrives_on, if_err, still_good, stops_there}
 use Rattle.clr_level.proofs.Openings.{opened_level, placed_as, rolled}
 use Rattle.clr_level.proofs.opening.with_journal.Goals as goal
 
@@ -72,3 +72,7 @@ returns-in-Err-clause-stops g c = λ good begins shallow at.
 
 pub returns-in-Err-clause-unchanged : goal.returns-in-Err-clause-unchanged
 returns-in-Err-clause-unchanged g c = λ n is. c.roll_forward-came.ensures.unchanged n (c.in-Err.is ∙ ap Err is)
+
+pub returns-in-Err-clause-fault : goal.returns-in-Err-clause-fault
+returns-in-Err-clause-fault g c =
+    if_err c.roll_forward-came.result.0 c.in-Err.fault (IsOfForward g.K.Commit.fails (map entry_of c.args.lines.items)) c.in-Err.is c.roll_forward-came.ensures.fault

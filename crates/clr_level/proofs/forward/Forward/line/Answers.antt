@@ -1,7 +1,7 @@
 use Rattle.clr_journal.specs.Line.{entry_of}
 use Rattle.clr_level.specs.Forward.{open_after}
-use Rattle.clr_level.proofs.Forwarding.{closed_again, goes_on, on_ok, stops_on}
-use Rattle.std.proofs.Common.{◌≡◌, ◌∷◌}
+use Rattle.clr_level.proofs.Forwarding.{closed_again, goes_on, none_has, of_more, on_ok, stops_on}
+use Rattle.std.proofs.Common.{◌≡◌, [], ◌∷◌}
 use Rattle.clr_level.proofs.forward.Forward.line.Goals as goal
 
 pub returns-in-Err-clause-went : goal.returns-in-Err-clause-went
@@ -18,3 +18,8 @@ returns-clause-went g c = λ R place lines rest good answered come.
     (on_ok c.before-came.result.0 c.in_default.field-0 (next.pending ≡ open_after c.args.line c.args.self.pending) c.in_default.is c.before-came.ensures.closed))
     (goes_on g.K.Commit.kept g.K.CommitAt.has_place R place lines c.before-came.result.0 c.in_default.field-0 next.desk next.at next.pending
     (entry_of c.args.line ∷ rest) c.in_default.is (c.before-came.ensures.went R place lines rest good answered come))
+
+pub returns-in-Err-clause-fault : goal.returns-in-Err-clause-fault
+returns-in-Err-clause-fault g c =
+    let here = entry_of c.args.line ∷ [] in
+    of_more g.K.Commit.fails [] here c.before-came.result.0 c.in-Err.fault c.in-Err.is (none_has here) c.before-came.ensures.fault
