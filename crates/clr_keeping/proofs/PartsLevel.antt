@@ -30,12 +30,17 @@ use Rattle.clr_keeping.specs.TakenUp.{store_place}
 -- ---- what begins
 
 pub made_level : {S : Type 0} (g : Ghosts S) → MadeIsLevel g
-made_level {S} g R start before after made =
-    begun_level store_place (state g after) R start (λ clean is_open. (tables_of R, (made.tables clean).0, (made.tables clean).1))
+made_level {S} g R start before after made = (
+  begun_level store_place (state g after) R start (λ clean is_open. (tables_of R, (made.tables clean).0, (made.tables clean).1)),
+  λ clean. (made.tables clean).0,
+)
 
 pub placed_level : {S : Type 0} (g : Ghosts S) → PlacedIsLevel g
-placed_level {S} g R start before after had placed =
-    begun_level store_place (state g after) R start (λ clean is_open. shown (had clean) (placed.made clean))
+unfolding tables_edited
+placed_level {S} g R start before after had placed = (
+  begun_level store_place (state g after) R start (λ clean is_open. shown (had clean (placed.was_open clean is_open)) (placed.made clean)),
+  λ clean t has. (placed.made clean t has).0,
+)
   where
     shown : (t : Tables) × HasTables (state g before).now t
         → ((t : Tables) → HasTables (state g before).now t → HasTables (state g after).now (tables_edited [] t) × ArePlaced (state g after).now.trees (Some (place_row start)))

@@ -158,6 +158,7 @@ module _ {T : Type 0} (g : Ghosts T) (before desk : Held T) (R : Register) (is :
           placed = place_on_stays g before desk read is.read stays (Some place) placed;
           cause = stopped.cause;
           fault_is = stopped.fault_is;
+          of = stopped.of;
           stops = stopped.stops;
           unchanged = stopped.unchanged;
         })

@@ -86,7 +86,8 @@ pub record MakesRegisterAt {S : Type 0} (g : Ghosts S) (R : Register) (place : P
 -- ---- for a register that has none
 
 -- A REGISTER WAS GIVEN A PLACE, and its tables are as they were; or it was not, and the database is
--- as it was. A crash leaves the same tables with the place, or what it left before
+-- as it was. Where the database is open and its disk clean, it was open. A crash leaves the same
+-- tables with the place, or what it left before
 pub record IsPlacedOrNot {S : Type 0} (g : Ghosts S) (before : Held S) (place : Place)
     (told : Done) (after : Held S) : Type 0 where
   pub made : HasCleanDisk (state g after)
@@ -94,6 +95,8 @@ pub record IsPlacedOrNot {S : Type 0} (g : Ghosts S) (before : Held S) (place : 
   pub saved : HasCleanDisk (state g after) → OnOk told (IsSaved (state g after))
   pub none : HasCleanDisk (state g after) → IsTrue (state g after).is_open
       → OnErr told ((state g after).now ≡ (state g before).now)
+  pub was_open : HasCleanDisk (state g after) → IsTrue (state g after).is_open
+      → IsTrue (state g before).is_open
   pub fault : IfErr told IsOfLine
   pub survives : Survives (state g before) (state g after)
       (AreEditedAt (state g before).now [] (place_row place))

@@ -17,6 +17,7 @@ use Rattle.clr_load.specs.Cause.{SqlHasCause}
 use Rattle.clr_load.specs.Contract.{Gives, IsSaved}
 use Rattle.clr_load.specs.Stored.{ArePlaced, HasTables}
 use Rattle.clr_load.specs.declared.fault.StoreFault.{StoreFault}
+use Rattle.clr_desk.specs.Faults.{FailsAsStore}
 use Rattle.clr_desk.specs.Kept.{Keeps}
 use Rattle.clr_desk.specs.Placing.{Placing}
 use Rattle.clr_desk.specs.declared.desk_fault.DeskFault.{DeskFault}
@@ -24,7 +25,7 @@ use Rattle.clr_journal.specs.Journals.{carried_out, withdraws}
 use Rattle.clr_journal.specs.Line.{Entry, entry_of}
 use Rattle.clr_chain.specs.Level.{IsRunOf}
 use Rattle.clr_chain.specs.declared.finding.Ahead.{Ahead}
-use Rattle.clr_level.specs.Forward.{AreShallow, CanBeOpened, StopsAt}
+use Rattle.clr_level.specs.Forward.{AreShallow, CanBeOpened, IsOfForward, StopsAt}
 use Rattle.clr_level.specs.Journaling.{IsSound}
 use Rattle.clr_level.specs.Levelling.{IsKeptLevel}
 use Rattle.clr_level.specs.Placing.{IsAt}
@@ -149,11 +150,12 @@ MissesOne g desk fault after = LacksPlace g desk fault after
     ⊎ ((fault ≡ Journal why.Missing) × (place : Place) × HasPlace g desk after (Some place))
 
 -- lines after the place stopped: at one that differs, which changes nothing, or where a command was
--- not carried out
+-- not carried out. A fault of the desk is reported as that, and as nothing that is in the journal
 pub record StopsForward {T : Type 0} (g : Ghosts T) (desk : Held T) (R : Register) (place : Place)
     (lines : List Entry) (fault : Fault) (after : Held T) : Type 0 where
   pub cause : OpeningFault
   pub fault_is : fault ≡ of_opening cause
+  pub of : IsOfForward FailsAsStore lines cause
   pub register : Register
   pub kept : Keeps (state g desk) R (state g after) register
   pub stops : withdraws lines ≡ false → AreShallow lines → IsAt store_place (state g desk) place
@@ -237,7 +239,8 @@ pub record IsUnplaced {T : Type 0} (g : Ghosts T) (before : Held T) (fault : Fau
 
 -- ITS JOURNAL WAS OPENED, AND DOES NOT GO TOGETHER WITH IT: a line after the place has another reply
 -- than the register gives, which changes nothing; or a command was not carried out, and what was
--- carried out before that is kept, with its place. The journal is let go as it was opened
+-- carried out before that is kept, with its place: then the fault is that of the desk, unless the
+-- reply of a line has a number that is no whole number. The journal is let go as it was opened
 pub record IsRefusedItsJournal {M J C T : Type 0} (g : Ghosts T) (logs : Logs M J C)
     (path : List ℕ) (old new : M) (before : Held T) (fault : Fault) (after : Held T)
     : Type 0 where
@@ -252,6 +255,7 @@ pub record IsRefusedItsJournal {M J C T : Type 0} (g : Ghosts T) (logs : Logs M 
   pub placed : HasPlace g before (IsKept.opened kept) (Some place)
   pub cause : OpeningFault
   pub fault_is : fault ≡ of_opening cause
+  pub of : IsOfForward FailsAsStore (entries_of ahead) cause
   pub stops : withdraws (entries_of ahead) ≡ false → AreShallow (entries_of ahead)
       → IsAt store_place (state g (IsKept.opened kept)) place
       → StopsAt store_place (IsKept.first kept) place (entries_of ahead) cause register

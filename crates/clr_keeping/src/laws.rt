@@ -5,8 +5,9 @@ ghost use Rattle.clr_keeping.specs.Laws.{MadeIsLevel, PartsAreOne, PlacedIsLevel
 use clr_desk::CommitAt;
 use sqlite::Alter;
 
-/// A register that was made with its first place can be opened with a journal of that line alone. So
-/// can one that had tables, once it has its place in a journal, or in the next part of one.
+/// A register that was made with its first place has its tables, and can be opened with a journal of
+/// that line alone. So can one that had tables, once it has its place in a journal, or in the next
+/// part of one; its tables are those that it had.
 pub fn begun_are_level<S: Alter + Drop>()
     ensures made { MadeIsLevel S.Store }
     ensures placed { PlacedIsLevel S.Store }

@@ -19,6 +19,7 @@ returns-in-Ok-clause-placed g c =
       made = λ clean. subst (λ (edits : List Edit). MakesEditsAt before.now edits row after.now) c.new.ensures.items (c.in-Ok.ensures.made clean);
       saved = c.in-Ok.ensures.saved;
       none = λ clean is_open. tt;
+      was_open = c.in-Ok.ensures.was_open;
       fault = tt;
       survives = subst (λ (edits : List Edit). Survives before after (AreEditedAt before.now edits row)) c.new.ensures.items c.in-Ok.ensures.crash;
     } in
@@ -34,6 +35,7 @@ returns-clause-placed g c =
       made = λ clean. tt;
       saved = λ clean. tt;
       none = c.in-Err.ensures.none;
+      was_open = c.in-Err.ensures.was_open;
       fault = subst (λ fault. IsOfLine fault) (sym c.from.ensures) (IsOfLine-of_database c.in-Err.cause c.in-Err.ensures.fault);
       survives = subst (λ (edits : List Edit). Survives before after (AreEditedAt before.now edits row)) c.new.ensures.items c.in-Err.ensures.crash;
     } in

@@ -11,6 +11,7 @@ returns-in-Ok-clause-placed g c =
       made = c.in-Ok.ensures.made;
       saved = c.in-Ok.ensures.saved;
       none = λ clean is_open. tt;
+      was_open = c.in-Ok.ensures.was_open;
       fault = tt;
       survives = c.in-Ok.ensures.crash;
     } in
@@ -23,6 +24,7 @@ returns-in-Err-clause-placed g c =
       made = λ clean. tt;
       saved = λ clean. tt;
       none = c.in-Err.ensures.none;
+      was_open = c.in-Err.ensures.was_open;
       fault = subst (λ fault. IsOfLine fault) (sym c.from.ensures) (IsOfLine-of_database c.in-Err.cause c.in-Err.ensures.fault);
       survives = c.in-Err.ensures.crash;
     } in

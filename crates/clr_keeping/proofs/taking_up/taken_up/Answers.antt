@@ -47,6 +47,7 @@ returns-clause-stops g c good =
     record {
       cause = c.in-Err.fault;
       fault_is = c.of_opening.ensures;
+      of = c.in-Err.ensures.fault;
       register = S;
       kept = subst (λ h. Keeps old R (state g.S.Store h) S) (sym same)
           (rolls_keep (λ h. state g.S.Store h) PassesOver HearsNothing store_place c.args.desk c.in-Err.desk c.in-Err.ensures.back);
