@@ -10,6 +10,7 @@ use Rattle.clr_chain.specs.Walking.{part_of, step_of}
 use Rattle.clr_chain.specs.Sums.{Files}
 use Rattle.clr_chain.specs.declared.chain_end.ChainEnd.{ChainEnd}
 use Rattle.clr_journal.specs.Line.{Entry}
+use Rattle.clr_edge.specs.Lines.{ends_whole}
 use Rattle.clr_edge.specs.declared.fault.Fault.{Fault}
 use Rattle.clr_place.specs.declared.place.Place.{Place}
 use Rattle.clr_checking.specs.Checking.{EndsAt, IsChecked, IsCheckedFrom}
@@ -18,9 +19,9 @@ use Rattle.clr_checking.specs.declared.checking.Checking.{Checking}
 use Rattle.clr_checking.specs.declared.fault.CheckFault.{CheckFault}
 use Rattle.clr_parts.specs.Journal.{all_known}
 use Rattle.clr_parts.specs.Parts.{BreaksAfter, FirstIs, ReadsLine, walked}
-use Rattle.clr_commands.specs.Verify.{BeginOn, Checks, ChecksAll, ChecksFrom, ChecksOn, GoOn, HasLines, IsOfCheck, IsOfFiles, verified_text}
+use Rattle.clr_commands.specs.Verify.{BeginOn, Checks, ChecksAll, ChecksFrom, ChecksOn, GoOn, HalfOn, HasLines, IsOfCheck, IsOfFiles, verified_text}
 use Rattle.clr_parts.proofs.BrokenParts.{breaks-more}
-use Rattle.clr_parts.proofs.PartLines.{AreBefore, before-all, before-more, before-none, known-next, walked-end, walked-same}
+use Rattle.clr_parts.proofs.PartLines.{AreBefore, before-more, before-none, before-whole, known-next, walked-end, walked-same}
 
 -- ---- the lines of a part
 
@@ -80,12 +81,13 @@ lines_seen left now next old it new text seen same had reads ready went went_fro
     (end ∙ ap (λ (t : List ℕ). (step_of it.walk.end t).1) same) id
 
 pub lines_all : (left now next : Option (List ℕ)) (old it : Checking) → CheckedLines left now old it → IfSome now (ReadsLine None next)
-    → IfSome left (λ bytes. ChecksOn old it (ended_lines bytes))
-lines_all left now next old it had none = by left (before-all left now next had.lines had.before none)
+    → IfSome next (λ bytes. true ≡ ends_whole bytes) → IfSome left (λ bytes. ChecksOn old it (ended_lines bytes) × (ends_whole bytes ≡ true))
+lines_all left now next old it had none ends = by left (before-whole left now next had.lines true had.before none ends)
   where
-    by : (bytes : Option (List ℕ)) → IfSome bytes (λ known. ended_lines known ≡ had.lines) → IfSome bytes (λ known. ChecksOn old it (ended_lines known))
+    by : (bytes : Option (List ℕ)) → IfSome bytes (λ known. (ended_lines known ≡ had.lines) × (ends_whole known ≡ true))
+        → IfSome bytes (λ known. ChecksOn old it (ended_lines known) × (ends_whole known ≡ true))
     by None all = tt
-    by (Some bytes) all = subst (λ (l : List (List ℕ)). ChecksOn old it l) (sym all) had.checked
+    by (Some bytes) all = (subst (λ (l : List (List ℕ)). ChecksOn old it l) (sym all.0) had.checked, all.1)
 
 -- ---- the parts
 
@@ -93,9 +95,11 @@ lines_all left now next old it had none = by left (before-all left now next had.
 pub record CheckedParts (first : Option (List ℕ)) (all left : Option (List (List ℕ))) (old it : Checking) : Type 0 where
   pub ready : IsReady it
   pub id : it.walk.id ≡ old.walk.id
+  pub whole : IfSome first (λ bytes. ends_whole bytes ≡ true)
   pub known : IfSome first (λ bytes. IfSome all (λ parts. (rest more : List (List ℕ)) × (left ≡ Some rest)
       × ((after : List (List ℕ)) → GoOn old.walk.id it.walk.end rest after → GoOn old.walk.id (walked old.walk.end (ended_lines bytes)).1 parts (more ++ after))
       × ((front : List (List ℕ)) → BeginOn old.walk.id it.walk.end rest front → BeginOn old.walk.id (walked old.walk.end (ended_lines bytes)).1 parts (more ++ front))
+      × ((texts : List (List ℕ)) → HalfOn old.walk.id it.walk.end rest texts → HalfOn old.walk.id (walked old.walk.end (ended_lines bytes)).1 parts (more ++ texts))
       × ((fault : Fault) → BreaksAfter old.walk.id it.walk.end rest fault → BreaksAfter old.walk.id (walked old.walk.end (ended_lines bytes)).1 parts fault)
       × ((began : Register) (first place : Place) (R : Register) → CheckedTo began first place R old []
       → CheckedTo began first place R it (ended_lines bytes ++ more))
@@ -107,6 +111,7 @@ abbrev pub Known : List (List ℕ) → List (List ℕ) → Option (List (List �
 Known lines parts left old it = (rest more : List (List ℕ)) × (left ≡ Some rest)
     × ((after : List (List ℕ)) → GoOn old.walk.id it.walk.end rest after → GoOn old.walk.id (walked old.walk.end lines).1 parts (more ++ after))
     × ((front : List (List ℕ)) → BeginOn old.walk.id it.walk.end rest front → BeginOn old.walk.id (walked old.walk.end lines).1 parts (more ++ front))
+    × ((texts : List (List ℕ)) → HalfOn old.walk.id it.walk.end rest texts → HalfOn old.walk.id (walked old.walk.end lines).1 parts (more ++ texts))
     × ((fault : Fault) → BreaksAfter old.walk.id it.walk.end rest fault → BreaksAfter old.walk.id (walked old.walk.end lines).1 parts fault)
     × ((began : Register) (first place : Place) (R : Register) → CheckedTo began first place R old [] → CheckedTo began first place R it (lines ++ more))
     × ((copied : Register) (at first place : Place) (R : Register) → CheckedToFrom copied at first place R old [] → CheckedToFrom copied at first place R it (lines ++ more))
@@ -115,10 +120,21 @@ pub go_on-none : (id : List ℕ) (end : ChainEnd) → GoOn id end [] []
 unfolding GoOn
 go_on-none id end = refl
 
-go_on-more : (id : List ℕ) (end next : ChainEnd) (one text : List ℕ) (rest lines more : List (List ℕ)) → ended_lines one ≡ text ∷ lines
+go_on-more : (id : List ℕ) (end next : ChainEnd) (one text : List ℕ) (rest lines more : List (List ℕ)) → ended_lines one ≡ text ∷ lines → ends_whole one ≡ true
     → part_of id end (read_first text) ≡ (true, next) → GoOn id (walked next lines).1 rest more → GoOn id end (one ∷ rest) (lines ++ more)
 unfolding GoOn
-go_on-more id end next one text rest lines more is part goes = (text, lines, more, next, is, part, refl, goes)
+go_on-more id end next one text rest lines more is whole part goes = (text, lines, more, next, is, whole, part, refl, goes)
+
+-- and where one of them ends in half a line
+half_on-more : (id : List ℕ) (end next : ChainEnd) (one text : List ℕ) (rest lines more : List (List ℕ)) → ended_lines one ≡ text ∷ lines
+    → part_of id end (read_first text) ≡ (true, next) → HalfOn id (walked next lines).1 rest more → HalfOn id end (one ∷ rest) (lines ++ more)
+unfolding HalfOn
+half_on-more id end next one text rest lines more is part half = (text, lines, more, next, is, part, refl, inr half)
+
+pub half_on-part : (id : List ℕ) (end next : ChainEnd) (one text : List ℕ) (rest lines : List (List ℕ)) → ended_lines one ≡ text ∷ lines
+    → part_of id end (read_first text) ≡ (true, next) → ends_whole one ≡ false → HalfOn id end (one ∷ rest) lines
+unfolding HalfOn
+half_on-part id end next one text rest lines is part half = (text, lines, [], next, is, part, sym (append-nil lines), inl (half, refl))
 
 -- a front of them, as far as they were read
 pub begin_on-none : (id : List ℕ) (end : ChainEnd) (rest : List (List ℕ)) → BeginOn id end rest []
@@ -139,19 +155,25 @@ begin_on-part id end next one text rest lines after is part = inr (text, lines, 
 
 -- the first part was checked
 pub parts_none : (first : Option (List ℕ)) (all : Option (List (List ℕ))) (old it : Checking) → IsReady it → it.walk.id ≡ old.walk.id
-    → IfSome first (λ bytes. ChecksOn old it (ended_lines bytes)) → CheckedParts first all all old it
-parts_none first all old it ready id checked = record { ready = ready; id = id; known = by first all checked }
+    → IfSome first (λ bytes. ChecksOn old it (ended_lines bytes) × (ends_whole bytes ≡ true)) → CheckedParts first all all old it
+parts_none first all old it ready id checked = record { ready = ready; id = id; whole = whole first checked; known = by first all checked }
   where
-    by : (bytes : Option (List ℕ)) (found : Option (List (List ℕ))) → IfSome bytes (λ known. ChecksOn old it (ended_lines known))
+    whole : (bytes : Option (List ℕ)) → IfSome bytes (λ known. ChecksOn old it (ended_lines known) × (ends_whole known ≡ true))
+        → IfSome bytes (λ known. ends_whole known ≡ true)
+    whole None is = tt
+    whole (Some bytes) is = is.1
+
+    by : (bytes : Option (List ℕ)) (found : Option (List (List ℕ))) → IfSome bytes (λ known. ChecksOn old it (ended_lines known) × (ends_whole known ≡ true))
         → IfSome bytes (λ known. IfSome found (λ parts. Known (ended_lines known) parts found old it))
     by None found is = tt
     by (Some bytes) None is = tt
-    by (Some bytes) (Some parts) is = (
+    by (Some bytes) (Some parts) (is, ends) = (
       parts,
       [],
       refl,
       λ after goes. subst (λ (e : ChainEnd). GoOn old.walk.id e parts after) is.end goes,
       λ front begins. subst (λ (e : ChainEnd). BeginOn old.walk.id e parts front) is.end begins,
+      λ texts half. subst (λ (e : ChainEnd). HalfOn old.walk.id e parts texts) is.end half,
       λ fault breaks. subst (λ (e : ChainEnd). BreaksAfter old.walk.id e parts fault) is.end breaks,
       λ began place R S to.
           subst (λ (l : List (List ℕ)). CheckedTo began place R S it l) (sym (append-nil (ended_lines bytes))) (is.went began place R S [] to),
@@ -166,14 +188,15 @@ module _ (first : Option (List ℕ)) (all left : Option (List (List ℕ))) (old 
       → (true, begun.walk.end) ≡ part_of it.walk.id it.walk.end (read_first line.items) → begun.walk.id ≡ it.walk.id
       → ((began : Register) (place : Place) (to : Place) (R : Register) (texts : List (List ℕ)) → CheckedTo began place to R it texts → CheckedTo began place to R begun texts)
       → ((copied : Register) (at place to : Place) (R : Register) (texts : List (List ℕ)) → CheckedToFrom copied at place to R it texts → CheckedToFrom copied at place to R begun texts)
-      → IsReady new → new.walk.id ≡ begun.walk.id → IfSome now (λ known. ChecksOn begun new (ended_lines known)) → CheckedParts first all (all_known others) old new
+      → IsReady new → new.walk.id ≡ begun.walk.id → IfSome now (λ known. ChecksOn begun new (ended_lines known) × (ends_whole known ≡ true)) → CheckedParts first all (all_known others) old new
   parts_more bytes others line now begun new is_left reads part same went went_from ready id checked =
-      record { ready = ready; id = id ∙ same ∙ had.id; known = by first all had.known }
+      record { ready = ready; id = id ∙ same ∙ had.id; whole = had.whole; known = by first all had.known }
     where
-      goes : (one : List ℕ) (after : Option (List ℕ)) → ReadsLine (Some line) after one → IfSome after (λ known. ChecksOn begun new (ended_lines known))
-          → (lines : List (List ℕ)) × (ended_lines one ≡ line.items ∷ lines) × ChecksOn begun new lines
-      goes one None read is = absurd read
-      goes one (Some after) read is = (ended_lines after, read, is)
+      goes : (one : List ℕ) (after : Option (List ℕ)) → ReadsLine (Some line) after one
+          → IfSome after (λ known. ChecksOn begun new (ended_lines known) × (ends_whole known ≡ true))
+          → (lines : List (List ℕ)) × (ended_lines one ≡ line.items ∷ lines) × (ends_whole one ≡ true) × ChecksOn begun new lines
+      goes one None read is = absurd read.1
+      goes one (Some after) read is = (ended_lines after, read.0, read.1 ∙ is.1, is.0)
 
       part_is : part_of old.walk.id it.walk.end (read_first line.items) ≡ (true, begun.walk.end)
       part_is = sym (subst (λ (i : List ℕ). (true, begun.walk.end) ≡ part_of i it.walk.end (read_first line.items)) had.id part)
@@ -182,23 +205,28 @@ module _ (first : Option (List ℕ)) (all left : Option (List (List ℕ))) (old 
           → IfSome file (λ known. IfSome found (λ parts. Known (ended_lines known) parts (all_known others) old new))
       by None found is = tt
       by (Some file) None is = tt
-      by (Some file) (Some parts) (rest, more, is_rest, go, begin, broken, to, to_from) =
+      by (Some file) (Some parts) (rest, more, is_rest, go, begin, halve, broken, to, to_from) =
           let (one, after, has, is_after, next) = known-next bytes others rest (sym is_left ∙ is_rest) in
           let read : ReadsLine (Some line) now one = subst (λ (b : Option (List ℕ)). IfSome b (ReadsLine (Some line) now)) has reads in
-          let (lines, lines_are, is) = goes one now read checked in (
+          let (lines, lines_are, whole, is) = goes one now read checked in (
             after,
             more ++ lines,
             is_after,
             λ last goes_last.
                 subst (λ (l : List (List ℕ)). GoOn old.walk.id (walked old.walk.end (ended_lines file)).1 parts l) (sym (append_assoc more lines last))
                 (go (lines ++ last) (subst (λ (l : List (List ℕ)). GoOn old.walk.id it.walk.end l (lines ++ last)) (sym next)
-                (go_on-more old.walk.id it.walk.end begun.walk.end one line.items after lines last lines_are part_is
+                (go_on-more old.walk.id it.walk.end begun.walk.end one line.items after lines last lines_are whole part_is
                 (subst (λ (e : ChainEnd). GoOn old.walk.id e after last) is.end goes_last)))),
             λ front begins.
                 subst (λ (l : List (List ℕ)). BeginOn old.walk.id (walked old.walk.end (ended_lines file)).1 parts l) (sym (append_assoc more lines front))
                 (begin (lines ++ front) (subst (λ (l : List (List ℕ)). BeginOn old.walk.id it.walk.end l (lines ++ front)) (sym next)
                 (begin_on-more old.walk.id it.walk.end begun.walk.end one line.items after lines front lines_are part_is
                 (subst (λ (e : ChainEnd). BeginOn old.walk.id e after front) is.end begins)))),
+            λ texts half.
+                subst (λ (l : List (List ℕ)). HalfOn old.walk.id (walked old.walk.end (ended_lines file)).1 parts l) (sym (append_assoc more lines texts))
+                (halve (lines ++ texts) (subst (λ (l : List (List ℕ)). HalfOn old.walk.id it.walk.end l (lines ++ texts)) (sym next)
+                (half_on-more old.walk.id it.walk.end begun.walk.end one line.items after lines texts lines_are part_is
+                (subst (λ (e : ChainEnd). HalfOn old.walk.id e after texts) is.end half)))),
             λ fault breaks.
                 broken fault (subst (λ (l : List (List ℕ)). BreaksAfter old.walk.id it.walk.end l fault) (sym next)
                 (breaks-more old.walk.id it.walk.end begun.walk.end one line.items after lines fault lines_are part_is
@@ -215,16 +243,18 @@ module _ (first : Option (List ℕ)) (all left : Option (List (List ℕ))) (old 
   pub parts_all : (count : ℕ) (text : List ℕ) → left ≡ Some [] → text ≡ verified_text count
       → ((began : Register) (place to : Place) (R : Register) (texts : List (List ℕ)) → CheckedTo began place to R it texts → IsChecked began place texts to R count)
       → ((copied : Register) (at place to : Place) (R : Register) (texts : List (List ℕ)) → CheckedToFrom copied at place to R it texts → IsCheckedFrom copied at place texts to R count)
-      → IfSome first (λ bytes. IfSome all (λ parts. ChecksAll old (ended_lines bytes) parts text))
-  parts_all count text none is said said_from = by first all had.known
+      → IfSome first (λ bytes. IfSome all (λ parts. ChecksAll old bytes parts text))
+  parts_all count text none is said said_from = by first all had.whole had.known
     where
-      by : (file : Option (List ℕ)) (found : Option (List (List ℕ))) → IfSome file (λ known. IfSome found (λ parts. Known (ended_lines known) parts left old it))
-          → IfSome file (λ known. IfSome found (λ parts. ChecksAll old (ended_lines known) parts text))
-      by None found known = tt
-      by (Some file) None known = tt
-      by (Some file) (Some parts) (rest, more, is_rest, go, begin, broken, to, to_from) =
+      by : (file : Option (List ℕ)) (found : Option (List (List ℕ))) → IfSome file (λ known. ends_whole known ≡ true)
+          → IfSome file (λ known. IfSome found (λ parts. Known (ended_lines known) parts left old it))
+          → IfSome file (λ known. IfSome found (λ parts. ChecksAll old known parts text))
+      by None found whole known = tt
+      by (Some file) None whole known = tt
+      by (Some file) (Some parts) whole (rest, more, is_rest, go, begin, halve, broken, to, to_from) =
           let empty : rest ≡ [] = cc (sym none ∙ is_rest) in
           record {
+            whole = whole;
             more = more;
             go_on =
                 subst (λ (l : List (List ℕ)). GoOn old.walk.id (walked old.walk.end (ended_lines file)).1 parts l) (append-nil more)
@@ -242,7 +272,7 @@ module _ (first : Option (List ℕ)) (all left : Option (List (List ℕ))) (old 
       → IsChecked began place texts to R count)
       → IfOk checked (λ count. (copied : Register) (at place to : Place) (R : Register) (texts : List (List ℕ)) → CheckedToFrom copied at place to R it texts
       → IsCheckedFrom copied at place texts to R count)
-      → IfOk told (λ text. IfSome first (λ bytes. IfSome all (λ parts. ChecksAll old (ended_lines bytes) parts (string_bytes text))))
+      → IfOk told (λ text. IfSome first (λ bytes. IfSome all (λ parts. ChecksAll old bytes parts (string_bytes text))))
   parts_said checked (Err fault) none said counted counted_from = tt
   parts_said checked (Ok text) none (count, is, said) counted counted_from =
       parts_all count (string_bytes text) none said
@@ -271,13 +301,14 @@ goes_over first place it lines parts more entries over goes =
     (subst (λ (e : ChainEnd). GoOn it.walk.id (walked e lines).1 parts more) (begins_at first it.walk.end over.end_is) goes)
 
 has_lines : (one : List ℕ) (parts : List (List ℕ)) (first place : Place) (it : Checking) (after : List ℕ) (entries : List Entry) (more : List (List ℕ))
-    → FirstIs first (Some after) one → GoesOver first place it [] entries → GoOn it.walk.id (walked it.walk.end (ended_lines after)).1 parts more
-    → HasLines one parts first (ended_lines after ++ more)
-has_lines one parts first place it after entries more (line, lines_are, read) over goes = record {
+    → FirstIs first (Some after) one → GoesOver first place it [] entries → ends_whole after ≡ true
+    → GoOn it.walk.id (walked it.walk.end (ended_lines after)).1 parts more → HasLines one parts first (ended_lines after ++ more)
+has_lines one parts first place it after entries more (line, lines_are, read, ends) over whole goes = record {
   text = line;
   lines = ended_lines after;
   more = more;
   lines_are = lines_are;
+  whole = ends ∙ whole;
   read = read;
   go_on = goes_over first place it (ended_lines after) parts more entries over goes;
   texts_are = refl;
@@ -286,7 +317,7 @@ has_lines one parts first place it after entries more (line, lines_are, read) ov
 -- what is said of a register, over that of the files
 pub checks_yes : (files : Files) (began R : Register) (one now : Option (List ℕ)) (all : Option (List (List ℕ))) (first place : Place) (it : Checking) (text : String Global)
     → IfSome one (FirstIs first now) → IsOfFiles files first → CheckedTo began first place R it []
-    → IfSome now (λ bytes. IfSome all (λ known. ChecksAll it (ended_lines bytes) known (string_bytes text)))
+    → IfSome now (λ bytes. IfSome all (λ known. ChecksAll it bytes known (string_bytes text)))
     → IfSome one (λ bytes. IfSome all (λ known. Checks files began bytes known place R (Ok text)))
 checks_yes files began R None now all first place it text begins of to checks = tt
 checks_yes files began R (Some one) None None first place it text begins of to checks = tt
@@ -295,7 +326,7 @@ checks_yes files began R (Some one) (Some after) None first place it text begins
 checks_yes files began R (Some one) (Some after) (Some parts) first place it text begins of to checks = record {
   first = first;
   texts = ended_lines after ++ checks.more;
-  has_lines = has_lines one parts first place it after to.entries checks.more begins to.over checks.go_on;
+  has_lines = has_lines one parts first place it after to.entries checks.more begins to.over checks.whole checks.go_on;
   of_files = of;
   count = checks.count;
   checked = checks.yes began first place R to;
@@ -305,7 +336,7 @@ checks_yes files began R (Some one) (Some after) (Some parts) first place it tex
 -- over that of a copy
 pub checks_yes_from : (copied R : Register) (at : Place) (one now : Option (List ℕ)) (all : Option (List (List ℕ))) (first place : Place) (it : Checking) (text : String Global)
     → IfSome one (FirstIs first now) → CheckedToFrom copied at first place R it []
-    → IfSome now (λ bytes. IfSome all (λ known. ChecksAll it (ended_lines bytes) known (string_bytes text)))
+    → IfSome now (λ bytes. IfSome all (λ known. ChecksAll it bytes known (string_bytes text)))
     → IfSome one (λ bytes. IfSome all (λ known. ChecksFrom copied at bytes known place R (Ok text)))
 checks_yes_from copied R at None now all first place it text begins to checks = tt
 checks_yes_from copied R at (Some one) None None first place it text begins to checks = tt
@@ -314,7 +345,7 @@ checks_yes_from copied R at (Some one) (Some after) None first place it text beg
 checks_yes_from copied R at (Some one) (Some after) (Some parts) first place it text begins to checks = record {
   first = first;
   texts = ended_lines after ++ checks.more;
-  has_lines = has_lines one parts first place it after (to.before ++ to.entries) checks.more begins to.over checks.go_on;
+  has_lines = has_lines one parts first place it after (to.before ++ to.entries) checks.more begins to.over checks.whole checks.go_on;
   count = checks.count;
   checked = checks.yes_from copied at first place R to;
   text_is = checks.text_is;

@@ -1,5 +1,5 @@
 -- Why a register was not found to be what its journal says, part by part.
-use Rattle.std.proofs.Common.{◌≡◌, ◌≢◌, ◌∙◌, ◌⊎◌, ap, inl, inr, refl, subst, sym, ℕ, false, true, List, [], ◌∷◌, ◌++◌, append_assoc, append-nil, Result, Ok, Err}
+use Rattle.std.proofs.Common.{◌≡◌, ◌≢◌, ◌∙◌, ◌⊎◌, ap, inl, inr, refl, subst, sym, ℕ, Bool, false, true, List, [], ◌∷◌, ◌++◌, append_assoc, append-nil, Result, Ok, Err}
 use Rattle.std.proofs.lemmas.Bool.{true≢false}
 use Rattle.std.specs.Borrow.{Bor}
 use Rattle.std.specs.Prelude.{IfErr, IfOk, IfSome, IsErrAnd, None, Option, Some, String, Vec, string_bytes}
@@ -13,6 +13,8 @@ use Rattle.clr_chain.specs.Sums.{Files}
 use Rattle.clr_chain.specs.declared.chain_end.ChainEnd.{ChainEnd}
 use Rattle.clr_journal.specs.Line.{Entry}
 use Rattle.clr_place.specs.declared.place.Place.{Place}
+use Rattle.clr_journal.specs.Journals.{next_place}
+use Rattle.clr_edge.specs.Lines.{ends_whole}
 use Rattle.clr_edge.specs.declared.fault.Fault.{Fault}
 use Rattle.clr_edge.specs.declared.fault.Fault.TheVariants.{Journal, Memory, Verify}
 use Rattle.clr_edge.specs.declared.fault.JournalFault.TheVariants.{OpenFailed, ReadFailed}
@@ -25,10 +27,10 @@ use Rattle.clr_checking.specs.declared.fault.CheckFault.TheVariants.{BadLine, Di
 use Rattle.clr_parts.specs.Journal.{FailsAny, all_known}
 use Rattle.clr_parts.specs.Parts.{Breaks, BreaksAfter, FailsLater, FirstIs, IsNoFirst, IsNoNext, IsOfReading, IsOpened, IsUnreadOr, IsUnreadPart, ReadsLine, walked}
 use Rattle.clr_edge.specs.Paths.{AtPaths, at_paths}
-use Rattle.clr_commands.specs.Verify.{AreOthers, AreRefused, BeginOn, BeginsWith, Checks, ChecksAll, ChecksFrom, FailsFrom, FailsSome, GoOn, HasLines, IsNo, IsOfEnd, IsOfFiles, IsRefusedBy, IsRefusedIn, IsWhole, RefusesAll, RefusesPart, RefusesSome, of_check}
+use Rattle.clr_commands.specs.Verify.{AreOthers, AreRefused, BeginOn, BeginsWith, Checks, ChecksAll, ChecksFrom, EndsInHalf, FailsFrom, FailsSome, GoOn, HalfOn, HasLines, IsHalf, IsNextAfter, IsNo, IsOfEnd, IsOfFiles, IsRefusedBy, IsRefusedIn, IsWhole, RefusesAll, RefusesHalf, RefusesHalves, RefusesIn, RefusesPart, RefusesSome, of_check}
 use Rattle.clr_parts.proofs.BrokenParts.{first_breaks, next_breaks, not_next}
-use Rattle.clr_commands.proofs.CheckedParts.{CheckedLines, CheckedParts, Known, begin_on-none, begin_on-part, begins_at, checks_yes, checks_yes_from, go_on-none}
-use Rattle.clr_parts.proofs.PartLines.{before-more, before-some, known-next, later-part}
+use Rattle.clr_commands.proofs.CheckedParts.{CheckedLines, CheckedParts, Known, begin_on-none, begin_on-part, begins_at, checks_yes, checks_yes_from, go_on-none, half_on-part}
+use Rattle.clr_parts.proofs.PartLines.{before-more, before-some, before-whole, known-next, later-part}
 
 -- ---- a line
 
@@ -66,13 +68,13 @@ module _ (left now next : Option (List ℕ)) (old it : Checking) (text : Vec ℕ
       (ap (λ (t : List ℕ). (texts ++ had.lines) ++ t ∷ []) same ∙ append_assoc texts had.lines (text.items ∷ [])) is
 
   line_kept : (cause : CheckFault) → IsNotMemory cause → RefusesText it seen cause → RefusesTextFrom it seen cause
-      → IfSome left (λ bytes. RefusesPart old bytes (of_check cause))
+      → IfSome left (λ bytes. RefusesIn old bytes (of_check cause))
   line_kept cause other why why_from = by left (before-some left next (had.lines ++ text.items ∷ []) (before-more left now next had.lines text had.before reads))
     where
       by : (file : Option (List ℕ)) → IfSome file (λ bytes. (rest : List (List ℕ)) × (ended_lines bytes ≡ (had.lines ++ text.items ∷ []) ++ rest))
-          → IfSome file (λ bytes. RefusesPart old bytes (of_check cause))
+          → IfSome file (λ bytes. RefusesIn old bytes (of_check cause))
       by None is = tt
-      by (Some bytes) (rest, is) = record {
+      by (Some bytes) (rest, is) = inl (record {
         lines = had.lines ++ text.items ∷ [];
         after = rest;
         all = is;
@@ -86,10 +88,10 @@ module _ (left now next : Option (List ℕ)) (old it : Checking) (text : Vec ℕ
             to_more (λ l. IsRefusedFrom copied at first l place R) first texts cause
             (as_refused first (texts ++ had.lines) seen (IsRefusedFrom copied at first ((texts ++ had.lines) ++ seen ∷ []) place R) cause other
             (why_from copied at first place R (texts ++ had.lines) (had.checked.went_from copied at first place R texts to)));
-      }
+      })
 
   pub line_refused : (cause : CheckFault) → RefusesText it seen cause → RefusesTextFrom it seen cause
-      → IsOfReading (of_check cause) ⊎ IfSome left (λ bytes. RefusesPart old bytes (of_check cause))
+      → IsRefusedIn old left (of_check cause)
   line_refused OtherRegister why why_from = inr (line_kept OtherRegister (λ is. cc is) why why_from)
   line_refused (BadLine n) why why_from = inr (line_kept (BadLine n) (λ is. cc is) why why_from)
   line_refused (Reply n) why why_from = inr (line_kept (Reply n) (λ is. cc is) why why_from)
@@ -97,6 +99,38 @@ module _ (left now next : Option (List ℕ)) (old it : Checking) (text : Vec ℕ
   line_refused (Tables found) why why_from = inr (line_kept (Tables found) (λ is. cc is) why why_from)
   line_refused TooShort why why_from = inr (line_kept TooShort (λ is. cc is) why why_from)
   line_refused NoMemory why why_from = inl (inl refl)
+
+-- ---- half a line
+
+-- the number of a line more, after lines that all hold their sums
+next_after : (first place : Place) (it : Checking) (texts lines : List (List ℕ)) (entries : List Entry) (n : ℕ) → n ≡ next_place it.walk.end.turn.last → texts ≡ lines
+    → GoesOver first place it texts entries → IsNextAfter first lines n
+next_after first place it texts lines entries n is same over =
+    subst (λ (l : List (List ℕ)). IsNextAfter first l n) same
+    (record { entries = entries; lines = over.lines; number = is ∙ ap next_place over.end_is.number })
+
+-- a part ends in it
+pub half_refused : (left now next : Option (List ℕ)) (old it : Checking) (is_whole : Bool) (n : ℕ) (fault : Fault) → CheckedLines left now old it
+    → IfSome now (ReadsLine None next) → IfSome next (λ bytes. is_whole ≡ ends_whole bytes) → is_whole ≡ false → n ≡ next_place it.walk.end.turn.last
+    → fault ≡ of_check (BadLine n) → IsRefusedIn old left fault
+half_refused left now next old it is_whole n fault had none ends half number is = inr (by left (before-whole left now next had.lines is_whole had.before none ends))
+  where
+    by : (file : Option (List ℕ)) → IfSome file (λ bytes. (ended_lines bytes ≡ had.lines) × (ends_whole bytes ≡ is_whole)) → IfSome file (λ bytes. RefusesIn old bytes fault)
+    by None all = tt
+    by (Some bytes) (lines_are, whole) = inr (
+      whole ∙ half,
+      record {
+        number = n;
+        fault_is = is;
+        why = λ began first place R texts to.
+            let went = had.checked.went began first place R texts to in
+            next_after first place it (texts ++ had.lines) (texts ++ ended_lines bytes) went.entries n number (ap (λ (l : List (List ℕ)). texts ++ l) (sym lines_are)) went.over;
+        why_from = λ copied at first place R texts to.
+            let went = had.checked.went_from copied at first place R texts to in
+            next_after first place it (texts ++ had.lines) (texts ++ ended_lines bytes) (went.before ++ went.entries) n number
+            (ap (λ (l : List (List ℕ)). texts ++ l) (sym lines_are)) went.over;
+      },
+    )
 
 -- ---- the first line of a further part
 
@@ -114,10 +148,17 @@ part_stops id end bytes after line text cause same reads rules (inr (is, stops))
 -- a line of them is refused
 refused_some : (first : Option (List ℕ)) (all : Option (List (List ℕ))) (it : Checking) (fault : Fault)
     → IfSome first (λ known. IfSome all (λ parts. RefusesAll it (ended_lines known) parts fault))
-    → IfSome first (λ known. IfSome all (λ parts. RefusesSome it (ended_lines known) parts fault))
+    → IfSome first (λ known. IfSome all (λ parts. RefusesSome it known parts fault))
 refused_some None all it fault refused = tt
 refused_some (Some file) None it fault refused = tt
-refused_some (Some file) (Some parts) it fault refused = inr refused
+refused_some (Some file) (Some parts) it fault refused = inr (inl refused)
+
+-- one or the other
+some_of : (old begun : Checking) (file known : List ℕ) (parts : List (List ℕ)) (fault : Fault) → (RefusesPart begun known fault → RefusesAll old (ended_lines file) parts fault)
+    → (ends_whole known ≡ false → RefusesHalf begun (ended_lines known) fault → RefusesHalves old file parts fault)
+    → RefusesIn begun known fault → RefusesSome old file parts fault
+some_of old begun file known parts fault line half (inl part) = inr (inl (line part))
+some_of old begun file known parts fault line half (inr (ends, part)) = inr (inr (half ends part))
 
 module _ (first : Option (List ℕ)) (all left : Option (List (List ℕ))) (old it : Checking) (had : CheckedParts first all left old it) where
   -- a line of a further part is refused
@@ -126,26 +167,26 @@ module _ (first : Option (List ℕ)) (all left : Option (List (List ℕ))) (old 
       → (true, begun.walk.end) ≡ part_of it.walk.id it.walk.end (read_first line.items)
       → ((began : Register) (place : Place) (to : Place) (R : Register) (texts : List (List ℕ)) → CheckedTo began place to R it texts → CheckedTo began place to R begun texts)
       → ((copied : Register) (at place to : Place) (R : Register) (texts : List (List ℕ)) → CheckedToFrom copied at place to R it texts → CheckedToFrom copied at place to R begun texts)
-      → IfSome now (λ known. RefusesPart begun known fault)
-      → IfSome first (λ known. IfSome all (λ parts. RefusesAll old (ended_lines known) parts fault))
+      → IfSome now (λ known. RefusesIn begun known fault)
+      → IfSome first (λ known. IfSome all (λ parts. RefusesSome old known parts fault))
   part_refused bytes others line now begun fault is_left reads part went went_from refused = by first all had.known
     where
-      goes : (one : List ℕ) (after : Option (List ℕ)) → ReadsLine (Some line) after one → IfSome after (λ known. RefusesPart begun known fault)
-          → (known : List ℕ) × (ended_lines one ≡ line.items ∷ ended_lines known) × RefusesPart begun known fault
-      goes one None read is = absurd read
-      goes one (Some after) read is = (after, read, is)
+      goes : (one : List ℕ) (after : Option (List ℕ)) → ReadsLine (Some line) after one → IfSome after (λ known. RefusesIn begun known fault)
+          → (known : List ℕ) × (ended_lines one ≡ line.items ∷ ended_lines known) × (ends_whole one ≡ ends_whole known) × RefusesIn begun known fault
+      goes one None read is = absurd read.1
+      goes one (Some after) read is = (after, read.0, read.1, is)
 
       part_is : part_of old.walk.id it.walk.end (read_first line.items) ≡ (true, begun.walk.end)
       part_is = sym (subst (λ (i : List ℕ). (true, begun.walk.end) ≡ part_of i it.walk.end (read_first line.items)) had.id part)
 
-      by : (file : Option (List ℕ)) (found : Option (List (List ℕ))) → IfSome file (λ known. IfSome found (λ parts. Known (ended_lines known) parts left old it))
-          → IfSome file (λ known. IfSome found (λ parts. RefusesAll old (ended_lines known) parts fault))
-      by None found is = tt
-      by (Some file) None is = tt
-      by (Some file) (Some parts) (rest, more, is_rest, go, begin, broken, to, to_from) =
-          let (one, after, has, is_after, next) = known-next bytes others rest (sym is_left ∙ is_rest) in
-          let read : ReadsLine (Some line) now one = subst (λ (b : Option (List ℕ)). IfSome b (ReadsLine (Some line) now)) has reads in
-          let (known, lines_are, is) = goes one now read refused in
+      -- a line of it
+      lines_of : (file : List ℕ) (parts : List (List ℕ)) (one known : List ℕ) (after rest more : List (List ℕ)) → rest ≡ one ∷ after
+          → ended_lines one ≡ line.items ∷ ended_lines known
+          → ((front : List (List ℕ)) → BeginOn old.walk.id it.walk.end rest front → BeginOn old.walk.id (walked old.walk.end (ended_lines file)).1 parts (more ++ front))
+          → ((began : Register) (place to : Place) (R : Register) → CheckedTo began place to R old [] → CheckedTo began place to R it (ended_lines file ++ more))
+          → ((copied : Register) (at place to : Place) (R : Register) → CheckedToFrom copied at place to R old [] → CheckedToFrom copied at place to R it (ended_lines file ++ more))
+          → RefusesPart begun known fault → RefusesAll old (ended_lines file) parts fault
+      lines_of file parts one known after rest more next lines_are begin to to_from is =
           let front : BeginOn old.walk.id it.walk.end (one ∷ after) is.lines =
           begin_on-part old.walk.id it.walk.end begun.walk.end one line.items after is.lines is.after
           (lines_are ∙ ap (λ (l : List (List ℕ)). line.items ∷ l) is.all) part_is in
@@ -169,6 +210,38 @@ module _ (first : Option (List ℕ)) (all left : Option (List (List ℕ))) (old 
                 (λ of_end. absurd (no.0 of_end), no.1);
           }
 
+      -- its end
+      end_of : (file : List ℕ) (parts : List (List ℕ)) (one known : List ℕ) (after rest more : List (List ℕ)) → rest ≡ one ∷ after
+          → ended_lines one ≡ line.items ∷ ended_lines known → ends_whole one ≡ false
+          → ((texts : List (List ℕ)) → HalfOn old.walk.id it.walk.end rest texts → HalfOn old.walk.id (walked old.walk.end (ended_lines file)).1 parts (more ++ texts))
+          → ((began : Register) (place to : Place) (R : Register) → CheckedTo began place to R old [] → CheckedTo began place to R it (ended_lines file ++ more))
+          → ((copied : Register) (at place to : Place) (R : Register) → CheckedToFrom copied at place to R old [] → CheckedToFrom copied at place to R it (ended_lines file ++ more))
+          → RefusesHalf begun (ended_lines known) fault → RefusesHalves old file parts fault
+      end_of file parts one known after rest more next lines_are half halve to to_from is = record {
+        more = more ++ ended_lines known;
+        half = inr (halve (ended_lines known) (subst (λ (l : List (List ℕ)). HalfOn old.walk.id it.walk.end l (ended_lines known)) (sym next)
+            (half_on-part old.walk.id it.walk.end begun.walk.end one line.items after (ended_lines known) lines_are part_is half)));
+        number = is.number;
+        fault_is = is.fault_is;
+        why = λ began place R S was.
+            subst (λ (l : List (List ℕ)). IsNextAfter place l is.number) (append_assoc (ended_lines file) more (ended_lines known))
+            (is.why began place R S (ended_lines file ++ more) (went began place R S (ended_lines file ++ more) (to began place R S was)));
+        why_from = λ copied at place R S was.
+            subst (λ (l : List (List ℕ)). IsNextAfter place l is.number) (append_assoc (ended_lines file) more (ended_lines known))
+            (is.why_from copied at place R S (ended_lines file ++ more) (went_from copied at place R S (ended_lines file ++ more) (to_from copied at place R S was)));
+      }
+
+      by : (file : Option (List ℕ)) (found : Option (List (List ℕ))) → IfSome file (λ known. IfSome found (λ parts. Known (ended_lines known) parts left old it))
+          → IfSome file (λ known. IfSome found (λ parts. RefusesSome old known parts fault))
+      by None found is = tt
+      by (Some file) None is = tt
+      by (Some file) (Some parts) (rest, more, is_rest, go, begin, halve, broken, to, to_from) =
+          let (one, after, has, is_after, next) = known-next bytes others rest (sym is_left ∙ is_rest) in
+          let read : ReadsLine (Some line) now one = subst (λ (b : Option (List ℕ)). IfSome b (ReadsLine (Some line) now)) has reads in
+          let (known, lines_are, ends, is) = goes one now read refused in
+          some_of old begun file known parts fault (lines_of file parts one known after rest more next lines_are begin to to_from)
+          (λ half part_half. end_of file parts one known after rest more next lines_are (ends ∙ half) halve to to_from part_half) is
+
   -- all were read, and there is no yes
   end_refused : (cause : CheckFault) → IsNotMemory cause → left ≡ Some []
       → ((began : Register) (place to : Place) (R : Register) (texts : List (List ℕ)) → CheckedTo began place to R it texts → IsRefused began place texts to R cause)
@@ -181,7 +254,7 @@ module _ (first : Option (List ℕ)) (all left : Option (List (List ℕ))) (old 
           → IfSome file (λ known. IfSome found (λ parts. RefusesAll old (ended_lines known) parts (of_check cause)))
       by None found known = tt
       by (Some file) None known = tt
-      by (Some file) (Some parts) (rest, more, is_rest, go, begin, broken, to, to_from) =
+      by (Some file) (Some parts) (rest, more, is_rest, go, begin, halve, broken, to, to_from) =
           let empty : rest ≡ [] = cc (sym none ∙ is_rest) in
           let all_read : IsWhole old (ended_lines file) [] more parts = (
             refl,
@@ -211,10 +284,10 @@ module _ (first : Option (List ℕ)) (all left : Option (List (List ℕ))) (old 
   next_refused bytes others fault is_left (inr refused) = inr (by first all had.known)
     where
       by : (file : Option (List ℕ)) (found : Option (List (List ℕ))) → IfSome file (λ known. IfSome found (λ parts. Known (ended_lines known) parts left old it))
-          → IfSome file (λ known. IfSome found (λ parts. RefusesSome old (ended_lines known) parts fault))
+          → IfSome file (λ known. IfSome found (λ parts. RefusesSome old known parts fault))
       by None found known = tt
       by (Some file) None known = tt
-      by (Some file) (Some parts) (rest, more, is_rest, go, begin, broken, to, to_from) =
+      by (Some file) (Some parts) (rest, more, is_rest, go, begin, halve, broken, to, to_from) =
           inl (broken fault (subst (λ (i : List ℕ). BreaksAfter i it.walk.end rest fault) had.id
           (next_breaks it.walk.id it.walk.end bytes others rest fault (sym is_left ∙ is_rest) refused)))
 
@@ -249,11 +322,8 @@ module _ (first : Option (List ℕ)) (all left : Option (List (List ℕ))) (old 
       → IsRefusedFrom copied at place texts to R c)) is why_from))
 
 -- a line of the first part is refused
-pub first_refused : (first : Option (List ℕ)) (all : Option (List (List ℕ))) (it : Checking) (fault : Fault) → IfSome first (λ known. RefusesPart it known fault)
-    → IfSome first (λ known. IfSome all (λ parts. RefusesAll it (ended_lines known) parts fault))
-first_refused None all it fault is = tt
-first_refused (Some file) None it fault is = tt
-first_refused (Some file) (Some parts) it fault is = record {
+first_lines : (it : Checking) (file : List ℕ) (parts : List (List ℕ)) (fault : Fault) → RefusesPart it file fault → RefusesAll it (ended_lines file) parts fault
+first_lines it file parts fault is = record {
   had = is.lines;
   after = is.after;
   more = [];
@@ -271,6 +341,25 @@ first_refused (Some file) (Some parts) it fault is = record {
       (λ of_end. absurd (no.0 of_end), no.1);
 }
 
+-- or it ends in half a line
+first_half : (it : Checking) (file : List ℕ) (parts : List (List ℕ)) (fault : Fault) → ends_whole file ≡ false → RefusesHalf it (ended_lines file) fault
+    → RefusesHalves it file parts fault
+first_half it file parts fault half is = record {
+  more = [];
+  half = inl (half, refl);
+  number = is.number;
+  fault_is = is.fault_is;
+  why = λ began place R S was. subst (λ (l : List (List ℕ)). IsNextAfter place l is.number) (sym (append-nil (ended_lines file))) (is.why began place R S [] was);
+  why_from = λ copied at place R S was.
+      subst (λ (l : List (List ℕ)). IsNextAfter place l is.number) (sym (append-nil (ended_lines file))) (is.why_from copied at place R S [] was);
+}
+
+first_refused : (first : Option (List ℕ)) (all : Option (List (List ℕ))) (it : Checking) (fault : Fault) → IfSome first (λ known. RefusesIn it known fault)
+    → IfSome first (λ known. IfSome all (λ parts. RefusesSome it known parts fault))
+first_refused None all it fault is = tt
+first_refused (Some file) None it fault is = tt
+first_refused (Some file) (Some parts) it fault is = some_of it it file file parts fault (first_lines it file parts fault) (first_half it file parts fault) is
+
 -- what is passed on
 pub if_err : {T : Type 0} (result : Result T Fault) {P Q : Fault → Type 0} → ((fault : Fault) → P fault → Q fault) → IfErr result P → IfErr result Q
 if_err (Ok value) then holds = tt
@@ -278,7 +367,7 @@ if_err (Err fault) then holds = then fault holds
 
 pub first_by : (first : Option (List ℕ)) (all : Option (List (List ℕ))) (it : Checking) (fault : Fault) → IsRefusedIn it first fault → IsRefusedBy it first all fault
 first_by first all it fault (inl of) = inl (inr of)
-first_by first all it fault (inr is) = inr (refused_some first all it fault (first_refused first all it fault is))
+first_by first all it fault (inr is) = inr (first_refused first all it fault is)
 
 pub part_by : (first : Option (List ℕ)) (all left : Option (List (List ℕ))) (old it : Checking) (had : CheckedParts first all left old it)
     (bytes : Option (List ℕ)) (others : List (Option (List ℕ))) (line : Vec ℕ Global) (now : Option (List ℕ)) (begun : Checking) (fault : Fault)
@@ -289,7 +378,7 @@ pub part_by : (first : Option (List ℕ)) (all left : Option (List (List ℕ))) 
     → IsRefusedIn begun now fault → IsRefusedBy old first all fault
 part_by first all left old it had bytes others line now begun fault is_left reads part went went_from (inl of) = inl (inr of)
 part_by first all left old it had bytes others line now begun fault is_left reads part went went_from (inr is) =
-    inr (refused_some first all old fault (part_refused first all left old it had bytes others line now begun fault is_left reads part went went_from is))
+    inr (part_refused first all left old it had bytes others line now begun fault is_left reads part went went_from is)
 
 -- no fault of a check is one of opening or reading
 never_read : (cause : CheckFault) → (of_check cause ≡ Journal OpenFailed) ⊎ (of_check cause ≡ Journal ReadFailed) → ⊥
@@ -414,6 +503,28 @@ module _ (one after : List ℕ) (parts : List (List ℕ)) (first place : Place) 
       → IsNo one parts (λ first texts. IsRefusedFrom copied at first texts place R) fault
   is_no_from copied R at to = no_of (λ first texts. IsRefusedFrom copied at first texts place R) (is.why_from copied at first place R to)
 
+-- half a line
+half_over : (one after : List ℕ) (parts : List (List ℕ)) (first place : Place) (it : Checking) (entries : List Entry) (fault : Fault) → FirstIs first (Some after) one
+    → GoesOver first place it [] entries → (is : RefusesHalves it after parts fault) → IsNextAfter first (ended_lines after ++ is.more) is.number → EndsInHalf one parts fault
+half_over one after parts first place it entries fault begins over is next = record {
+  first = first;
+  text = begins.0;
+  lines = ended_lines after;
+  more = is.more;
+  lines_are = begins.1;
+  read = begins.2;
+  half = by is.half;
+  number = is.number;
+  fault_is = is.fault_is;
+  is_next = next;
+}
+  where
+    by : IsHalf after is.more ⊎ HalfOn it.walk.id (walked it.walk.end (ended_lines after)).1 parts is.more
+        → IsHalf one is.more ⊎ HalfOn first.id (walked (end_at first) (ended_lines after)).1 parts is.more
+    by (inl half) = inl (begins.3 ∙ half.0, half.1)
+    by (inr half) = inr (subst (λ (i : List ℕ). HalfOn i (walked (end_at first) (ended_lines after)).1 parts is.more) over.id_is
+        (subst (λ (e : ChainEnd). HalfOn it.walk.id (walked e (ended_lines after)).1 parts is.more) (begins_at first it.walk.end over.end_is) half))
+
 -- a part was not read, or is refused by its first line
 abbrev IsStopped : Option (List ℕ) → Option (List (List ℕ)) → Fault → Type 0
 IsStopped one all fault = IsUnreadPart fault ⊎ IfSome one (λ bytes. IfSome all (λ known. Breaks bytes known fault))
@@ -502,7 +613,7 @@ checks_first files began R None now all first place result cause is begins why =
 checks_first files began R (Some one) now None first place result cause is begins why = tt
 checks_first files began R (Some one) None (Some parts) first place result cause is begins why = absurd begins
 checks_first files began R (Some one) (Some after) (Some parts) first place result cause is begins why =
-    subst (λ (it : Result (String Global) Fault). Checks files began one parts place R it) (sym is) (inr (inr (inr (record {
+    subst (λ (it : Result (String Global) Fault). Checks files began one parts place R it) (sym is) (inr (inr (inr (inl (record {
       first = first;
       texts = [];
       begins = first_front one after parts first begins;
@@ -510,7 +621,7 @@ checks_first files began R (Some one) (Some after) (Some parts) first place resu
       fault_is = refl;
       refused = inl (record { entries = []; lines = nothing_read first; cause = inl why });
       whole = λ of_end. absurd (never_end first cause (λ short. subst (λ (f : CheckFault). RefusesRun began first [] place R f) short why) of_end);
-    }))))
+    })))))
 
 never_short : (copied R : Register) (at first place : Place) (cause : CheckFault) → RefusesFrom copied at first [] [] place R cause → cause ≡ TooShort → ⊥
 never_short copied R at first place cause (inl is) short = subst (λ (f : CheckFault). RefusesCopy first [] at place f) short is
@@ -523,7 +634,7 @@ checks_first_from copied R at None now all first place result cause is begins wh
 checks_first_from copied R at (Some one) now None first place result cause is begins why = tt
 checks_first_from copied R at (Some one) None (Some parts) first place result cause is begins why = absurd begins
 checks_first_from copied R at (Some one) (Some after) (Some parts) first place result cause is begins why =
-    subst (λ (it : Result (String Global) Fault). ChecksFrom copied at one parts place R it) (sym is) (inr (inr (record {
+    subst (λ (it : Result (String Global) Fault). ChecksFrom copied at one parts place R it) (sym is) (inr (inr (inl (record {
       first = first;
       texts = [];
       begins = first_front one after parts first begins;
@@ -531,7 +642,7 @@ checks_first_from copied R at (Some one) (Some after) (Some parts) first place r
       fault_is = refl;
       refused = inl (record { before = []; entries = []; lines = nothing_read first; cause = inl why });
       whole = λ of_end. absurd (never_end first cause (never_short copied R at first place cause why) of_end);
-    })))
+    }))))
 
 -- a further part is refused by its first line
 broken_over : (one after : List ℕ) (parts : List (List ℕ)) (first place : Place) (it : Checking) (entries : List Entry) (fault : Fault) → FirstIs first (Some after) one
@@ -549,35 +660,39 @@ broken_over one after parts first place it entries fault begins over breaks = in
 -- what comes of all lines
 pub checks_over : (files : Files) (began R : Register) (one now : Option (List ℕ)) (all : Option (List (List ℕ))) (first place : Place) (it : Checking) (result : Result (String Global) Fault)
     → IfSome one (FirstIs first now) → IsOfFiles files first → CheckedTo began first place R it []
-    → IfOk result (λ text. IfSome now (λ bytes. IfSome all (λ known. ChecksAll it (ended_lines bytes) known (string_bytes text)))) → IfErr result (IsRefusedBy it now all)
+    → IfOk result (λ text. IfSome now (λ bytes. IfSome all (λ known. ChecksAll it bytes known (string_bytes text)))) → IfErr result (IsRefusedBy it now all)
     → IfSome one (λ bytes. IfSome all (λ known. Checks files began bytes known place R result))
 checks_over files began R one now all first place it (Ok text) begins of to checks refused = checks_yes files began R one now all first place it text begins of to checks
 checks_over files began R one now all first place it (Err fault) begins of to checks (inl part) = checks_stopped files began R one all place (Err fault) fault refl (inl part)
 checks_over files began R one now all first place it (Err fault) begins of to checks (inr refused) = by one now all begins refused
   where
     by : (file left : Option (List ℕ)) (found : Option (List (List ℕ))) → IfSome file (FirstIs first left)
-        → IfSome left (λ bytes. IfSome found (λ known. RefusesSome it (ended_lines bytes) known fault))
+        → IfSome left (λ bytes. IfSome found (λ known. RefusesSome it bytes known fault))
         → IfSome file (λ bytes. IfSome found (λ known. Checks files began bytes known place R (Err fault)))
     by None left found front is = tt
     by (Some file) left None front is = tt
     by (Some file) None (Some parts) front is = absurd front
     by (Some file) (Some after) (Some parts) front (inl breaks) = inr (inl (broken_over file after parts first place it to.entries fault front to.over breaks))
-    by (Some file) (Some after) (Some parts) front (inr is) = inr (inr (inr (is_no file after parts first place it to.entries fault front to.over is began R to)))
+    by (Some file) (Some after) (Some parts) front (inr (inl is)) = inr (inr (inr (inl (is_no file after parts first place it to.entries fault front to.over is began R to))))
+    by (Some file) (Some after) (Some parts) front (inr (inr is)) =
+        inr (inr (inr (inr (half_over file after parts first place it to.entries fault front to.over is (is.why began first place R to)))))
 
 pub checks_over_copy : (copied R : Register) (at : Place) (one now : Option (List ℕ)) (all : Option (List (List ℕ))) (first place : Place) (it : Checking)
     (result : Result (String Global) Fault) → IfSome one (FirstIs first now) → CheckedToFrom copied at first place R it []
-    → IfOk result (λ text. IfSome now (λ bytes. IfSome all (λ known. ChecksAll it (ended_lines bytes) known (string_bytes text)))) → IfErr result (IsRefusedBy it now all)
+    → IfOk result (λ text. IfSome now (λ bytes. IfSome all (λ known. ChecksAll it bytes known (string_bytes text)))) → IfErr result (IsRefusedBy it now all)
     → IfSome one (λ bytes. IfSome all (λ known. ChecksFrom copied at bytes known place R result))
 checks_over_copy copied R at one now all first place it (Ok text) begins to checks refused = checks_yes_from copied R at one now all first place it text begins to checks
 checks_over_copy copied R at one now all first place it (Err fault) begins to checks (inl part) = checks_stopped_from copied R at one all place (Err fault) fault refl (inl part)
 checks_over_copy copied R at one now all first place it (Err fault) begins to checks (inr refused) = by one now all begins refused
   where
     by : (file left : Option (List ℕ)) (found : Option (List (List ℕ))) → IfSome file (FirstIs first left)
-        → IfSome left (λ bytes. IfSome found (λ known. RefusesSome it (ended_lines bytes) known fault))
+        → IfSome left (λ bytes. IfSome found (λ known. RefusesSome it bytes known fault))
         → IfSome file (λ bytes. IfSome found (λ known. ChecksFrom copied at bytes known place R (Err fault)))
     by None left found front is = tt
     by (Some file) left None front is = tt
     by (Some file) None (Some parts) front is = absurd front
     by (Some file) (Some after) (Some parts) front (inl breaks) = inr (inl (broken_over file after parts first place it (to.before ++ to.entries) fault front to.over breaks))
-    by (Some file) (Some after) (Some parts) front (inr is) =
-        inr (inr (is_no_from file after parts first place it (to.before ++ to.entries) fault front to.over is copied R at to))
+    by (Some file) (Some after) (Some parts) front (inr (inl is)) =
+        inr (inr (inl (is_no_from file after parts first place it (to.before ++ to.entries) fault front to.over is copied R at to)))
+    by (Some file) (Some after) (Some parts) front (inr (inr is)) =
+        inr (inr (inr (half_over file after parts first place it (to.before ++ to.entries) fault front to.over is (is.why_from copied at first place R to))))

@@ -1,6 +1,6 @@
 -- WHAT `verify` ANSWERS: whether the register of a database is level with a journal, over the register
 -- of the files that the journal began with, or over that of a copy.
-use Rattle.std.specs.Prelude.{◌≡◌, ◌≢◌, ◌⊎◌, ℕ, true, List, [], ◌∷◌, ◌++◌, None, Option, Some}
+use Rattle.std.specs.Prelude.{◌≡◌, ◌≢◌, ◌⊎◌, ℕ, false, true, List, [], ◌∷◌, ◌++◌, None, Option, Some}
 use Rattle.std.specs.Prelude.{Result, Ok, Err}
 use Rattle.std.specs.Prelude.{IfErr, IfSome, IsSomeAnd, OnErr, String, codes, decimal, map}
 use Rattle.std.specs.Prelude.{slice_get, string_bytes, ⊤}
@@ -14,6 +14,8 @@ use Rattle.clr_append.specs.Lines.{ended_lines}
 use Rattle.clr_book.specs.Book.{Shelved}
 use Rattle.clr_rules.specs.Register.{Register}
 use Rattle.clr_place.specs.declared.place.Place.{Place}
+use Rattle.clr_journal.specs.Journals.{next_place}
+use Rattle.clr_journal.specs.Line.{Entry}
 use Rattle.clr_chain.specs.Chain.{read_on}
 use Rattle.clr_chain.specs.First.{end_at, read_first}
 use Rattle.clr_chain.specs.Sums.{Files, first_sum}
@@ -22,6 +24,7 @@ use Rattle.clr_chain.specs.declared.chain_end.ChainEnd.{ChainEnd}
 use Rattle.clr_args.specs.declared.asked.VerifyArgs.{VerifyArgs}
 use Rattle.clr_args.specs.declared.asked.VerifyFromArgs.{VerifyFromArgs}
 use Rattle.clr_edge.specs.Answers.{After}
+use Rattle.clr_edge.specs.Lines.{ends_whole}
 use Rattle.clr_keeping.specs.Keeping.{IsNotRead, IsReadFrom}
 use Rattle.clr_keeping.specs.TakenUp.{HasPlace, IsUnplaced, IsUnsuited, LacksPlace, StaysRead}
 use Rattle.clr_edge.specs.Visit.{Done, Over}
@@ -30,8 +33,8 @@ use Rattle.clr_edge.specs.declared.fault.Fault.TheVariants.{Journal, Memory, Ver
 use Rattle.clr_edge.specs.declared.fault.JournalFault.TheVariants as why
 use Rattle.clr_edge.specs.declared.fault.VerifyFault.TheVariants.{Differs, Files as OtherFiles}
 use Rattle.clr_edge.specs.declared.fault.VerifyFault.TheVariants.{Reply}
-use Rattle.clr_checking.specs.Checking.{IsBadAfter, IsChecked, IsCheckedFrom, IsRefused}
-use Rattle.clr_checking.specs.Checking.{IsRefusedFrom}
+use Rattle.clr_checking.specs.Checking.{AreLines, IsBadAfter, IsChecked, IsCheckedFrom}
+use Rattle.clr_checking.specs.Checking.{IsRefused, IsRefusedFrom}
 use Rattle.clr_checking.specs.CheckingOn.{CheckedTo, CheckedToFrom}
 use Rattle.clr_checking.specs.declared.checking.Checking.{Checking}
 use Rattle.clr_checking.specs.declared.fault.CheckFault.{CheckFault}
@@ -76,21 +79,22 @@ IsPlacedRead g desk R (Err fault) after = StaysRead (state g desk) (state g afte
 
 -- ---- the journal
 
--- the lines of further parts, each of which goes on where the one before it ends
+-- the lines of further parts, each of which ends whole, and goes on where the one before it ends
 unfoldable pub GoOn : List ℕ → ChainEnd → List (List ℕ) → List (List ℕ) → Type 0
 GoOn id end [] texts = texts ≡ []
 GoOn id end (bytes ∷ rest) texts = (text : List ℕ) × (lines more : List (List ℕ))
-    × (next : ChainEnd) × (ended_lines bytes ≡ text ∷ lines)
+    × (next : ChainEnd) × (ended_lines bytes ≡ text ∷ lines) × (ends_whole bytes ≡ true)
     × (part_of id end (read_first text) ≡ (true, next)) × (texts ≡ lines ++ more)
     × GoOn id (walked next lines).1 rest more
 
--- THE FIRST LINE AND THE LINES AFTER IT, of all parts
+-- THE FIRST LINE AND THE LINES AFTER IT, of all parts: no part ends in half a line
 pub record HasLines (one : List ℕ) (parts : List (List ℕ)) (first : Place)
     (texts : List (List ℕ)) : Type 0 where
   pub text : List ℕ
   pub lines : List (List ℕ)
   pub more : List (List ℕ)
   pub lines_are : ended_lines one ≡ text ∷ lines
+  pub whole : ends_whole one ≡ true
   pub read : read_first text ≡ Some first
   pub go_on : GoOn first.id (walked (end_at first) lines).1 parts more
   pub texts_are : texts ≡ lines ++ more
@@ -116,6 +120,37 @@ pub record BeginsWith (one : List ℕ) (parts : List (List ℕ)) (first : Place)
   pub texts_are : texts ≡ lines ++ more
   pub go_on : (more ≡ [])
       ⊎ ((after ≡ []) × BeginOn first.id (walked (end_at first) lines).1 parts more)
+
+-- a part ends in half a line, and none of those after it was read
+abbrev pub IsHalf : List ℕ → List (List ℕ) → Type 0
+IsHalf bytes more = (ends_whole bytes ≡ false) × (more ≡ [])
+
+-- the lines of further parts, up to one that ends in half a line
+unfoldable pub HalfOn : List ℕ → ChainEnd → List (List ℕ) → List (List ℕ) → Type 0
+HalfOn id end [] texts = ⊥
+HalfOn id end (bytes ∷ rest) texts = (text : List ℕ) × (lines more : List (List ℕ))
+    × (next : ChainEnd) × (ended_lines bytes ≡ text ∷ lines)
+    × (part_of id end (read_first text) ≡ (true, next)) × (texts ≡ lines ++ more)
+    × (IsHalf bytes more ⊎ HalfOn id (walked next lines).1 rest more)
+
+-- ALL LINES OF THESE TEXTS hold their sums, and a line after them would have this number
+pub record IsNextAfter (first : Place) (texts : List (List ℕ)) (n : ℕ) : Type 0 where
+  pub entries : List Entry
+  pub lines : AreLines first texts entries
+  pub number : n ≡ next_place (read_on (end_at first) texts).end.turn.last
+
+-- A PART ENDS IN HALF A LINE, which would have this number: all lines before it hold their sums
+pub record EndsInHalf (one : List ℕ) (parts : List (List ℕ)) (fault : Fault) : Type 0 where
+  pub first : Place
+  pub text : List ℕ
+  pub lines : List (List ℕ)
+  pub more : List (List ℕ)
+  pub lines_are : ended_lines one ≡ text ∷ lines
+  pub read : read_first text ≡ Some first
+  pub half : IsHalf one more ⊎ HalfOn first.id (walked (end_at first) lines).1 parts more
+  pub number : ℕ
+  pub fault_is : fault ≡ Journal (why.BadLine number)
+  pub is_next : IsNextAfter first (lines ++ more) number
 
 -- THE FIRST LINE IS OF THESE FILES: its number is 0, and its sum of the files and its id
 pub record IsOfFiles (files : Files) (first : Place) : Type 0 where
@@ -195,6 +230,30 @@ pub record RefusesPart (it : Checking) (bytes : List ℕ) (fault : Fault) : Type
       → (IsOfEnd first (texts ++ lines) cause → ⊥) × AreRefused first (texts ++ lines)
       (IsRefusedFrom copied at first (texts ++ lines) place R) cause
 
+-- half a line comes after these, whatever was checked before them
+pub record RefusesHalf (it : Checking) (lines : List (List ℕ)) (fault : Fault) : Type 0 where
+  pub number : ℕ
+  pub fault_is : fault ≡ of_check (check.BadLine number)
+  pub why : (began : Register) (first place : Place) (R : Register) (texts : List (List ℕ))
+      → CheckedTo began first place R it texts → IsNextAfter first (texts ++ lines) number
+  pub why_from : (copied : Register) (at first place : Place) (R : Register)
+      (texts : List (List ℕ)) → CheckedToFrom copied at first place R it texts
+      → IsNextAfter first (texts ++ lines) number
+
+-- one of the parts ends in it
+pub record RefusesHalves (it : Checking) (bytes : List ℕ) (parts : List (List ℕ)) (fault : Fault)
+    : Type 0 where
+  pub more : List (List ℕ)
+  pub half : IsHalf bytes more
+      ⊎ HalfOn it.walk.id (walked it.walk.end (ended_lines bytes)).1 parts more
+  pub number : ℕ
+  pub fault_is : fault ≡ of_check (check.BadLine number)
+  pub why : (began : Register) (first place : Place) (R : Register)
+      → CheckedTo began first place R it [] → IsNextAfter first (ended_lines bytes ++ more) number
+  pub why_from : (copied : Register) (at first place : Place) (R : Register)
+      → CheckedToFrom copied at first place R it []
+      → IsNextAfter first (ended_lines bytes ++ more) number
+
 -- they are all lines
 abbrev pub IsWhole : Checking → List (List ℕ) → List (List ℕ) → List (List ℕ) → List (List ℕ)
     → Type 0
@@ -219,19 +278,25 @@ pub record RefusesAll (it : Checking) (lines parts : List (List ℕ)) (fault : F
       → (IsOfEnd first (had ++ more) cause → IsWhole it had after more parts)
       × AreRefused first (had ++ more) (IsRefusedFrom copied at first (had ++ more) place R) cause
 
--- why a part was not checked: it was not read, or a line of it is refused
-abbrev pub IsRefusedIn : Checking → Option (List ℕ) → Fault → Type 0
-IsRefusedIn it left fault = IsOfReading fault ⊎ IfSome left (λ bytes. RefusesPart it bytes fault)
+-- why a part was not checked: it was not read, or a line of it is refused, or it ends in half one
+abbrev pub RefusesIn : Checking → List ℕ → Fault → Type 0
+RefusesIn it bytes fault = RefusesPart it bytes fault
+    ⊎ ((ends_whole bytes ≡ false) × RefusesHalf it (ended_lines bytes) fault)
 
--- why all parts were not: one was not opened or read, or is refused by its first line; or a line
-abbrev pub RefusesSome : Checking → List (List ℕ) → List (List ℕ) → Fault → Type 0
-RefusesSome it lines parts fault =
-    BreaksAfter it.walk.id (walked it.walk.end lines).1 parts fault
-    ⊎ RefusesAll it lines parts fault
+abbrev pub IsRefusedIn : Checking → Option (List ℕ) → Fault → Type 0
+IsRefusedIn it left fault = IsOfReading fault ⊎ IfSome left (λ bytes. RefusesIn it bytes fault)
+
+-- why all parts were not: one was not opened or read, or is refused by its first line; or a line,
+-- or one ends in half a line
+abbrev pub RefusesSome : Checking → List ℕ → List (List ℕ) → Fault → Type 0
+RefusesSome it bytes parts fault =
+    BreaksAfter it.walk.id (walked it.walk.end (ended_lines bytes)).1 parts fault
+    ⊎ RefusesAll it (ended_lines bytes) parts fault
+    ⊎ RefusesHalves it bytes parts fault
 
 abbrev pub IsRefusedBy : Checking → Option (List ℕ) → Option (List (List ℕ)) → Fault → Type 0
 IsRefusedBy it left parts fault = IsUnreadPart fault
-    ⊎ IfSome left (λ bytes. IfSome parts (λ known. RefusesSome it (ended_lines bytes) known fault))
+    ⊎ IfSome left (λ bytes. IfSome parts (λ known. RefusesSome it bytes known fault))
 
 -- the first line is not of these files, unless memory ran out
 abbrev pub AreOthers : Files → Place → Fault → Type 0
@@ -248,18 +313,20 @@ pub record ChecksOn (old new : Checking) (lines : List (List ℕ)) : Type 0 wher
       (texts : List (List ℕ)) → CheckedToFrom copied at first place R old texts
       → CheckedToFrom copied at first place R new (texts ++ lines)
 
--- THE YES OF A CHECK at a first line: of these lines, and of those of the further parts
-pub record ChecksAll (it : Checking) (lines parts : List (List ℕ)) (text : List ℕ) : Type 0 where
+-- THE YES OF A CHECK at a first line: of the lines of these bytes, and of those of the further parts
+pub record ChecksAll (it : Checking) (bytes : List ℕ) (parts : List (List ℕ)) (text : List ℕ)
+    : Type 0 where
+  pub whole : ends_whole bytes ≡ true
   pub more : List (List ℕ)
-  pub go_on : GoOn it.walk.id (walked it.walk.end lines).1 parts more
+  pub go_on : GoOn it.walk.id (walked it.walk.end (ended_lines bytes)).1 parts more
   pub count : ℕ
   pub text_is : text ≡ verified_text count
   pub yes : (began : Register) (first place : Place) (R : Register)
       → CheckedTo began first place R it []
-      → IsChecked began first (lines ++ more) place R count
+      → IsChecked began first (ended_lines bytes ++ more) place R count
   pub yes_from : (copied : Register) (at first place : Place) (R : Register)
       → CheckedToFrom copied at first place R it []
-      → IsCheckedFrom copied at first (lines ++ more) place R count
+      → IsCheckedFrom copied at first (ended_lines bytes ++ more) place R count
 
 -- THE YES OF A JOURNAL in these parts, for a register at this place: its first line is of the files,
 -- and the register is level with it
@@ -281,6 +348,7 @@ Checks files began one parts place R (Err fault) = IsUnreadPart fault
     ⊎ Breaks one parts fault
     ⊎ IsOfOthers files one fault
     ⊎ IsNo one parts (λ first texts. IsRefused began first texts place R) fault
+    ⊎ EndsInHalf one parts fault
 
 -- from a copy, which is at a place too
 pub record IsYesFrom (copied : Register) (at : Place) (one : List ℕ) (parts : List (List ℕ))
@@ -299,6 +367,7 @@ ChecksFrom copied at one parts place R (Ok text) =
 ChecksFrom copied at one parts place R (Err fault) = IsUnreadPart fault
     ⊎ Breaks one parts fault
     ⊎ IsNo one parts (λ first texts. IsRefusedFrom copied at first texts place R) fault
+    ⊎ EndsInHalf one parts fault
 
 -- ---- a part that went unread
 
@@ -359,8 +428,9 @@ pub record VerifiesFromAt {M : Type 0} (at : AtPaths) (args : VerifyFromArgs)
 
 -- ---- what its yes says
 
--- A YES IS OF A LEVEL PAIR: the lines of the journal, up to the place of the register, are those of a
--- run over the register of the files, with these replies, to one with the same tables
+-- A YES IS OF A LEVEL PAIR: no part ends in half a line, and the lines of the journal, up to the
+-- place of the register, are those of a run over the register of the files, with these replies, to
+-- one with the same tables
 abbrev pub YesIsLevel : Type 0
 YesIsLevel = (files : Files) (began : Register) (one : List ℕ) (parts : List (List ℕ))
     (place : Place) (R : Register) (text : List ℕ)

@@ -1,13 +1,15 @@
 //! The subcommand `verify`: whether a register is level with its journal.
 ghost use Rattle.std.specs.Prelude.{◌≡◌, ◌⊎◌, ℕ, Err, IfErr, IfOk, IfSome, Ok, OnOk, false, map};
-ghost use Rattle.std.specs.Prelude.{string_bytes};
+ghost use Rattle.std.specs.Prelude.{string_bytes, true};
 ghost use Rattle.clr_append.specs.Lines.{ended_lines};
 ghost use Rattle.clr_rules.specs.Good.{IsGood};
+ghost use Rattle.clr_journal.specs.Journals.{next_place};
 ghost use Rattle.clr_commands.specs.Faults.{IsOfSubcommand};
 ghost use Rattle.clr_commands.specs.First.{files_of};
 ghost use Rattle.clr_commands.specs.Import.{contents_of};
 ghost use Rattle.clr_parts.specs.Journal.{all_known};
 ghost use Rattle.clr_parts.specs.Parts.{FailsLater, left_in};
+ghost use Rattle.clr_edge.specs.Lines.{ends_whole};
 ghost use Rattle.clr_edge.specs.Paths.{at_paths};
 ghost use Rattle.clr_commands.specs.Verify.{AreOthers, Checks, ChecksAll, ChecksFrom, ChecksOn};
 ghost use Rattle.clr_commands.specs.Verify.{FailsFrom, FailsSome};
@@ -44,7 +46,8 @@ use std::alloc::Global;
 /// `Verify(Files)` where the first line is not of these files; `Verify(Reply)` where a command has
 /// another reply; `Verify(Differs)` with the first row that is another at the place of the
 /// register; `Journal` where the journal is another register's, has a bad line, ends before the
-/// register's place, or differs there.
+/// register's place, or differs there. Half a line at the end of a part is a bad line, with the next
+/// number.
 pub fn verify<'a, R: Databases, O: Opens<'a>>(
     alloc: Global,
     rt: &mut R,
@@ -226,7 +229,7 @@ fn check_all<'a, O: Opens<'a>>(
     requires { IsReady checking }
     ensures checked { IfOk result (λ text. IfSome (left_in O.File.remaining part) (λ bytes.
         IfSome (all_known (map (λ path. O.bytes_at paths.now path.now) parts.now)) (λ known.
-        ChecksAll checking.entry (ended_lines bytes) known (string_bytes text)))) }
+        ChecksAll checking.entry bytes known (string_bytes text)))) }
     ensures refused { IfErr result (IsRefusedBy checking.entry (left_in O.File.remaining part)
         (all_known (map (λ path. O.bytes_at paths.now path.now) parts.now))) }
     ensures unread { IfErr result (FailsFrom O.File.failure_count part.source
@@ -244,7 +247,7 @@ fn check_all<'a, O: Opens<'a>>(
     said(alloc, checking.end(alloc))
 }
 
-/// Checks the lines that are left of a part.
+/// Checks the lines that are left of a part, which has to end whole.
 fn check_part<'b, S: Source + Drop>(
     alloc: Global,
     checking: Checking<'b>,
@@ -254,7 +257,7 @@ fn check_part<'b, S: Source + Drop>(
     ensures ready { IfOk result IsReady }
     ensures id { IfOk result (λ checked. checked.walk.id ≡ checking.entry.walk.id) }
     ensures checked { IfOk result (λ checked. IfSome (left_in S.remaining part) (λ bytes.
-        ChecksOn checking.entry checked (ended_lines bytes))) }
+        ChecksOn checking.entry checked (ended_lines bytes) × (ends_whole bytes ≡ true))) }
     ensures refused { IfErr result (IsRefusedIn checking.entry (left_in S.remaining part)) }
     ensures unread { IfErr result (FailsLater S.failure_count part.source) }
     ensures fault { IfErr result IsOfCheck }
@@ -263,13 +266,25 @@ fn check_part<'b, S: Source + Drop>(
     let mut part = part;
     'lines: for _ in 0..u64::MAX {
         let Some(line) = part.line(alloc)? else {
-            return Ok(checking);
+            let is_whole = part.ends_whole();
+            if is_whole {
+                return Ok(checking);
+            }
+            return Err(half_line(&checking));
         };
         if let Err(fault) = checking.line(alloc, &line) {
             return Err(of_check(fault));
         }
     }
     Err(Fault::Journal(JournalFault::TooLong))
+}
+
+/// What is reported of half a line that comes next.
+fn half_line(checking: &Checking<'_>) -> Fault
+    ensures { result ≡ Fault.Journal (JournalFault.BadLine
+        (next_place checking.now.walk.end.turn.last)) }
+{
+    Fault::Journal(JournalFault::BadLine(checking.next_number()))
 }
 
 /// What is said of a register that was checked.

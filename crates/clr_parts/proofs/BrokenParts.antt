@@ -27,7 +27,7 @@ rules_are all text rest is = ap (λ (l : List (List ℕ)). option_and_then other
 -- it has no line
 pub no_line : (bytes after : Option (List ℕ)) → IfSome bytes (ReadsLine None after) → IsUnreadOr IsNoPart bytes (Journal (BadLine 0))
 no_line None after none = inr tt
-no_line (Some all) after none = inr (inr (refl, none))
+no_line (Some all) after none = inr (inr (refl, none.0))
 
 -- it was not opened or read
 pub unread_kind : (fault : Fault) → IsUnreadPart fault → IsOfPart fault
@@ -41,9 +41,9 @@ pub names_rules : (bytes after : Option (List ℕ)) (line : Vec ℕ Global) (tex
     → IsOfRules text fault → IsUnreadOr IsNoPart bytes fault
 names_rules bytes after line text fault same reads (inl memory) = inl (inr (inl memory))
 names_rules None after line text fault same reads (inr (number, is, names)) = inr tt
-names_rules (Some all) None line text fault same reads (inr (number, is, names)) = absurd reads
+names_rules (Some all) None line text fault same reads (inr (number, is, names)) = absurd reads.1
 names_rules (Some all) (Some rest) line text fault same reads (inr (number, is, names)) =
-    inr (inl (number, is, rules_are all line.items (ended_lines rest) reads ∙ ap other_rules_in (sym same) ∙ names))
+    inr (inl (number, is, rules_are all line.items (ended_lines rest) reads.0 ∙ ap other_rules_in (sym same) ∙ names))
 
 -- no part is no first part, and none that goes on
 pub no_first : (bytes : Option (List ℕ)) (fault : Fault) → IsUnreadOr IsNoPart bytes fault → IsUnreadOr IsNoFirst bytes fault
@@ -60,11 +60,11 @@ no_next id end (Some all) fault (inr refused) = inr (inl refused)
 pub not_first : (bytes after : Option (List ℕ)) (line : Vec ℕ Global) (text : List ℕ) → text ≡ line.items → IfSome bytes (ReadsLine (Some line) after)
     → other_rules_in line.items ≡ None → None ≡ read_first text → IsUnreadOr IsNoFirst bytes (Journal (BadLine 0))
 not_first None after line text same reads rules none = inr tt
-not_first (Some all) None line text same reads rules none = absurd reads
+not_first (Some all) None line text same reads rules none = absurd reads.1
 not_first (Some all) (Some rest) line text same reads rules none = inr (inr (
   refl,
-  rules_are all line.items (ended_lines rest) reads ∙ rules,
-  first_is all line.items (ended_lines rest) reads ∙ ap read_first (sym same) ∙ sym none,
+  rules_are all line.items (ended_lines rest) reads.0 ∙ rules,
+  first_is all line.items (ended_lines rest) reads.0 ∙ ap read_first (sym same) ∙ sym none,
 ))
 
 -- its first line does not go on
@@ -75,11 +75,11 @@ pub not_next : (id : List ℕ) (end : ChainEnd) (bytes after : Option (List ℕ)
     → IfSome bytes (ReadsLine (Some line) after) → other_rules_in line.items ≡ None → (part_of id end (read_first text)).0 ≡ false
     → IsUnreadOr (IsNoNext id end) bytes (Journal (BadLine end.turn.last))
 not_next id end None after line text same reads rules stops = inr tt
-not_next id end (Some all) None line text same reads rules stops = absurd reads
+not_next id end (Some all) None line text same reads rules stops = absurd reads.1
 not_next id end (Some all) (Some rest) line text same reads rules stops = inr (inr (
   refl,
-  rules_are all line.items (ended_lines rest) reads ∙ rules,
-  ap (λ (o : Option Place). (part_of id end o).0) (first_is all line.items (ended_lines rest) reads ∙ ap read_first (sym same)) ∙ stops,
+  rules_are all line.items (ended_lines rest) reads.0 ∙ rules,
+  ap (λ (o : Option Place). (part_of id end o).0) (first_is all line.items (ended_lines rest) reads.0 ∙ ap read_first (sym same)) ∙ stops,
 ))
 
 -- ---- further parts

@@ -1,5 +1,5 @@
 -- What `journal` prints, once all parts were printed, or one was not.
-use Rattle.std.proofs.Common.{◌≡◌, ◌≢◌, ◌⊎◌, ◌∙◌, ap, inl, inr, refl, subst, sym, ℕ, List, [], ◌∷◌, ◌++◌, map, append-nil, Ok, Err}
+use Rattle.std.proofs.Common.{◌≡◌, ◌≢◌, ◌⊎◌, ◌∙◌, ap, inl, inr, refl, subst, sym, ℕ, Bool, List, [], ◌∷◌, ◌++◌, map, Ok, Err}
 use Rattle.std.specs.Borrow.{Bor}
 use Rattle.std.specs.Prelude.{IfSome, None, Option, Some, string_bytes}
 use Rattle.clr_append.specs.Lines.{ended_lines}
@@ -10,12 +10,13 @@ use Rattle.clr_chain.specs.declared.chain_end.ChainEnd.{ChainEnd}
 use Rattle.clr_place.specs.declared.place.Place.{Place}
 use Rattle.clr_args.specs.declared.asked.JournalArgs.{JournalArgs}
 use Rattle.clr_rules.specs.Id.{Id}
+use Rattle.clr_edge.specs.Lines.{ends_whole}
 use Rattle.clr_edge.specs.Visit.{Done}
 use Rattle.clr_edge.specs.declared.fault.Fault.{Fault}
 use Rattle.clr_edge.specs.declared.fault.Fault.TheVariants.{Journal, Memory, NoSuch, Output}
 use Rattle.clr_edge.specs.declared.fault.JournalFault.TheVariants.{BadLine, OpenFailed, ReadFailed}
 use Rattle.clr_parts.specs.Journal.{FailsAny, FailsOne, IsOfPrinting, IsSent, PrintsAt, PrintsParts, SentSome, all_known, journal_text, parts_known, wanted_in}
-use Rattle.clr_parts.specs.Parts.{BeginBy, Breaks, BreaksAfter, FirstIs, GoOnBy, HasFront, HasSteps, IsNoFirst, IsOfPart, IsOfReading, IsUnreadOr, IsUnreadPart, walked}
+use Rattle.clr_parts.specs.Parts.{BeginBy, BeginsPart, Breaks, BreaksAfter, FirstIs, GoOnBy, HasFront, HasSteps, IsNoFirst, IsOfPart, IsOfReading, IsUnreadOr, IsUnreadPart, part_steps, walked}
 use Rattle.clr_edge.specs.Paths.{AtPaths}
 use Rattle.clr_parts.specs.Printing.{FailsMore, FailsWithin, HasPrinted, IsCutOf, IsText, PrintsAll, PrintsMore, PrintsPart}
 use Rattle.clr_parts.specs.declared.journal.Printing.{Printing}
@@ -89,23 +90,32 @@ read_all args o r steps result fault (wanted, wanted_is, inr (inr (memory, some)
 
 -- ---- the first part
 
--- its first line, and the lines that were read of it
-record Begins (bytes : List ℕ) (first : Place) (lines rest : List (List ℕ)) : Type 0 where
+-- its first line, and the lines after it
+record Begins (bytes : List ℕ) (first : Place) (lines : List (List ℕ)) (is_whole : Bool) : Type 0 where
   text : List ℕ
-  lines_are : ended_lines bytes ≡ text ∷ (lines ++ rest)
+  lines_are : ended_lines bytes ≡ text ∷ lines
   read : read_first text ≡ Some first
+  ends : ends_whole bytes ≡ is_whole
 
-begins_all : (bytes : List ℕ) (first : Place) (now : Option (List ℕ)) (lines : List (List ℕ)) → FirstIs first now bytes → IfSome now (λ known. ended_lines known ≡ lines)
-    → Begins bytes first lines []
-begins_all bytes first None lines is all = absurd is
-begins_all bytes first (Some after) lines (text, is, read) all =
-    record { text = text; lines_are = is ∙ ap (λ (l : List (List ℕ)). text ∷ l) (all ∙ sym (append-nil lines)); read = read }
+begins_all : (bytes : List ℕ) (first : Place) (now : Option (List ℕ)) (lines : List (List ℕ)) (is_whole : Bool) → FirstIs first now bytes
+    → IfSome now (λ known. (ended_lines known ≡ lines) × (ends_whole known ≡ is_whole)) → Begins bytes first lines is_whole
+begins_all bytes first None lines is_whole is all = absurd is
+begins_all bytes first (Some after) lines is_whole (text, is, read, ends) all =
+    record { text = text; lines_are = is ∙ ap (λ (l : List (List ℕ)). text ∷ l) all.0; read = read; ends = ends ∙ all.1 }
 
-begins_some : (bytes : List ℕ) (first : Place) (now : Option (List ℕ)) (lines : List (List ℕ)) → FirstIs first now bytes
-    → IfSome now (λ known. (rest : List (List ℕ)) × (ended_lines known ≡ lines ++ rest)) → (rest : List (List ℕ)) × Begins bytes first lines rest
-begins_some bytes first None lines is some = absurd is
-begins_some bytes first (Some after) lines (text, is, read) (rest, some) =
-    (rest, record { text = text; lines_are = is ∙ ap (λ (l : List (List ℕ)). text ∷ l) some; read = read })
+-- the steps that it begins with, as far as it was read
+begins_some : (bytes : List ℕ) (parts : List (List ℕ)) (first : Place) (now : Option (List ℕ)) (end : ChainEnd) (steps : List Step) → FirstIs first now bytes
+    → end ≡ end_at first → IfSome now (λ known. BeginsPart end (ended_lines known) (ends_whole known) steps) → HasFront bytes parts steps
+begins_some bytes parts first None end steps is same some = absurd is
+begins_some bytes parts first (Some after) end steps (text, is, read, ends) same some = record {
+  first = first;
+  text = text;
+  texts = ended_lines after;
+  lines = is;
+  read = read;
+  some = inl (subst (λ (b : Bool). BeginsPart (end_at first) (ended_lines after) b steps) (sym ends)
+      (subst (λ (e : ChainEnd). BeginsPart e (ended_lines after) (ends_whole after) steps) same some));
+}
 
 module _ (args : JournalArgs) (o : Stream) (one : Option (List ℕ)) (parts : Option (List (List ℕ))) (first : Place) (now : Option (List ℕ)) (it : Printing)
     (is_first : IfSome one (FirstIs first now)) (id : it.walk.id ≡ first.id) (end : it.walk.end ≡ end_at first) (begun : HasPrinted args o [] it o) where
@@ -117,21 +127,12 @@ module _ (args : JournalArgs) (o : Stream) (one : Option (List ℕ)) (parts : Op
       by None known begins = tt
       by (Some bytes) None begins = tt
       by (Some bytes) (Some known) begins =
-          let (rest, line) = begins_some bytes first now part.lines begins part.some in
           let (wanted, wanted_is, cut) = part.fails.cut is args o [] begun in
           inr (inl (
             ap Err is,
             record {
-              steps = (walked it.walk.end part.lines).0;
-              begins = record {
-                first = first;
-                text = line.text;
-                texts = part.lines;
-                after = rest;
-                lines = line.lines_are;
-                read = line.read;
-                some = inl (ap (λ (e : ChainEnd). (walked e part.lines).0) end);
-              };
+              steps = part.steps;
+              begins = begins_some bytes known first now it.walk.end part.steps begins end part.some;
               wanted = wanted;
               wanted_is = wanted_is;
               cut = cut;
@@ -143,41 +144,41 @@ module _ (args : JournalArgs) (o : Stream) (one : Option (List ℕ)) (parts : Op
     front_is : it1.walk.end ≡ (walked (end_at first) part.lines).1
     front_is = part.end ∙ ap (λ (e : ChainEnd). (walked e part.lines).1) end
 
-    steps_are : (more : List Step) → (walked it.walk.end part.lines).0 ++ more ≡ (walked (end_at first) part.lines).0 ++ more
-    steps_are more = ap (λ (e : ChainEnd). (walked e part.lines).0 ++ more) end
+    steps_are : (bytes : List ℕ) (more : List Step) → ends_whole bytes ≡ part.is_whole
+        → part_steps it.walk.end part.lines part.is_whole ++ more ≡ part_steps (end_at first) part.lines (ends_whole bytes) ++ more
+    steps_are bytes more ends =
+        ap (λ (e : ChainEnd). part_steps e part.lines part.is_whole ++ more) end ∙ ap (λ (b : Bool). part_steps (end_at first) part.lines b ++ more) (sym ends)
 
     has_front : (bytes : List ℕ) (known : List (List ℕ)) (more : List Step) → FirstIs first now bytes → BeginBy it1.walk.id it1.walk.end known more
-        → HasFront bytes known ((walked it.walk.end part.lines).0 ++ more)
+        → HasFront bytes known (part_steps it.walk.end part.lines part.is_whole ++ more)
     has_front bytes known more begins begin =
-        let line = begins_all bytes first now part.lines begins part.all in
+        let line = begins_all bytes first now part.lines part.is_whole begins part.all in
         record {
           first = first;
           text = line.text;
           texts = part.lines;
-          after = [];
           lines = line.lines_are;
           read = line.read;
           some = inr (
-            refl,
             more,
-            steps_are more,
+            steps_are bytes more line.ends,
             subst (λ (i : List ℕ). BeginBy i (walked (end_at first) part.lines).1 known more) (part.id ∙ id)
                 (subst (λ (e : ChainEnd). BeginBy it1.walk.id e known more) front_is begin),
           );
         }
 
     has_steps : (bytes : List ℕ) (known : List (List ℕ)) (more : List Step) → FirstIs first now bytes → GoOnBy it1.walk.id it1.walk.end known more
-        → HasSteps bytes known ((walked it.walk.end part.lines).0 ++ more)
+        → HasSteps bytes known (part_steps it.walk.end part.lines part.is_whole ++ more)
     has_steps bytes known more begins goes =
-        let line = begins_all bytes first now part.lines begins part.all in
+        let line = begins_all bytes first now part.lines part.is_whole begins part.all in
         record {
           first = first;
           text = line.text;
           texts = part.lines;
-          lines = line.lines_are ∙ ap (λ (l : List (List ℕ)). line.text ∷ l) (append-nil part.lines);
+          lines = line.lines_are;
           read = line.read;
           more = more;
-          steps_are = steps_are more;
+          steps_are = steps_are bytes more line.ends;
           go_on = subst (λ (i : List ℕ). GoOnBy i (walked (end_at first) part.lines).1 known more) (part.id ∙ id)
               (subst (λ (e : ChainEnd). GoOnBy it1.walk.id e known more) front_is goes);
         }
@@ -192,12 +193,12 @@ module _ (args : JournalArgs) (o : Stream) (one : Option (List ℕ)) (parts : Op
         by None known begins broken = tt
         by (Some bytes) None begins broken = tt
         by (Some bytes) (Some known) begins broken =
-            let line = begins_all bytes first now part.lines begins part.all in
+            let line = begins_all bytes first now part.lines part.is_whole begins part.all in
             inr (
               first,
               line.text,
               part.lines,
-              line.lines_are ∙ ap (λ (l : List (List ℕ)). line.text ∷ l) (append-nil part.lines),
+              line.lines_are,
               line.read,
               subst (λ (i : List ℕ). BreaksAfter i (walked (end_at first) part.lines).1 known fault) (part.id ∙ id)
                   (subst (λ (e : ChainEnd). BreaksAfter it1.walk.id e known fault) front_is broken),
@@ -217,11 +218,11 @@ module _ (args : JournalArgs) (o : Stream) (one : Option (List ℕ)) (parts : Op
         by None known begins begin = tt
         by (Some bytes) None begins begin = tt
         by (Some bytes) (Some known) begins begin =
-            let (wanted, wanted_is, cut) = more.fails.cut is args o (walked it.walk.end part.lines).0 (part.prints.printed args o [] begun) in
+            let (wanted, wanted_is, cut) = more.fails.cut is args o (part_steps it.walk.end part.lines part.is_whole) (part.prints.printed args o [] begun) in
             inr (inl (
               ap Err is,
               record {
-                steps = (walked it.walk.end part.lines).0 ++ more.steps;
+                steps = part_steps it.walk.end part.lines part.is_whole ++ more.steps;
                 begins = has_front bytes known more.steps begins begin;
                 wanted = wanted;
                 wanted_is = wanted_is;
@@ -232,20 +233,20 @@ module _ (args : JournalArgs) (o : Stream) (one : Option (List ℕ)) (parts : Op
     -- all were
     module _ (it2 : Printing) (q r : Stream) (result : Done) (more : PrintsMore parts it1 p it2 q)
         (ended : (asked : JournalArgs) (began : Stream) (steps : List Step) → HasPrinted asked began steps it2 q → PrintsAll asked began r steps result) where
-      all_of : PrintsAll args o r ((walked it.walk.end part.lines).0 ++ more.steps) result
+      all_of : PrintsAll args o r (part_steps it.walk.end part.lines part.is_whole ++ more.steps) result
       all_of =
-          ended args o ((walked it.walk.end part.lines).0 ++ more.steps)
-          (more.prints.printed args o (walked it.walk.end part.lines).0 (part.prints.printed args o [] begun))
+          ended args o (part_steps it.walk.end part.lines part.is_whole ++ more.steps)
+          (more.prints.printed args o (part_steps it.walk.end part.lines part.is_whole) (part.prints.printed args o [] begun))
 
       pub printed_at : PrintsAt one parts args o r result
       printed_at = by one parts is_first more.go_on all_of
         where
           by : (bytes : Option (List ℕ)) (known : Option (List (List ℕ))) → IfSome bytes (FirstIs first now) → IfSome known (λ all. GoOnBy it1.walk.id it1.walk.end all more.steps)
-              → PrintsAll args o r ((walked it.walk.end part.lines).0 ++ more.steps) result → PrintsAt bytes known args o r result
+              → PrintsAll args o r (part_steps it.walk.end part.lines part.is_whole ++ more.steps) result → PrintsAt bytes known args o r result
           by None known begins goes all = tt
           by (Some bytes) None begins goes all = tt
           by (Some bytes) (Some known) begins goes (wanted, wanted_is, inl (went, ends)) = inl (record {
-            steps = (walked it.walk.end part.lines).0 ++ more.steps;
+            steps = part_steps it.walk.end part.lines part.is_whole ++ more.steps;
             has_steps = has_steps bytes known more.steps begins goes;
             wanted = wanted;
             wanted_is = wanted_is;
@@ -255,7 +256,7 @@ module _ (args : JournalArgs) (o : Stream) (one : Option (List ℕ)) (parts : Op
           by (Some bytes) (Some known) begins goes (wanted, wanted_is, inr (inl (failed, cut))) = inr (inl (
             failed,
             record {
-              steps = (walked it.walk.end part.lines).0 ++ more.steps;
+              steps = part_steps it.walk.end part.lines part.is_whole ++ more.steps;
               begins = has_front bytes known more.steps begins (go_begin it1.walk.id it1.walk.end known more.steps goes);
               wanted = wanted;
               wanted_is = wanted_is;
@@ -265,10 +266,10 @@ module _ (args : JournalArgs) (o : Stream) (one : Option (List ℕ)) (parts : Op
           by (Some bytes) (Some known) begins goes (wanted, wanted_is, inr (inr (memory, some))) = inr (inr (Memory, memory, inl (inr (inl refl))))
 
       pub all_sent : IsSent o r result
-      all_sent = sent_all args o r ((walked it.walk.end part.lines).0 ++ more.steps) result all_of
+      all_sent = sent_all args o r (part_steps it.walk.end part.lines part.is_whole ++ more.steps) result all_of
 
       pub all_read : (fault : Fault) → result ≡ Err fault → (fault ≡ Journal OpenFailed) ⊎ (fault ≡ Journal ReadFailed) → ⊥
-      all_read fault = read_all args o r ((walked it.walk.end part.lines).0 ++ more.steps) result fault all_of
+      all_read fault = read_all args o r (part_steps it.walk.end part.lines part.is_whole ++ more.steps) result fault all_of
 
 -- ---- the answer
 
@@ -345,7 +346,7 @@ module _ (at : AtPaths) (args : JournalArgs) (o : Stream) (first : Place) (now :
       by : (fault ≡ Output) ⊎ IsOfReading fault → PrintsParts at args o r (Err fault)
       by (inl output) =
           printed_parts at args o r (Err fault) (within-output args o (at.bytes args.path.now) (parts_known at args) first now it is_first id end begun fault r output part)
-          (cut_sent args o r (walked it.walk.end part.lines).0 fault output (part.fails.cut output args o [] begun))
+          (cut_sent args o r part.steps fault output (part.fails.cut output args o [] begun))
           (λ found e which. inl (cause (subst (λ (f : Fault). (f ≡ Journal OpenFailed) ⊎ (f ≡ Journal ReadFailed)) (cc (sym e)) which)))
       by (inr of) =
           printed_parts at args o r (Err fault) (part_at (at.bytes args.path.now) (parts_known at args) args o r (Err fault) fault refl (inl (inr of)))
@@ -359,14 +360,14 @@ module _ (at : AtPaths) (args : JournalArgs) (o : Stream) (first : Place) (now :
     more_failed fault r (inl output) cause more =
         printed_parts at args o r (Err fault)
         (more-output args o (at.bytes args.path.now) (parts_known at args) first now it is_first id end begun it1 p part fault r output more)
-        (cut_sent args o r ((walked it.walk.end part.lines).0 ++ more.steps) fault output
-        (more.fails.cut output args o (walked it.walk.end part.lines).0 (part.prints.printed args o [] begun)))
+        (cut_sent args o r (part_steps it.walk.end part.lines part.is_whole ++ more.steps) fault output
+        (more.fails.cut output args o (part_steps it.walk.end part.lines part.is_whole) (part.prints.printed args o [] begun)))
         (λ found e which. inr (cause (subst (λ (f : Fault). (f ≡ Journal OpenFailed) ⊎ (f ≡ Journal ReadFailed)) (cc (sym e)) which)))
     more_failed fault r (inr of) cause more =
         printed_parts at args o r (Err fault)
         (part_at (at.bytes args.path.now) (parts_known at args) args o r (Err fault) fault refl
         (more_stopped args o (at.bytes args.path.now) (parts_known at args) first now it is_first id end begun it1 p part fault (not_output more.why)))
-        (part_sent o r fault (part_other fault of) (more.fails.sent (part_other fault of) args o (walked it.walk.end part.lines).0 (part.prints.printed args o [] begun)))
+        (part_sent o r fault (part_other fault of) (more.fails.sent (part_other fault of) args o (part_steps it.walk.end part.lines part.is_whole) (part.prints.printed args o [] begun)))
         (λ found e which. inr (cause (subst (λ (f : Fault). (f ≡ Journal OpenFailed) ⊎ (f ≡ Journal ReadFailed)) (cc (sym e)) which)))
       where
         not_output : (fault ≡ Output) ⊎ IsUnreadPart fault ⊎ IfSome (parts_known at args) (λ known. BreaksAfter it1.walk.id it1.walk.end known fault)

@@ -1,18 +1,18 @@
 -- THE PARTS OF A JOURNAL at their paths: the first has the first line, and each further one goes on
 -- where the one before it ends.
-use Rattle.std.specs.Prelude.{◌≡◌, ◌⊎◌, ℕ, false, true, List, [], ◌∷◌, ◌++◌, None, Option, Some}
-use Rattle.std.specs.Prelude.{IfSome, Vec, option_and_then}
+use Rattle.std.specs.Prelude.{◌≡◌, ◌⊎◌, ℕ, Bool, false, true, List, [], ◌∷◌, ◌++◌, None, Option}
+use Rattle.std.specs.Prelude.{IfSome, Some, Vec, option_and_then}
 use Rattle.std.specs.declared.alloc.Global.{Global}
 use Rattle.clr_stream.specs.Failures.{Rose}
 use Rattle.clr_append.specs.Lines.{ended_lines}
 use Rattle.clr_place.specs.declared.place.Place.{Place}
 use Rattle.clr_chain.specs.Finding.{first_text_of}
 use Rattle.clr_chain.specs.First.{end_at, other_rules_in, read_first}
-use Rattle.clr_chain.specs.Walking.{part_of, step_of}
-use Rattle.clr_chain.specs.Walking.{Step}
+use Rattle.clr_chain.specs.Walking.{Step, bad, part_of, step_of}
 use Rattle.clr_chain.specs.declared.chain_end.ChainEnd.{ChainEnd}
 use Rattle.clr_chain.specs.declared.walk.Walk.{Walk}
-use Rattle.clr_edge.specs.Lines.{IsNextLine, left_of}
+use Rattle.clr_journal.specs.Journals.{next_place}
+use Rattle.clr_edge.specs.Lines.{EndsAs, IsNextLine, ends_whole, left_of}
 use Rattle.clr_edge.specs.declared.fault.Fault.{Fault}
 use Rattle.clr_edge.specs.declared.fault.Fault.TheVariants.{Journal, Memory}
 use Rattle.clr_edge.specs.declared.fault.JournalFault.TheVariants.{BadLine, OpenFailed, ReadFailed}
@@ -63,15 +63,15 @@ FailsLater {F} failures source fault =
 abbrev pub left_in : {S : Type 0} → (S → Option (List ℕ)) → Part S → Option (List ℕ)
 left_in remaining part = left_of part.lines (remaining part.source)
 
--- the next line of what was left
+-- the next line of what was left, which ends as it did
 abbrev pub ReadsLine : Option (Vec ℕ Global) → Option (List ℕ) → List ℕ → Type 0
-ReadsLine line after bytes = IsNextLine line after bytes
+ReadsLine line after bytes = IsNextLine line after bytes × EndsAs after bytes
 
 -- THE FIRST LINE of these bytes is a place, and the lines after it are left
 abbrev pub FirstIs : Place → Option (List ℕ) → List ℕ → Type 0
 FirstIs first None bytes = ⊥
 FirstIs first (Some after) bytes = (text : List ℕ) × (ended_lines bytes ≡ text ∷ ended_lines after)
-    × (read_first text ≡ Some first)
+    × (read_first text ≡ Some first) × (ends_whole bytes ≡ ends_whole after)
 
 -- THESE BYTES GO ON where a walk has come to, and the lines after their first are left
 abbrev pub GoesOn : Walk → Walk → Option (List ℕ) → List ℕ → Type 0
@@ -79,6 +79,7 @@ GoesOn old new None bytes = ⊥
 GoesOn old new (Some after) bytes = (text : List ℕ)
     × (ended_lines bytes ≡ text ∷ ended_lines after)
     × ((true, new.end) ≡ part_of old.id old.end (read_first text)) × (new.id ≡ old.id)
+    × (ends_whole bytes ≡ ends_whole after)
 
 -- ---- a part that is refused by its first line
 
@@ -120,23 +121,38 @@ walked end (text ∷ rest) = (
   (walked (step_of end text).1 rest).1,
 )
 
+-- half a line at the end of a part: a bad line, with the next number. The chain stays where it was
+abbrev pub half_step : ChainEnd → Bool → List Step
+half_step end true = []
+half_step end false = bad (next_place end.turn.last) ∷ []
+
+-- THE STEPS OF A PART from an end of a chain, by its lines and whether it ends whole
+abbrev pub part_steps : ChainEnd → List (List ℕ) → Bool → List Step
+part_steps end texts is_whole = (walked end texts).0 ++ half_step (walked end texts).1 is_whole
+
+-- it begins with these steps, as far as it was read
+abbrev pub BeginsPart : ChainEnd → List (List ℕ) → Bool → List Step → Type 0
+BeginsPart end texts is_whole steps =
+    (rest : List Step) × (part_steps end texts is_whole ≡ steps ++ rest)
+
 -- the further parts have these steps
 unfoldable pub GoOnBy : List ℕ → ChainEnd → List (List ℕ) → List Step → Type 0
 GoOnBy id end [] steps = steps ≡ []
 GoOnBy id end (bytes ∷ rest) steps = (text : List ℕ) × (texts : List (List ℕ))
     × (next : ChainEnd) × (more : List Step)
     × (ended_lines bytes ≡ text ∷ texts) × (part_of id end (read_first text) ≡ (true, next))
-    × (steps ≡ (walked next texts).0 ++ more) × GoOnBy id (walked next texts).1 rest more
+    × (steps ≡ part_steps next texts (ends_whole bytes) ++ more)
+    × GoOnBy id (walked next texts).1 rest more
 
 -- they begin with these steps, as far as they were read
 unfoldable pub BeginBy : List ℕ → ChainEnd → List (List ℕ) → List Step → Type 0
 BeginBy id end [] steps = steps ≡ []
 BeginBy id end (bytes ∷ rest) steps = (steps ≡ []) ⊎ ((text : List ℕ)
-    × (texts after : List (List ℕ)) × (next : ChainEnd)
-    × (ended_lines bytes ≡ text ∷ (texts ++ after))
-    × (part_of id end (read_first text) ≡ (true, next))
-    × ((steps ≡ (walked next texts).0) ⊎ ((after ≡ []) × (more : List Step)
-    × (steps ≡ (walked next texts).0 ++ more) × BeginBy id (walked next texts).1 rest more)))
+    × (texts : List (List ℕ)) × (next : ChainEnd)
+    × (ended_lines bytes ≡ text ∷ texts) × (part_of id end (read_first text) ≡ (true, next))
+    × (BeginsPart next texts (ends_whole bytes) steps ⊎ ((more : List Step)
+    × (steps ≡ part_steps next texts (ends_whole bytes) ++ more)
+    × BeginBy id (walked next texts).1 rest more)))
 
 -- THE STEPS OF A JOURNAL in parts
 pub record HasSteps (first_part : List ℕ) (parts : List (List ℕ)) (steps : List Step) : Type 0 where
@@ -146,7 +162,7 @@ pub record HasSteps (first_part : List ℕ) (parts : List (List ℕ)) (steps : L
   pub lines : ended_lines first_part ≡ text ∷ texts
   pub read : read_first text ≡ Some first
   pub more : List Step
-  pub steps_are : steps ≡ (walked (end_at first) texts).0 ++ more
+  pub steps_are : steps ≡ part_steps (end_at first) texts (ends_whole first_part) ++ more
   pub go_on : GoOnBy first.id (walked (end_at first) texts).1 parts more
 
 -- A JOURNAL IN PARTS BEGINS WITH THESE STEPS, as far as it was read
@@ -154,11 +170,10 @@ pub record HasFront (first_part : List ℕ) (parts : List (List ℕ)) (steps : L
   pub first : Place
   pub text : List ℕ
   pub texts : List (List ℕ)
-  pub after : List (List ℕ)
-  pub lines : ended_lines first_part ≡ text ∷ (texts ++ after)
+  pub lines : ended_lines first_part ≡ text ∷ texts
   pub read : read_first text ≡ Some first
-  pub some : (steps ≡ (walked (end_at first) texts).0) ⊎ ((after ≡ []) × (more : List Step)
-      × (steps ≡ (walked (end_at first) texts).0 ++ more)
+  pub some : BeginsPart (end_at first) texts (ends_whole first_part) steps ⊎ ((more : List Step)
+      × (steps ≡ part_steps (end_at first) texts (ends_whole first_part) ++ more)
       × BeginBy first.id (walked (end_at first) texts).1 parts more)
 
 -- ---- a part that does not go on

@@ -1,6 +1,6 @@
 -- HOW FAR A JOURNAL WAS PRINTED.
-use Rattle.std.specs.Prelude.{◌≡◌, ◌≢◌, ◌⊎◌, ℕ, true, false, List, [], ◌∷◌, ◌++◌, None, Err, Ok}
-use Rattle.std.specs.Prelude.{IfSome, Option, Some, string_bytes}
+use Rattle.std.specs.Prelude.{◌≡◌, ◌≢◌, ◌⊎◌, ℕ, Bool, true, false, List, [], ◌∷◌, ◌++◌, None, Err}
+use Rattle.std.specs.Prelude.{IfSome, Ok, Option, Some, string_bytes}
 use Rattle.clr_append.specs.Lines.{ended_lines}
 use Rattle.clr_stream.specs.Streams.{IsCut, Stream, WentOut}
 use Rattle.clr_rules.specs.Id.{Id}
@@ -14,8 +14,9 @@ use Rattle.clr_edge.specs.Visit.{Done}
 use Rattle.clr_edge.specs.declared.fault.Fault.{Fault}
 use Rattle.clr_edge.specs.declared.fault.Fault.TheVariants.{Memory, Output}
 use Rattle.clr_parts.specs.Journal.{SentSome, ends_as, journal_text, wanted_in}
-use Rattle.clr_parts.specs.Parts.{BeginBy, BreaksAfter, GoOnBy, IsOfReading, IsUnreadPart}
-use Rattle.clr_parts.specs.Parts.{walked}
+use Rattle.clr_edge.specs.Lines.{ends_whole}
+use Rattle.clr_parts.specs.Parts.{BeginBy, BeginsPart, BreaksAfter, GoOnBy, IsOfReading}
+use Rattle.clr_parts.specs.Parts.{IsUnreadPart, part_steps, walked}
 use Rattle.clr_parts.specs.declared.journal.Kind.{Kind}
 use Rattle.clr_parts.specs.declared.journal.Kind.TheVariants.{Commands, Log}
 use Rattle.clr_parts.specs.declared.journal.Printing.{Printing}
@@ -83,22 +84,24 @@ pub record FailsOn (old : Printing) (before : Stream) (steps : List Step) (fault
   pub cut : fault ≡ Output → (args : JournalArgs) (output : Stream) (had : List Step)
       → HasPrinted args output had old before → IsCutOf args output after (had ++ steps)
 
--- the lines of a part were printed: all of them, where its bytes are known
+-- the lines of a part were printed, and half a line at its end: all, where its bytes are known
 pub record PrintsPart (left : Option (List ℕ)) (old : Printing) (before : Stream) (new : Printing)
     (after : Stream) : Type 0 where
   pub lines : List (List ℕ)
-  pub all : IfSome left (λ bytes. ended_lines bytes ≡ lines)
-  pub prints : PrintsOn old before (walked old.walk.end lines).0 new after
+  pub is_whole : Bool
+  pub all : IfSome left (λ bytes. (ended_lines bytes ≡ lines) × (ends_whole bytes ≡ is_whole))
+  pub prints : PrintsOn old before (part_steps old.walk.end lines is_whole) new after
   pub end : new.walk.end ≡ (walked old.walk.end lines).1
   pub id : new.walk.id ≡ old.walk.id
 
 -- they were not: the output failed, or a line was not read
 pub record FailsWithin (left : Option (List ℕ)) (old : Printing) (before : Stream) (fault : Fault)
     (after : Stream) : Type 0 where
-  pub lines : List (List ℕ)
-  pub some : IfSome left (λ bytes. (rest : List (List ℕ)) × (ended_lines bytes ≡ lines ++ rest))
+  pub steps : List Step
+  pub some : IfSome left (λ bytes.
+      BeginsPart old.walk.end (ended_lines bytes) (ends_whole bytes) steps)
   pub why : (fault ≡ Output) ⊎ IsOfReading fault
-  pub fails : FailsOn old before (walked old.walk.end lines).0 fault after
+  pub fails : FailsOn old before steps fault after
 
 -- the further parts were printed
 pub record PrintsMore (parts : Option (List (List ℕ))) (old : Printing) (before : Stream)

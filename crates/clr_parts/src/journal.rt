@@ -2,12 +2,13 @@
 ghost use Rattle.std.specs.Prelude.{◌≡◌, ◌⊎◌, ◌++◌, ◌∷◌, [], ℕ, IfErr, IfOk, List, OnOk};
 ghost use Rattle.std.specs.Prelude.{Option, map, option_map, string_bytes};
 ghost use Rattle.clr_stream.specs.Streams.{Stream};
-ghost use Rattle.clr_chain.specs.Walking.{Step as AnyStep, seen_step, step_of};
+ghost use Rattle.clr_journal.specs.Journals.{next_place};
+ghost use Rattle.clr_chain.specs.Walking.{Step as AnyStep, bad, seen_step, step_of};
 ghost use Rattle.clr_args.specs.declared.asked.JournalArgs.{JournalArgs as AnyArgs};
 ghost use Rattle.clr_rules.specs.Id.{Id as AnyId};
 ghost use Rattle.clr_parts.specs.Journal.{FailsAny, IsOfJournal, IsOfPrinting, PrintsParts};
 ghost use Rattle.clr_parts.specs.Journal.{all_known, journal_text, wanted_clearance};
-ghost use Rattle.clr_parts.specs.Parts.{FailsLater, left_in};
+ghost use Rattle.clr_parts.specs.Parts.{FailsLater, half_step, left_in};
 ghost use Rattle.clr_edge.specs.Paths.{at_paths};
 ghost use Rattle.clr_parts.specs.Printing.{FailsMore, FailsOn, FailsWithin, HasPrinted, IsText};
 ghost use Rattle.clr_parts.specs.Printing.{PrintsAll, PrintsMore, PrintsOn, PrintsPart, bad_with};
@@ -30,7 +31,8 @@ const PIECE: usize = 65_536;
 /// What `journal FILE [CLEARANCE] [--part FILE]... [--offset MINUTES] [--commands]` prints: the
 /// switching log of the journal, or with `--commands` the commands that were carried out, each on a
 /// line that `run` takes; where a clearance is named, of that one alone. The parts follow one
-/// another. Each line that does not hold its sum has a line of the log.
+/// another. Each line that does not hold its sum has a line of the log; so has half a line at the end
+/// of a part, with the next number.
 ///
 /// `NoSuch` where the word names no clearance; then no file is opened. `Journal(BadLine)`, once all
 /// is printed, with the number of the first line that does not hold its sum; at once with 0 where
@@ -152,6 +154,53 @@ impl Printing {
         self.kind.step(alloc, &mut self.text, step)
     }
 
+    /// Prints half a line at the end of a part, unless the part ends whole: it is a bad line, and
+    /// has the next number.
+    fn ended<W: CountedFlush>(
+        self,
+        alloc: Global,
+        is_whole: bool,
+        output: &mut W,
+    ) -> Result<Printing, Fault>
+        ensures printed { IfOk result (λ printed. PrintsOn self (W.stream output.old)
+            (half_step self.walk.end is_whole) printed (W.stream output.new)) }
+        ensures walk { IfOk result (λ printed. printed.walk ≡ self.walk) }
+        ensures failed { IfErr result (λ fault. FailsOn self (W.stream output.old)
+            (half_step self.walk.end is_whole) fault (W.stream output.new)) }
+        ensures fault { IfErr result (λ fault. (fault ≡ Fault.Memory) ⊎ (fault ≡ Fault.Output)) }
+    {
+        if is_whole {
+            return Ok(self);
+        }
+        let mut printing = self;
+        printing.half(alloc, output)?;
+        Ok(printing)
+    }
+
+    /// Prints half a line.
+    fn half<W: CountedFlush>(&mut self, alloc: Global, output: &mut W) -> Result<(), Fault>
+        ensures printed { OnOk result (PrintsOn self.old (W.stream output.old)
+            (bad (next_place self.old.walk.end.turn.last) ∷ []) self.new (W.stream output.new)) }
+        ensures walk { self.new.walk ≡ self.old.walk }
+        ensures failed { IfErr result (λ fault. FailsOn self.old (W.stream output.old)
+            (bad (next_place self.old.walk.end.turn.last) ∷ []) fault (W.stream output.new)) }
+        ensures fault { IfErr result (λ fault. (fault ≡ Fault.Memory) ⊎ (fault ≡ Fault.Output)) }
+    {
+        self.add_half(alloc)?;
+        self.send(alloc, output)
+    }
+
+    /// Adds what half a line prints to what is not written yet.
+    fn add_half(&mut self, alloc: Global) -> Result<(), AllocError>
+        ensures added { OnOk result ((output : Stream) → PrintsOn self.old output
+            (bad (next_place self.old.walk.end.turn.last) ∷ []) self.new output) }
+        ensures walk { self.new.walk ≡ self.old.walk }
+    {
+        let step = Step::Bad(self.walk.end.turn.last.saturating_add(1));
+        self.bad = bad_with(self.bad, &step);
+        self.kind.step(alloc, &mut self.text, step)
+    }
+
     /// Writes what is not written yet, once it is long.
     fn send<W: CountedFlush>(&mut self, alloc: Global, output: &mut W) -> Result<(), Fault>
         ensures sent { OnOk result
@@ -199,7 +248,7 @@ fn bad_with(bad: Option<u64>, step: &Step) -> Option<u64>
     }
 }
 
-/// Prints the lines of a part, after its first.
+/// Prints the lines of a part, after its first, and half a line at its end.
 fn print_part<S: Source + Drop, W: CountedFlush>(
     alloc: Global,
     printing: Printing,
@@ -217,7 +266,7 @@ fn print_part<S: Source + Drop, W: CountedFlush>(
     let mut part = part;
     'lines: for _ in 0..u64::MAX {
         let Some(line) = part.line(alloc)? else {
-            return Ok(printing);
+            return printing.ended(alloc, part.ends_whole(), output);
         };
         printing.line(alloc, &line, output)?;
     }

@@ -1,7 +1,9 @@
 //! The parts of a journal, at their paths, each read line by line.
-ghost use Rattle.std.specs.Prelude.{◌≡◌, IfErr, IfOk, IfSome, None, OnOk, Some};
+ghost use Rattle.std.specs.Prelude.{◌≡◌, IfErr, IfNone, IfOk, IfSome, None, OnOk, Some};
+ghost use Rattle.std.specs.Io.KnownBytes.{IsAtEnd};
 ghost use Rattle.clr_chain.specs.First.{other_rules_in, read_first};
 ghost use Rattle.clr_chain.specs.Walking.{part_of};
+ghost use Rattle.clr_edge.specs.Lines.{ends_whole};
 ghost use Rattle.clr_parts.specs.Parts.{FailsLater, FailsPart, FirstIs, GoesOn, IsOfPart};
 ghost use Rattle.clr_parts.specs.Parts.{IsNoFirst, IsNoNext, IsNoPart, IsOfReading, IsOfRules};
 ghost use Rattle.clr_parts.specs.Parts.{IsOpened, IsUnreadOr, IsUnreadPart, ReadsLine};
@@ -25,11 +27,11 @@ pub struct Part<S: Source + Drop> {
 }
 
 impl<S: Source + Drop> Part<S> {
-    /// The next line, without its line feed; none at the end. What no line feed ends is passed
-    /// over.
+    /// The next line, without its line feed; none at the end. What no line feed ends is none.
     pub fn line(&mut self, alloc: Global) -> Result<Option<Vec<u8>>, Fault>
         ensures line { IfOk result (λ line. IfSome (left_in S.remaining self.old)
             (ReadsLine line (left_in S.remaining self.new))) }
+        ensures none { IfOk result (λ line. IfNone line (IsAtEnd (S.remaining self.new.source))) }
         ensures kept { OnOk result
             (S.failure_count self.new.source ≡ S.failure_count self.old.source) }
         ensures fault { IfErr result IsOfPart }
@@ -42,6 +44,14 @@ impl<S: Source + Drop> Part<S> {
             Err(ReadFault::TooLong) => Err(Fault::Journal(JournalFault::TooLong)),
             Err(ReadFault::NoMemory) => Err(Fault::Memory),
         }
+    }
+
+    /// Whether the part ends whole, once all its lines were read: no half a line is left.
+    pub fn ends_whole(&self) -> bool
+        ensures { IsAtEnd (S.remaining self.now.source)
+            → IfSome (left_in S.remaining self.now) (λ bytes. result ≡ ends_whole bytes) }
+    {
+        self.lines.ends_whole()
     }
 }
 

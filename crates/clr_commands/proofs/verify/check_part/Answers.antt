@@ -1,13 +1,17 @@
-use Rattle.std.proofs.Common.{◌∙◌, inl, inr, refl, subst, sym, ℕ}
-use Rattle.std.specs.Prelude.{IfSome, None, Option, Some, Vec}
+use Rattle.std.proofs.Common.{◌≡◌, ◌∙◌, inl, inr, refl, subst, sym, ℕ, Bool}
+use Rattle.std.specs.Io.KnownBytes.{IsAtEnd}
+use Rattle.std.specs.Prelude.{IfNone, IfSome, None, Option, Some, Vec}
 use Rattle.std.specs.declared.alloc.Global.{Global}
+use Rattle.clr_journal.specs.Journals.{next_place}
+use Rattle.clr_checking.specs.declared.fault.CheckFault.TheVariants.{BadLine}
+use Rattle.clr_edge.specs.Lines.{ends_whole}
 use Rattle.clr_edge.specs.declared.fault.Fault.{Fault}
 use Rattle.clr_edge.specs.declared.fault.Fault.TheVariants.{Journal}
 use Rattle.clr_edge.specs.declared.fault.JournalFault.TheVariants.{TooLong}
 use Rattle.clr_parts.specs.Parts.{FailsLater, ReadsLine, left_in}
 use Rattle.clr_commands.specs.Verify.{IsRefusedIn}
 use Rattle.clr_parts.proofs.PartLines.{later_from, long-later, passed_on}
-use Rattle.clr_commands.proofs.RefusedParts.{check_read, line_refused}
+use Rattle.clr_commands.proofs.RefusedParts.{check_read, half_refused, line_refused}
 use Rattle.clr_commands.proofs.CheckedParts.{lines_all, lines_none, lines_seen, passed_check}
 use Rattle.clr_commands.proofs.verify.check_part.Goals as goal
 
@@ -28,18 +32,39 @@ lines-preserved g c =
     )
 
 -- none is left
-pub returns-in_default-clause-ready : goal.returns-in_default-clause-ready
-returns-in_default-clause-ready g c = c.lines.invariant.0.ready
+pub returns-in_default-then-is_whole-clause-ready : goal.returns-in_default-then-is_whole-clause-ready
+returns-in_default-then-is_whole-clause-ready g c = c.lines.invariant.0.ready
 
-pub returns-in_default-clause-id : goal.returns-in_default-clause-id
-returns-in_default-clause-id g c = c.lines.invariant.0.id
+pub returns-in_default-then-is_whole-clause-id : goal.returns-in_default-then-is_whole-clause-id
+returns-in_default-then-is_whole-clause-id g c = c.lines.invariant.0.id
 
-pub returns-in_default-clause-checked : goal.returns-in_default-clause-checked
-returns-in_default-clause-checked g c =
+pub returns-in_default-then-is_whole-clause-checked : goal.returns-in_default-then-is_whole-clause-checked
+returns-in_default-then-is_whole-clause-checked g c =
     let left = left_in g.S.Read.remaining c.lines.part in
     let next = left_in g.S.Read.remaining c.line.new.self in
     let reads : IfSome left (ReadsLine None next) = subst (λ (o : Option (Vec ℕ Global)). IfSome left (ReadsLine o next)) c.in_default.is c.in_ok-line.ensures.line in
+    let end : IsAtEnd (g.S.Read.remaining c.line.new.self.source) =
+    subst (λ (o : Option (Vec ℕ Global)). IfNone o (IsAtEnd (g.S.Read.remaining c.line.new.self.source))) c.in_default.is c.in_ok-line.ensures.none in
     lines_all (left_in g.S.Read.remaining c.args.part) left next c.args.checking c.lines.checking c.lines.invariant.0 reads
+    (subst (λ (b : Bool). IfSome next (λ bytes. b ≡ ends_whole bytes)) c.if-is_whole.true (c.ends_whole-is_whole.ensures end))
+
+-- or half a line is
+pub returns-in_default-clause-refused : goal.returns-in_default-clause-refused
+returns-in_default-clause-refused g c =
+    let left = left_in g.S.Read.remaining c.lines.part in
+    let next = left_in g.S.Read.remaining c.line.new.self in
+    let reads : IfSome left (ReadsLine None next) = subst (λ (o : Option (Vec ℕ Global)). IfSome left (ReadsLine o next)) c.in_default.is c.in_ok-line.ensures.line in
+    let end : IsAtEnd (g.S.Read.remaining c.line.new.self.source) =
+    subst (λ (o : Option (Vec ℕ Global)). IfNone o (IsAtEnd (g.S.Read.remaining c.line.new.self.source))) c.in_default.is c.in_ok-line.ensures.none in
+    half_refused (left_in g.S.Read.remaining c.args.part) left next c.args.checking c.lines.checking c.ends_whole-is_whole.result _ c.half_line.result c.lines.invariant.0 reads
+    (c.ends_whole-is_whole.ensures end) c.if-is_whole.false refl c.half_line.ensures
+
+pub returns-in_default-clause-unread : goal.returns-in_default-clause-unread
+returns-in_default-clause-unread g c =
+    check_read g.S.CountedRead.failure_count c.args.part.source (BadLine (next_place c.lines.checking.walk.end.turn.last)) c.half_line.result c.half_line.ensures
+
+pub returns-in_default-clause-fault : goal.returns-in_default-clause-fault
+returns-in_default-clause-fault g c = inr (inr (BadLine (next_place c.lines.checking.walk.end.turn.last), c.half_line.ensures))
 
 -- a line was not read, or did not hold
 pub returns-in_err-line-clause-fault : goal.returns-in_err-line-clause-fault

@@ -1,5 +1,6 @@
 use Rattle.std.proofs.Common.{◌≡◌, ◌∷◌, [], inl, inr, refl, subst, List, ℕ}
-use Rattle.std.specs.Prelude.{IfSome, None, Option, Some, Vec}
+use Rattle.std.specs.Io.KnownBytes.{IsAtEnd}
+use Rattle.std.specs.Prelude.{IfNone, IfSome, None, Option, Some, Vec}
 use Rattle.std.specs.declared.alloc.Global.{Global}
 use Rattle.clr_chain.specs.Walking.{step_of}
 use Rattle.clr_edge.specs.declared.fault.Fault.TheVariants.{Journal}
@@ -7,7 +8,7 @@ use Rattle.clr_edge.specs.declared.fault.JournalFault.TheVariants.{TooLong}
 use Rattle.clr_parts.specs.Parts.{ReadsLine, left_in}
 use Rattle.clr_parts.specs.Printing.{FailsOn, FailsWithin, PrintsOn}
 use Rattle.clr_parts.proofs.PartLines.{long-later, passed_on}
-use Rattle.clr_parts.proofs.PrintedParts.{lines_all, lines_cut, lines_failed, lines_more, lines_none}
+use Rattle.clr_parts.proofs.PrintedParts.{half_cut, half_kind, half_later, lines_cut, lines_ended, lines_failed, lines_more, lines_none}
 use Rattle.clr_parts.proofs.journal.print_part.Goals as goal
 
 pub lines-init : goal.lines-init
@@ -38,8 +39,28 @@ returns-in_default-clause-printed g c =
     let left = left_in g.S.Read.remaining c.lines.part in
     let next = left_in g.S.Read.remaining c.line.new.self in
     let reads : IfSome left (ReadsLine None next) = subst (λ (o : Option (Vec ℕ Global)). IfSome left (ReadsLine o next)) c.in_default.is c.in_ok-line.ensures.line in
-    lines_all g.S.CountedRead.failure_count (left_in g.S.Read.remaining c.args.part) c.args.printing c.args.part.source (g.W.CountedWrite.stream c.args.output.now)
-    left next c.lines.printing c.lines.part.source (g.W.CountedWrite.stream c.lines.output) c.lines.invariant reads
+    let end : IsAtEnd (g.S.Read.remaining c.line.new.self.source) =
+    subst (λ (o : Option (Vec ℕ Global)). IfNone o (IsAtEnd (g.S.Read.remaining c.line.new.self.source))) c.in_default.is c.in_ok-line.ensures.none in
+    lines_ended g.S.CountedRead.failure_count (left_in g.S.Read.remaining c.args.part) c.args.printing c.args.part.source (g.W.CountedWrite.stream c.args.output.now)
+    left next c.lines.printing c.lines.part.source (g.W.CountedWrite.stream c.lines.output) (g.W.CountedWrite.stream c.ended.new.output) c.lines.invariant reads
+    c.ends_whole.result (c.ends_whole.ensures end) c.ended.result c.ended.ensures.printed c.ended.ensures.walk
+
+pub returns-in_default-clause-failed : goal.returns-in_default-clause-failed
+returns-in_default-clause-failed g c =
+    let left = left_in g.S.Read.remaining c.lines.part in
+    let next = left_in g.S.Read.remaining c.line.new.self in
+    let reads : IfSome left (ReadsLine None next) = subst (λ (o : Option (Vec ℕ Global)). IfSome left (ReadsLine o next)) c.in_default.is c.in_ok-line.ensures.line in
+    let end : IsAtEnd (g.S.Read.remaining c.line.new.self.source) =
+    subst (λ (o : Option (Vec ℕ Global)). IfNone o (IsAtEnd (g.S.Read.remaining c.line.new.self.source))) c.in_default.is c.in_ok-line.ensures.none in
+    half_cut g.S.CountedRead.failure_count (left_in g.S.Read.remaining c.args.part) c.args.printing c.args.part.source (g.W.CountedWrite.stream c.args.output.now)
+    left next c.lines.printing c.lines.part.source (g.W.CountedWrite.stream c.lines.output) (g.W.CountedWrite.stream c.ended.new.output) c.lines.invariant reads
+    c.ends_whole.result (c.ends_whole.ensures end) c.ended.result c.ended.ensures.fault c.ended.ensures.failed
+
+pub returns-in_default-clause-fault : goal.returns-in_default-clause-fault
+returns-in_default-clause-fault g c = half_kind c.ended.result c.ended.ensures.fault
+
+pub returns-in_default-clause-unread : goal.returns-in_default-clause-unread
+returns-in_default-clause-unread g c = half_later g.S.CountedRead.failure_count c.args.part.source c.ended.result c.ended.ensures.fault
 
 -- the next was not read
 pub returns-in_err-line-clause-failed : goal.returns-in_err-line-clause-failed

@@ -1,0 +1,29 @@
+use Rattle.std.proofs.Common.{Bool, subst, sym}
+use Rattle.clr_parts.specs.Parts.{half_step}
+use Rattle.clr_parts.specs.Printing.{FailsOn, PrintsOn}
+use Rattle.clr_parts.proofs.PartLines.{passed_on}
+use Rattle.clr_parts.proofs.SentTexts.{PrintsOn-none}
+use Rattle.clr_parts.proofs.journal.Printing.ended.Goals as goal
+
+-- the part ends whole
+pub returns-then-is_whole-clause-printed : goal.returns-then-is_whole-clause-printed
+returns-then-is_whole-clause-printed g c =
+    let it = c.args.self in
+    let old = g.W.CountedWrite.stream c.args.output.now in
+    subst (λ (b : Bool). PrintsOn it old (half_step it.walk.end b) it old) (sym c.if-is_whole.true) (PrintsOn-none it old)
+
+-- or half a line was printed
+pub returns-clause-printed : goal.returns-clause-printed
+returns-clause-printed g c =
+    let it = c.args.self in
+    let old = g.W.CountedWrite.stream c.args.output.now in
+    let new = g.W.CountedWrite.stream c.half.new.output in
+    subst (λ (b : Bool). PrintsOn it old (half_step it.walk.end b) c.half.new.self new) (sym c.if-is_whole.false) c.in_ok-half.ensures.printed
+
+pub returns-in_err-half-clause-failed : goal.returns-in_err-half-clause-failed
+returns-in_err-half-clause-failed g c =
+    let it = c.args.self in
+    let old = g.W.CountedWrite.stream c.args.output.now in
+    let new = g.W.CountedWrite.stream c.half.new.output in
+    passed_on c.from_residual.result _ (λ fault. FailsOn it old (half_step it.walk.end c.args.is_whole) fault new) c.from_residual.ensures.1
+    (subst (λ (b : Bool). FailsOn it old (half_step it.walk.end b) _ new) (sym c.if-is_whole.false) c.in_err-half.ensures.failed)
