@@ -112,6 +112,11 @@ def lines_in(data):
     return data.split(b"\n")[:-1]
 
 
+def half_in(data):
+    """What comes after the last line feed: half a line, unless it is empty."""
+    return data.rpartition(b"\n")[2]
+
+
 def is_whole(value):
     return isinstance(value, int) and not isinstance(value, bool) and 0 <= value < 1 << 64
 
@@ -245,22 +250,29 @@ def is_bad_alone(number, text, damaged):
     return b'"withdrawn"' not in text and damaged[-66:-2] == text[-66:-2] and (entry is None or entry["number"] == number)
 
 
-def walk(place, texts):
-    """Of each line its number, and what it says if it holds its sum."""
+def walked(place, texts):
+    """Of each line its number, and what it says if it holds its sum; and the end of the chain after them."""
     ask_commands(texts)
     end, steps = End(place.number, False, place.sum), []
     for text in texts:
         link = next_link(end, text)
         steps.append((link[0]["number"], link[0]) if link else (end.last + 1, None))
         end = link[1] if link else said_by(end, text)
-    return steps
+    return steps, end
+
+
+def walk(place, texts):
+    return walked(place, texts)[0]
 
 
 def bad_lines(data):
-    """The numbers of the lines that do not hold their sums; 0 where there is no first line."""
+    """The numbers of the lines that do not hold their sums, and of half a line at the end; 0 where there is no first line."""
     lines = lines_in(data)
     first = first_in(lines[0]) if lines else None
-    return [number for number, entry in walk(first, lines[1:]) if entry is None] if first else [0]
+    if first is None:
+        return [0]
+    steps, end = walked(first, lines[1:])
+    return [number for number, entry in steps if entry is None] + ([end.last + 1] if half_in(data) else [])
 
 
 # ---- what `verify` and `journal` say
@@ -293,7 +305,7 @@ def verify_ends(words):
 
 
 def journal_ends(data):
-    """How a run of `journal` ends, and the numbers of the lines that it names. What no line feed ends is no line."""
+    """How a run of `journal` ends, and the numbers of the lines that it names."""
     bad = bad_lines(data)
     if not bad:
         return 0, "", []

@@ -5,8 +5,8 @@ refused, and a journal in several parts.
 
     tools/try/journals.py [--full]    --full flips a bit of each byte, takes each byte out, and cuts at each
 
-A line is what a line feed ends. So half a line at the end is none: `journal` prints the lines before it with status 0,
-`verify` says of these what it says without it, and an opening cuts it off."""
+A line is what a line feed ends. Half a line at the end of a part is a bad line with the next number, to `journal` and to
+`verify`, whatever it holds; an opening cuts it off."""
 
 import concurrent.futures
 import contextlib
@@ -211,14 +211,29 @@ def log(folder):
         same(f"verify, {title}", run("verify", path, other, *FILES), (1, "", "fault: journal BadLine 0\n"))
     other.write_bytes(text_of(lines_in(text)[:1]))
     same("journal, a first line alone", run("journal", other), (0, "", ""))
-    other.write_bytes(text + b'{"command":')
-    same("journal, a line that no line feed ends", run("journal", other), (0, LOG, ""))
-    same("verify, a line that no line feed ends", run("verify", path, other, *FILES), (0, "verified 6 commands\n", ""))
+    half_lines(path, other, text)
     other.write_bytes(text + b"x" * (1 << 20) + b"\n")
     same("journal, a line of a MiB", run("journal", other), (1, LOG + BAD_LINE.format(9), "fault: journal BadLine 9\n"))
     other.write_bytes(text + b"x" * ((1 << 20) + 1) + b"\n")
     same("journal, a line of more than a MiB", run("journal", other)[::2], (1, "fault: journal TooLong\n"))
     same("verify, a line of more than a MiB", run("verify", path, other, *FILES), (1, "", "fault: journal TooLong\n"))
+
+
+def half_lines(path, other, text):
+    """What no line feed ends is a bad line with the next number: also where the line feed alone is missing, or is another byte."""
+    last, commands = lines_in(text)[-1], run("journal", path.with_name("journal"), "--commands")[1]
+    before = "".join(LOG.splitlines(keepends=True)[:-1])
+    ends = [(text, end, 9, LOG, commands) for end in (b'{"command":', b"{", b"\0", b"\xff" * 70, b" ")]
+    ends += [(text_of(lines_in(text)[:-1]), end, 8, before, "".join(commands.splitlines(keepends=True)[:-1])) for end in (last, last + b"\x0b", last + b" ", last[:-1], last[:1])]
+    for front, end, number, printed, carried in ends:
+        title, fault = f"half a line, {end[-40:]!r}", f"fault: journal BadLine {number}\n"
+        other.write_bytes(front + end)
+        same(f"{title}: journal", run("journal", other), (1, printed + BAD_LINE.format(number), fault))
+        same(f"{title}: journal --commands", run("journal", other, "--commands"), (1, carried, fault))
+        same(f"{title}: verify", run("verify", path, other, *FILES), (1, "", fault))
+    other.write_bytes(text_of(lines_in(text)[:1]) + b"{")
+    same("half a line after the first: journal", run("journal", other), (1, BAD_LINE.format(1), "fault: journal BadLine 1\n"))
+    same("half a line after the first: verify", run("verify", path, other, *FILES), (1, "", "fault: journal BadLine 1\n"))
 
 
 def own_form(folder):
@@ -411,9 +426,8 @@ def flips(folder):
 
     def damaged(number, data):
         title, bad = f"a bit or a byte of line {number}", bad_lines(data)
-        is_cut = number == len(whole.lines) - 1 and not data.endswith(b"\n")
         own = whole.places[number - 1].number + 1 if number else 0
-        look(f"{title}: it is named", number == 0 or bad[:1] == [own] or is_cut, (bad, data[-60:]))
+        look(f"{title}: it is named", number == 0 or bad[:1] == [own], (bad, data[-60:]))
         output = whole.said(title, data)
         if number and len(lines_in(data)) == len(whole.lines) and is_bad_alone(own, whole.lines[number], lines_in(data)[number]):
             withdrawal = [own + 1] if b'"withdrawn":true' in b"".join(whole.lines[number + 1:number + 2]) else []
@@ -705,6 +719,7 @@ def parts(folder):
         count = len(carried_out([line for line in lines if line["number"] > number]))
         same(f"verify from {title}", (status, output, errors), (0, f"verified {count} commands\n", ""))
     same("verify from a copy that is in no part", run("verify", path, three, "--from", copy), (1, "", "fault: journal TooShort\n"))
+    half_a_line_in_a_part(folder, path, (one, two, three))
     whole_log(folder, path, (one, two, three), commands)
     # a copy from before: first with its own part, then with the next
     same("a copy from before, and the new part", opened(before, two), (1, "", "fault: journal TooShort\n"))
@@ -716,6 +731,26 @@ def parts(folder):
     same("begun again it is the same first line", spare.read_bytes(), text_of(lines_in(two.read_bytes())[:1]))
     same("and then it goes on in the new part too", opened(before, two), (0, "", ""))
     same("as the register did", run("board", before), run("board", copied(half, folder / "board.db")))
+
+
+def half_a_line_in_a_part(folder, path, journals):
+    """Half a line at the end of any part is a bad line, and the next part goes on from the line before it."""
+    whole = run("journal", journals[0], "--part", journals[1], "--part", journals[2])[1]
+    for at, journal in enumerate(journals):
+        half = folder / "half"
+        half.write_bytes(journal.read_bytes() + b'{"command":')
+        number = json.loads(lines_in(journal.read_bytes())[-1])["number"] + 1
+        one, two, three = (half if at == other else journals[other] for other in range(3))
+        own = sum(run("journal", part)[1].count("\n") for part in journals[:at + 1])
+        lines = whole.splitlines(keepends=True)
+        wanted = "".join([*lines[:own], BAD_LINE.format(number), *lines[own:]])
+        same(f"half a line in part {at}: journal", run("journal", one, "--part", two, "--part", three), (1, wanted, f"fault: journal BadLine {number}\n"))
+        same(f"half a line in part {at}: verify", run("verify", path, one, "--part", two, "--part", three, *FILES), (1, "", f"fault: journal BadLine {number}\n"))
+    half.write_bytes(journals[0].read_bytes()[:-1])
+    last = json.loads(lines_in(journals[0].read_bytes())[-1])["number"]
+    found_here = run("journal", half, "--part", journals[1])
+    same("a part without its last line feed: journal", found_here[::2], (1, f"fault: journal BadLine {last - 1}\n"))
+    same("a part without its last line feed: verify", run("verify", path, half, "--part", journals[1], "--part", journals[2], *FILES), (1, "", f"fault: journal BadLine {last}\n"))
 
 
 def whole_log(folder, path, journals, commands):

@@ -103,7 +103,6 @@ def of_lines(folder, path, journal, files, chance):
         other.write_bytes(text)
         line = data[:at].count(b"\n")
         wanted = [unread(lines_in(bytes(text))), "verify Files"] if line == 0 else [f"journal BadLine {line}"]
-        wanted += ["journal TooShort"] if at == len(data) - 1 else []
         one = copied(path, folder / f"room-{number}.db")
         found = run("verify", one, other, *files)
         look(f"a flipped bit of line {line}", found in [(1, "", f"fault: {one}\n") for one in wanted], (found, at, bit))
