@@ -1,4 +1,5 @@
 pub mod Begun
 pub mod Keeping
+pub mod LetGo
 pub mod PartsLevel
 pub mod TakenUp

@@ -255,6 +255,13 @@ abbrev pub IsLetGo : {M D J C : Type 0} {g : disk.Ghosts D} → Ending M D → L
 IsLetGo {g = g} ends logs (Plain desk) = IsGone {g = g} GoesPlain ends desk.store
 IsLetGo {g = g} ends logs (Logged desk) = IsGone {g = g} (GoesLogged logs.steps) ends desk.store
 
+-- its desk was ended: its database is handed back, and its journal, if it has one
+abbrev pub IsEnded : {T J C : Type 0} → Opened (Held T) J C → Held T → Option J → Type 0
+IsEnded (Plain desk) database None = database ≡ desk.store
+IsEnded (Logged desk) database (Some journal) =
+    (database ≡ desk.store.keeper) × (journal ≡ desk.store.journal)
+IsEnded opened database journal = ⊥
+
 -- what is done over its desk, whichever that is
 abbrev pub IsDoneOver : {K J C : Type 0} → (Desk K → Desk K → Type 0)
     → (Desk (Keeper K J C) → Desk (Keeper K J C) → Type 0) → Opened K J C → Opened K J C

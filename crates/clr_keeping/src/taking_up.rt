@@ -7,8 +7,8 @@ ghost use Rattle.clr_desk.specs.Kept.{Keeps};
 ghost use Rattle.clr_level.specs.Journaling.{HasText, IsSound};
 ghost use Rattle.clr_level.specs.declared.last.Last.TheVariants.{Settled};
 ghost use Rattle.clr_edge.specs.Database.{IsOfLine};
-ghost use Rattle.clr_keeping.specs.Keeping.{IsLetGo, IsNotUp, IsNotUpWith, IsUp, IsUpWith, logged};
-ghost use Rattle.clr_keeping.specs.Keeping.{plain, unlogged};
+ghost use Rattle.clr_keeping.specs.Keeping.{IsEnded, IsLetGo, IsNotUp, IsNotUpWith, IsUp, IsUpWith};
+ghost use Rattle.clr_keeping.specs.Keeping.{logged, plain, unlogged};
 ghost use Rattle.clr_keeping.specs.TakenUp.{HasPlace, IsGiven, IsNotGiven, IsOfTakingUp, LacksPlace};
 ghost use Rattle.clr_keeping.specs.TakenUp.{MissesOne, OpensLevel, RollsForward, StaysRead};
 ghost use Rattle.clr_keeping.specs.TakenUp.{StopsForward, entries_of, logs, of_opening};
@@ -240,12 +240,27 @@ pub fn let_go<R: Databases + Journals>(
         rt.old rt.new }
     ensures fault { IfErr result IsOfLine }
 {
+    let (connection, log) = ended(opened);
+    match log {
+        Some(log) => {
+            rt.let_journal_go(log);
+            close(rt, connection)
+        }
+        None => close(rt, connection),
+    }
+}
+
+/// Ends a desk, and hands back its database, and its journal if it has one.
+fn ended<S: Alter + Drop, J: Journal + Drop, C: Clock>(
+    opened: Opened<Store<S>, J, C>,
+) -> (Connection<S>, Option<J>)
+    ensures { IsEnded opened result.0 result.1 }
+{
     match opened {
-        Opened::Plain(desk) => close(rt, desk.end().end()),
+        Opened::Plain(desk) => (desk.end().end(), None),
         Opened::Logged(desk) => {
             let (store, log) = desk.end().end();
-            rt.let_journal_go(log);
-            close(rt, store.end())
+            (store.end(), Some(log))
         }
     }
 }

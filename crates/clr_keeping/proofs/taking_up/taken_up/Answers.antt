@@ -1,4 +1,4 @@
-use Rattle.std.proofs.Common.{◌≡◌, ◌∙◌, ap, subst, sym}
+use Rattle.std.proofs.Common.{◌≡◌, ◌∙◌, ap, inr, subst, sym}
 use Rattle.sqlite.specs.Held.{Held, state}
 use Rattle.clr_book.specs.Book.{Shelved}
 use Rattle.clr_desk.specs.Kept.{Keeps}
@@ -60,3 +60,7 @@ returns-clause-stops g c good =
             same ∙ ap (λ (d : Desk (Held g.row.S.Denot)). d.store) back,
           );
     }
+
+-- its fault is that of the opening
+pub returns-clause-fault : goal.returns-clause-fault
+returns-clause-fault g c = inr (inr (inr (c.in-Err.fault, c.of_opening.ensures)))
