@@ -147,14 +147,14 @@ part_stops id end bytes after line text cause same reads rules (inr (is, stops))
 
 -- a line of them is refused
 refused_some : (first : Option (List ℕ)) (all : Option (List (List ℕ))) (it : Checking) (fault : Fault)
-    → IfSome first (λ known. IfSome all (λ parts. RefusesAll it (ended_lines known) parts fault))
+    → IfSome first (λ known. IfSome all (λ parts. RefusesAll it known parts fault))
     → IfSome first (λ known. IfSome all (λ parts. RefusesSome it known parts fault))
 refused_some None all it fault refused = tt
 refused_some (Some file) None it fault refused = tt
 refused_some (Some file) (Some parts) it fault refused = inr (inl refused)
 
 -- one or the other
-some_of : (old begun : Checking) (file known : List ℕ) (parts : List (List ℕ)) (fault : Fault) → (RefusesPart begun known fault → RefusesAll old (ended_lines file) parts fault)
+some_of : (old begun : Checking) (file known : List ℕ) (parts : List (List ℕ)) (fault : Fault) → (RefusesPart begun known fault → RefusesAll old file parts fault)
     → (ends_whole known ≡ false → RefusesHalf begun (ended_lines known) fault → RefusesHalves old file parts fault)
     → RefusesIn begun known fault → RefusesSome old file parts fault
 some_of old begun file known parts fault line half (inl part) = inr (inl (line part))
@@ -185,7 +185,7 @@ module _ (first : Option (List ℕ)) (all left : Option (List (List ℕ))) (old 
           → ((front : List (List ℕ)) → BeginOn old.walk.id it.walk.end rest front → BeginOn old.walk.id (walked old.walk.end (ended_lines file)).1 parts (more ++ front))
           → ((began : Register) (place to : Place) (R : Register) → CheckedTo began place to R old [] → CheckedTo began place to R it (ended_lines file ++ more))
           → ((copied : Register) (at place to : Place) (R : Register) → CheckedToFrom copied at place to R old [] → CheckedToFrom copied at place to R it (ended_lines file ++ more))
-          → RefusesPart begun known fault → RefusesAll old (ended_lines file) parts fault
+          → RefusesPart begun known fault → RefusesAll old file parts fault
       lines_of file parts one known after rest more next lines_are begin to to_from is =
           let front : BeginOn old.walk.id it.walk.end (one ∷ after) is.lines =
           begin_on-part old.walk.id it.walk.end begun.walk.end one line.items after is.lines is.after
@@ -247,17 +247,19 @@ module _ (first : Option (List ℕ)) (all left : Option (List (List ℕ))) (old 
       → ((began : Register) (place to : Place) (R : Register) (texts : List (List ℕ)) → CheckedTo began place to R it texts → IsRefused began place texts to R cause)
       → ((copied : Register) (at place to : Place) (R : Register) (texts : List (List ℕ)) → CheckedToFrom copied at place to R it texts
       → IsRefusedFrom copied at place texts to R cause)
-      → IfSome first (λ known. IfSome all (λ parts. RefusesAll old (ended_lines known) parts (of_check cause)))
-  end_refused cause other none why why_from = by first all had.known
+      → IfSome first (λ known. IfSome all (λ parts. RefusesAll old known parts (of_check cause)))
+  end_refused cause other none why why_from = by first all had.whole had.known
     where
-      by : (file : Option (List ℕ)) (found : Option (List (List ℕ))) → IfSome file (λ known. IfSome found (λ parts. Known (ended_lines known) parts left old it))
-          → IfSome file (λ known. IfSome found (λ parts. RefusesAll old (ended_lines known) parts (of_check cause)))
-      by None found known = tt
-      by (Some file) None known = tt
-      by (Some file) (Some parts) (rest, more, is_rest, go, begin, halve, broken, to, to_from) =
+      by : (file : Option (List ℕ)) (found : Option (List (List ℕ))) → IfSome file (λ known. ends_whole known ≡ true)
+          → IfSome file (λ known. IfSome found (λ parts. Known (ended_lines known) parts left old it))
+          → IfSome file (λ known. IfSome found (λ parts. RefusesAll old known parts (of_check cause)))
+      by None found whole known = tt
+      by (Some file) None whole known = tt
+      by (Some file) (Some parts) whole (rest, more, is_rest, go, begin, halve, broken, to, to_from) =
           let empty : rest ≡ [] = cc (sym none ∙ is_rest) in
-          let all_read : IsWhole old (ended_lines file) [] more parts = (
+          let all_read : IsWhole old file (ended_lines file) [] more parts = (
             refl,
+            whole,
             subst (λ (l : List (List ℕ)). GoOn old.walk.id (walked old.walk.end (ended_lines file)).1 parts l) (append-nil more)
                 (go [] (subst (λ (l : List (List ℕ)). GoOn old.walk.id it.walk.end l []) (sym empty) (go_on-none old.walk.id it.walk.end))),
           ) in
@@ -322,7 +324,7 @@ module _ (first : Option (List ℕ)) (all left : Option (List (List ℕ))) (old 
       → IsRefusedFrom copied at place texts to R c)) is why_from))
 
 -- a line of the first part is refused
-first_lines : (it : Checking) (file : List ℕ) (parts : List (List ℕ)) (fault : Fault) → RefusesPart it file fault → RefusesAll it (ended_lines file) parts fault
+first_lines : (it : Checking) (file : List ℕ) (parts : List (List ℕ)) (fault : Fault) → RefusesPart it file fault → RefusesAll it file parts fault
 first_lines it file parts fault is = record {
   had = is.lines;
   after = is.after;
@@ -449,7 +451,7 @@ some_check at path parts cause fault is which =
 
 -- what a check refuses, of the bytes of a journal
 module _ (one after : List ℕ) (parts : List (List ℕ)) (first place : Place) (it : Checking) (entries : List Entry) (fault : Fault) (begins : FirstIs first (Some after) one)
-    (over : GoesOver first place it [] entries) (is : RefusesAll it (ended_lines after) parts fault) where
+    (over : GoesOver first place it [] entries) (is : RefusesAll it after parts fault) where
   goes_over : (P : List ℕ → ChainEnd → Type 0) → P it.walk.id (walked it.walk.end is.had).1 → P first.id (walked (end_at first) is.had).1
   goes_over P goes =
       subst (λ (i : List ℕ). P i (walked (end_at first) is.had).1) over.id_is
@@ -472,19 +474,20 @@ module _ (one after : List ℕ) (parts : List (List ℕ)) (first place : Place) 
       by (inl none) = inl none
       by (inr (all, begin)) = inr (all, goes_over (λ i e. BeginOn i e parts is.more) begin)
 
-  has_all : IsWhole it is.had is.after is.more parts → HasLines one parts first (is.had ++ is.more)
-  has_all (none, go) =
+  has_all : IsWhole it after is.had is.after is.more parts → HasLines one parts first (is.had ++ is.more)
+  has_all (none, whole, go) =
       record {
         text = begins.0;
         lines = is.had;
         more = is.more;
         lines_are = begins.1 ∙ ap (λ (l : List (List ℕ)). begins.0 ∷ l) (is.lines_are ∙ ap (λ (l : List (List ℕ)). is.had ++ l) none ∙ append-nil is.had);
+        whole = begins.3 ∙ whole;
         read = begins.2;
         go_on = goes_over (λ i e. GoOn i e parts is.more) go;
         texts_are = refl;
       }
 
-  no_of : (IsAt : Place → List (List ℕ) → CheckFault → Type 0) → (IsOfEnd first (is.had ++ is.more) is.cause → IsWhole it is.had is.after is.more parts)
+  no_of : (IsAt : Place → List (List ℕ) → CheckFault → Type 0) → (IsOfEnd first (is.had ++ is.more) is.cause → IsWhole it after is.had is.after is.more parts)
       × AreRefused first (is.had ++ is.more) (IsAt first (is.had ++ is.more)) is.cause → IsNo one parts IsAt fault
   no_of IsAt refused = record {
     first = first;

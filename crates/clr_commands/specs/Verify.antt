@@ -254,28 +254,29 @@ pub record RefusesHalves (it : Checking) (bytes : List ℕ) (parts : List (List 
       → CheckedToFrom copied at first place R it []
       → IsNextAfter first (ended_lines bytes ++ more) number
 
--- they are all lines
-abbrev pub IsWhole : Checking → List (List ℕ) → List (List ℕ) → List (List ℕ) → List (List ℕ)
-    → Type 0
-IsWhole it had after more parts =
-    (after ≡ []) × GoOn it.walk.id (walked it.walk.end had).1 parts more
+-- they are all lines, and no part ends in half a line
+abbrev pub IsWhole : Checking → List ℕ → List (List ℕ) → List (List ℕ) → List (List ℕ)
+    → List (List ℕ) → Type 0
+IsWhole it bytes had after more parts = (after ≡ []) × (ends_whole bytes ≡ true)
+    × GoOn it.walk.id (walked it.walk.end had).1 parts more
 
 -- THE LINES OF ALL PARTS ARE REFUSED, as far as they were read
-pub record RefusesAll (it : Checking) (lines parts : List (List ℕ)) (fault : Fault) : Type 0 where
+pub record RefusesAll (it : Checking) (bytes : List ℕ) (parts : List (List ℕ)) (fault : Fault)
+    : Type 0 where
   pub had : List (List ℕ)
   pub after : List (List ℕ)
   pub more : List (List ℕ)
-  pub lines_are : lines ≡ had ++ after
+  pub lines_are : ended_lines bytes ≡ had ++ after
   pub go_on : (more ≡ []) ⊎ ((after ≡ []) × BeginOn it.walk.id (walked it.walk.end had).1 parts more)
   pub cause : CheckFault
   pub fault_is : fault ≡ of_check cause
   pub why : (began : Register) (first place : Place) (R : Register)
       → CheckedTo began first place R it []
-      → (IsOfEnd first (had ++ more) cause → IsWhole it had after more parts)
+      → (IsOfEnd first (had ++ more) cause → IsWhole it bytes had after more parts)
       × AreRefused first (had ++ more) (IsRefused began first (had ++ more) place R) cause
   pub why_from : (copied : Register) (at first place : Place) (R : Register)
       → CheckedToFrom copied at first place R it []
-      → (IsOfEnd first (had ++ more) cause → IsWhole it had after more parts)
+      → (IsOfEnd first (had ++ more) cause → IsWhole it bytes had after more parts)
       × AreRefused first (had ++ more) (IsRefusedFrom copied at first (had ++ more) place R) cause
 
 -- why a part was not checked: it was not read, or a line of it is refused, or it ends in half one
@@ -291,7 +292,7 @@ IsRefusedIn it left fault = IsOfReading fault ⊎ IfSome left (λ bytes. Refuses
 abbrev pub RefusesSome : Checking → List ℕ → List (List ℕ) → Fault → Type 0
 RefusesSome it bytes parts fault =
     BreaksAfter it.walk.id (walked it.walk.end (ended_lines bytes)).1 parts fault
-    ⊎ RefusesAll it (ended_lines bytes) parts fault
+    ⊎ RefusesAll it bytes parts fault
     ⊎ RefusesHalves it bytes parts fault
 
 abbrev pub IsRefusedBy : Checking → Option (List ℕ) → Option (List (List ℕ)) → Fault → Type 0

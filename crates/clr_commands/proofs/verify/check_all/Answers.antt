@@ -40,6 +40,10 @@ loop-path-preserved g c =
 pub returns-in_err-part-clause-fault : goal.returns-in_err-part-clause-fault
 returns-in_err-part-clause-fault g c = passed_check _ _ c.from_residual-in_err-part.ensures.1 (inl c.in_err-part.ensures.fault)
 
+-- or its first line was refused
+pub returns-in-Err-clause-fault : goal.returns-in-Err-clause-fault
+returns-in-Err-clause-fault g c = inr (inr (c.in-Err.fault, c.of_check.ensures))
+
 -- all were
 pub returns-clause-checked : goal.returns-clause-checked
 returns-clause-checked g c =

@@ -32,14 +32,14 @@ lines-preserved g c =
     )
 
 -- none is left
-pub returns-in_default-then-is_whole-clause-ready : goal.returns-in_default-then-is_whole-clause-ready
-returns-in_default-then-is_whole-clause-ready g c = c.lines.invariant.0.ready
+pub returns-then-is_whole-clause-ready : goal.returns-then-is_whole-clause-ready
+returns-then-is_whole-clause-ready g c = c.lines.invariant.0.ready
 
-pub returns-in_default-then-is_whole-clause-id : goal.returns-in_default-then-is_whole-clause-id
-returns-in_default-then-is_whole-clause-id g c = c.lines.invariant.0.id
+pub returns-then-is_whole-clause-id : goal.returns-then-is_whole-clause-id
+returns-then-is_whole-clause-id g c = c.lines.invariant.0.id
 
-pub returns-in_default-then-is_whole-clause-checked : goal.returns-in_default-then-is_whole-clause-checked
-returns-in_default-then-is_whole-clause-checked g c =
+pub returns-then-is_whole-clause-checked : goal.returns-then-is_whole-clause-checked
+returns-then-is_whole-clause-checked g c =
     let left = left_in g.S.Read.remaining c.lines.part in
     let next = left_in g.S.Read.remaining c.line.new.self in
     let reads : IfSome left (ReadsLine None next) = subst (λ (o : Option (Vec ℕ Global)). IfSome left (ReadsLine o next)) c.in_default.is c.in_ok-line.ensures.line in
