@@ -158,6 +158,15 @@ def whole_lines(folder, name="journal"):
         return [line for line in file.read().splitlines(keepends=True) if line.endswith("\n")]
 
 
+def ends_whole(folder, name="journal"):
+    """Whether a journal in a folder does not end in half a line."""
+    path = os.path.join(folder, name)
+    if not os.path.exists(path):
+        return True
+    with open(path, "rb") as file:
+        return file.read()[-1:] in (b"", b"\n")
+
+
 def removed(folder, name):
     """The same folder without a file."""
     path = os.path.join(folder, name)
@@ -211,7 +220,8 @@ class Shift:
         return folder
 
     def look_at_journal(self, folder, answered):
-        """Each command that was answered has a line, and the register is level with its journal before it is opened again."""
+        """Each command that was answered has a line, and the register is level with its journal before it is opened again; but half
+        a line at its end is named."""
         wanted = [line for line, reply in zip(self.lines, self.replies[:answered]) if '"reply":"shown"' not in reply]
         found = [json.loads(line) for line in whole_lines(folder)[1:]]
         given = [line["command"] for line in found if "command" in line]
@@ -219,7 +229,11 @@ class Shift:
         once = [command for place, command in enumerate(given) if command not in given[:place]]
         expect(once[: len(wanted)] == [json.loads(line) for line in wanted], f"{answered} answered, and the journal has {once[-2:]}")
         done = self.bench.verify(folder)
-        expect(done.status == 0, f"verify: {done}")
+        if ends_whole(folder):
+            expect(done.status == 0, f"verify: {done}")
+        else:
+            last = found[-1]["number"] if found else 0
+            expect(done == Ended(1, "", f"fault: journal BadLine {last + 1}\n"), f"verify of half a line: {done}")
 
     def open_again(self, folder):
         """Opens register and journal: from then on the tables are those of the journal."""
