@@ -8,3 +8,4 @@ pub mod Parts
 pub mod Outcome
 pub mod Lines
 pub mod Report
+pub mod Made

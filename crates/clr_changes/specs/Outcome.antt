@@ -6,10 +6,10 @@ use Rattle.clr_rules.specs.Edits.{fit}
 use Rattle.clr_rules.specs.Register.{Register, first_state}
 use Rattle.clr_staff.specs.declared.employee.StaffRow.{StaffRow}
 use Rattle.clr_update.specs.Changes.{changes}
+use Rattle.clr_update.specs.Shown.{as_changes}
 use Rattle.clr_update.specs.Update.{Update, in_the_way, kept, kept_state, updated}
 use Rattle.clr_changes.specs.Needs.{Renewal}
 use Rattle.clr_changes.specs.Renewed.{renewed}
-use Rattle.clr_changes.specs.Shown.{as_changes}
 use Rattle.clr_changes.specs.declared.outcome.After.{After}
 use Rattle.clr_changes.specs.declared.outcome.Outcome.{Outcome}
 use Rattle.clr_changes.specs.declared.outcome.Outcome.TheVariants.{Accepted, InTheWay}

@@ -1,29 +1,18 @@
 //! What changes from one register to the next in network and staff.
 ghost use Rattle.std.specs.Prelude.{◌≡◌, IfOk};
 ghost use Rattle.clr_update.specs.Changes.{changes};
+ghost use Rattle.clr_update.specs.Shown.{as_changes};
 ghost use Rattle.clr_changes.specs.Renewed.{renewed};
-ghost use Rattle.clr_changes.specs.Shown.{as_changes};
 
 use crate::rows::{lacking, unplaced_rows};
 use crate::states::placed;
 use clr_book::Book;
-use clr_net::{Network, PointRow, SectionRow};
+use clr_net::Network;
 use clr_rules::{Hold, PointState, Record, StepRow};
 use clr_shelf::Shelf;
-use clr_staff::{Staff, StaffRow};
+use clr_staff::Staff;
+use clr_update::Changes;
 use std::alloc::{AllocError, Global};
-
-/// Rows that go, and rows that come. A row that changes goes as it was, and comes as it is.
-#[derive(Drop)]
-pub struct Changes {
-    pub sections_go: Vec<SectionRow>,
-    pub sections_come: Vec<SectionRow>,
-    pub points_go: Vec<PointRow>,
-    /// Each in its position.
-    pub points_come: Vec<PointRow>,
-    pub staff_goes: Vec<StaffRow>,
-    pub staff_comes: Vec<StaffRow>,
-}
 
 /// What changes from a book's register to the one with this network, staff and states.
 pub(crate) fn changes_to<P, C, T, H>(

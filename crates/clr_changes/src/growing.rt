@@ -68,7 +68,7 @@ fn has_ends(network: &Network, row: &PointRow) -> bool
 }
 
 /// Whether a network has a point of this name.
-fn has_point(network: &Network, name: Name) -> bool
+pub(crate) fn has_point(network: &Network, name: Name) -> bool
     ensures { result ≡ has_name (point_names network.now.points) name }
 {
     network.point(&name).is_some()

@@ -4,6 +4,7 @@
 
 mod changes;
 mod growing;
+mod made;
 mod naming;
 mod needs;
 mod obstacles;
@@ -18,8 +19,8 @@ mod staying;
 mod touched;
 mod update;
 
-pub use changes::Changes;
-pub use clr_update::Obstacle;
+pub use clr_update::{Changes, Obstacle};
+pub use made::{made_of, update_of};
 pub use outcome::{After, Outcome, outcome_of};
 pub use print::print_changes;
 pub use report::{Report, report_of};

@@ -9,7 +9,6 @@ ghost use Rattle.clr_changes.specs.Needs.{first_row, obstacle_of, rows_needed};
 ghost use Rattle.clr_changes.specs.Touched.{first_of, points_of_steps, points_touching};
 ghost use Rattle.clr_changes.specs.Touched.{sections_inside};
 
-use crate::changes::Changes;
 use crate::growing::has_section;
 use crate::staffing::{its_holder, its_reader, its_requester};
 use crate::touched::{first_at_steps, first_inside, first_of_both, first_points};
@@ -18,7 +17,7 @@ use clr_net::{Fence, Name, Network};
 use clr_rules::{ClearanceId, Hold, PointState, Record, StepRow};
 use clr_shelf::Shelf;
 use clr_staff::Staff;
-use clr_update::Obstacle;
+use clr_update::{Changes, Obstacle};
 use std::alloc::{AllocError, Global};
 use std::marker::Model;
 
@@ -72,7 +71,7 @@ impl<'a, P: Shelf<PointState>, C: Shelf<Record>, T: Shelf<StepRow>, H: Shelf<Hol
     for Renewal<'a, P, C, T, H> {
     ghost use Rattle.clr_changes.specs.Needs.{Renewal};
     ghost use Rattle.clr_changes.specs.Renewed.{renewed};
-    ghost use Rattle.clr_changes.specs.Shown.{as_changes};
+    ghost use Rattle.clr_update.specs.Shown.{as_changes};
 
     ghost Value = { Renewal };
 

@@ -7,7 +7,7 @@ ghost use Rattle.clr_changes.specs.Outcome.{IsMadeOf, IsOutcome, IsRenewal, rene
 ghost use Rattle.clr_changes.specs.Parts.{row_obstacles};
 ghost use Rattle.clr_changes.specs.Shown.{as_update};
 
-use crate::changes::{Changes, changes_to};
+use crate::changes::changes_to;
 use crate::growing::{add_points, add_sections};
 use crate::naming::name_obstacle;
 use crate::needs::Renewal;
@@ -19,7 +19,7 @@ use clr_net::{Network, PointRow, SectionRow};
 use clr_rules::{Hold, PointState, Record, StepRow};
 use clr_shelf::Shelf;
 use clr_staff::Staff;
-use clr_update::Obstacle;
+use clr_update::{Changes, Obstacle};
 use std::alloc::{AllocError, Global};
 
 /// Network, staff and states after an update, and what changes.
@@ -70,7 +70,7 @@ where
 }
 
 /// The jumpers of a book, without the positions of their rows.
-fn own_jumpers<P, C, T, H>(
+pub(crate) fn own_jumpers<P, C, T, H>(
     alloc: Global,
     book: &Book<P, C, T, H>,
 ) -> Result<Vec<PointRow>, AllocError>

@@ -7,11 +7,11 @@ ghost use Rattle.clr_changes.specs.Lines.{flag_line, name_or_none, namesake, new
 ghost use Rattle.clr_changes.specs.Lines.{points_said, role_text, row_lines};
 ghost use Rattle.clr_changes.specs.Lines.{sections_said, text_line, was_text};
 ghost use Rattle.clr_changes.specs.Lines.{yes_no};
-ghost use Rattle.clr_changes.specs.Shown.{as_changes};
+ghost use Rattle.clr_update.specs.Shown.{as_changes};
 
-use crate::changes::Changes;
 use clr_net::{Name, Named, PointRow, SectionRow};
 use clr_staff::{Role, StaffRow};
+use clr_update::Changes;
 use std::alloc::{AllocError, Global};
 
 /// What changes, a line each: of the sections, the points and the staff.

@@ -5,3 +5,4 @@ pub mod Entries
 pub mod Laws
 pub mod Delta
 pub mod DeltaLaws
+pub mod Shown

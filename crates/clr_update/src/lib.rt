@@ -2,7 +2,9 @@
 //! way, and its laws.
 #![tactic(auto)]
 
+mod changes;
 pub mod laws;
 mod obstacle;
 
+pub use changes::Changes;
 pub use obstacle::Obstacle;
