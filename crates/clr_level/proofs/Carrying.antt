@@ -1,33 +1,49 @@
 -- One command at a keeper with one place for each change.
 use Rattle.std.proofs.Common.{◌≡◌, ◌∙◌, true, List, [], ◌∷◌, Result, Ok, Err, inl, inr, refl, ap, subst, sym}
 use Rattle.std.specs.Prelude.{IfOk, OnErr, OnOk}
-use Rattle.sqlite.specs.State.{State}
+use Rattle.sqlite.specs.State.{HasCleanDisk, State, Survives}
+use Rattle.sqlite.proofs.StateLemmas.{survives_weaker}
 use Rattle.clr_answer.specs.Decision.{is_accepted}
 use Rattle.clr_rules.specs.Answer.{Answer}
+use Rattle.clr_rules.specs.Good.{IsGood}
 use Rattle.clr_rules.specs.Register.{Register}
 use Rattle.clr_rules.specs.declared.change.Edit.{Edit}
 use Rattle.clr_rules.specs.declared.command.Command.{Command}
 use Rattle.clr_rules.specs.declared.reply.Reply.{Reply}
 use Rattle.clr_rules.specs.declared.reply.Reply.TheVariants.{Accepted, Added, Refused, Shown}
 use Rattle.clr_book.specs.Book.{Shelved}
+use Rattle.clr_place.specs.declared.place.Place.{Place}
+use Rattle.clr_tables.specs.Tables.{tables_of}
+use Rattle.clr_load.specs.Stored.{HasTables}
 use Rattle.clr_desk.specs.Asking.{near_after, near_answer}
 use Rattle.clr_desk.specs.Carrying.{CarriesOut}
 use Rattle.clr_desk.specs.Commit.{Stays}
+use Rattle.clr_desk.specs.Crash.{AreAfter}
 use Rattle.clr_desk.specs.Given.{AreGiven, LeadsTo, command}
 use Rattle.clr_desk.specs.Kept.{Keeps}
 use Rattle.clr_desk.specs.Taking.{Came, Hearing, Taking, Takes, TakesOne, is_refused}
 use Rattle.clr_desk.specs.declared.desk.Desk.{Desk}
 use Rattle.clr_desk.specs.declared.desk_fault.DeskFault.{DeskFault}
 use Rattle.clr_desk.proofs.Keeping.{one_keeps}
+use Rattle.clr_desk.proofs.Staying.{stays_left}
+use Rattle.clr_level.specs.Crash.{AreAfterAt, KeepsTables}
 use Rattle.clr_level.specs.Forward.{Carries}
-use Rattle.clr_desk.specs.Placing.{CommitsAt, Placing}
-use Rattle.clr_level.specs.Placing.{ComesTo, StaysShown}
+use Rattle.clr_desk.specs.Placing.{AreEditedAt, CommitsAt, Placing}
+use Rattle.clr_level.specs.Placing.{ArePlacedAt, ComesTo, StaysShown}
 use Rattle.clr_level.specs.declared.placing.Placed.{Placed}
+use Rattle.clr_level.proofs.Crashes.{left_both, left_itself}
 use Rattle.clr_level.proofs.Places.{comes, shows_still, shown_itself, stays_shown}
 
 -- ---- what a keeper with a place takes
 
 module _ {K : Type 0} (takes : Taking K) (kept : K → State) (has_place : Placing) where
+  left_placed : (old new : Placed K) (edits : List Edit) (came : Came)
+      → CommitsAt {X = Unit {0}} has_place (kept old.keeper) (kept new.keeper) edits old.place came
+      → Survives (kept old.keeper) (kept new.keeper) (ArePlacedAt has_place (kept old.keeper).now old.place)
+  left_placed old new edits came commits =
+      survives_weaker (kept old.keeper) (kept new.keeper) (AreEditedAt has_place (kept old.keeper).now edits old.place)
+      (ArePlacedAt has_place (kept old.keeper).now old.place) (λ clean trees edited t has. (edited t has).1) commits.crash
+
   pub kept_carries : (old new : Placed K) (q : Command) (reply : Reply) (edits : List Edit) (came : Came)
       → CommitsAt {X = Unit {0}} has_place (kept old.keeper) (kept new.keeper) edits old.place came
       → takes old.keeper q reply came new.keeper → new.place ≡ old.place → Carries takes kept has_place old q reply came new
@@ -36,12 +52,14 @@ module _ {K : Type 0} (takes : Taking K) (kept : K → State) (has_place : Placi
     same = same;
     placed = λ is accepted. comes has_place (kept old.keeper) (kept new.keeper) edits old.place commits;
     stays = λ fault is. absurd (cc is);
+    crash = left_placed old new edits (Ok done) commits;
   }
   kept_carries old new q reply edits (Err cause) commits taken same = record {
     taken = taken;
     same = same;
     placed = λ is accepted. absurd (cc is);
     stays = λ fault is. shows_still has_place (kept old.keeper) (kept new.keeper) edits old.place cause commits;
+    crash = left_placed old new edits (Err cause) commits;
   }
 
   not_both : (reply : Reply) → is_refused reply ≡ true → is_accepted reply ≡ true → ⊥
@@ -58,6 +76,7 @@ module _ {K : Type 0} (takes : Taking K) (kept : K → State) (has_place : Placi
     same = same;
     placed = λ is accepted. absurd (not_both reply refused accepted);
     stays = λ fault is. stays_shown (kept old.keeper) (kept new.keeper) stays;
+    crash = stays_left (kept old.keeper) (kept new.keeper) (ArePlacedAt has_place (kept old.keeper).now old.place) stays;
   }
 
   -- ---- what comes of one command
@@ -115,6 +134,24 @@ module _ {K : Type 0} (takes : Taking K) (kept : K → State) (has_place : Placi
       subst (λ (it : Placed K). StaysShown (kept old.keeper) (kept it.keeper)) (sym out.1) (shown_itself (kept old.keeper))
   one_stays R old new q (Err fault) (inr taken) = takes_stays old new q (Answer.reply (near_answer R q)) fault taken
 
+  takes_left : (old new : Placed K) (q : Command) (reply : Reply) (came : Came) → Takes (Carries takes kept has_place) old q reply came new
+      → Survives (kept old.keeper) (kept new.keeper) (ArePlacedAt has_place (kept old.keeper).now old.place)
+  takes_left old new q (Accepted card) came taken = taken.crash
+  takes_left old new q (Shown view) came taken =
+      subst (λ (it : Placed K). Survives (kept old.keeper) (kept it.keeper) (ArePlacedAt has_place (kept old.keeper).now old.place)) (sym taken.0)
+      (left_itself (kept old.keeper) (ArePlacedAt has_place (kept old.keeper).now old.place))
+  takes_left old new q (Refused refusal) came taken = taken.crash
+  takes_left old new q (Added point) came taken = taken.crash
+
+  -- whatever came of it, a crash leaves the place with the change
+  pub one_left : (R : Register) (old new : Placed K) (q : Command) (result : Result Reply DeskFault) → TakesOne (Carries takes kept has_place) R old q result new
+      → Survives (kept old.keeper) (kept new.keeper) (ArePlacedAt has_place (kept old.keeper).now old.place)
+  one_left R old new q (Ok reply) taken = takes_left old new q reply (Ok tt) taken
+  one_left R old new q (Err fault) (inl out) =
+      subst (λ (it : Placed K). Survives (kept old.keeper) (kept it.keeper) (ArePlacedAt has_place (kept old.keeper).now old.place)) (sym out.1)
+      (left_itself (kept old.keeper) (ArePlacedAt has_place (kept old.keeper).now old.place))
+  one_left R old new q (Err fault) (inr taken) = takes_left old new q (Answer.reply (near_answer R q)) (Err fault) taken
+
   -- ---- the desk below
 
   pub leads_below : (hears : Hearing K) (fails : DeskFault → Type 0) (old new : Desk K) (placed next : Desk (Placed K)) (q : Command)
@@ -158,3 +195,39 @@ module _ {K : Type 0} (takes : Taking K) (kept : K → State) (has_place : Placi
       subst (λ (k : K). OnErr result (StaysShown (kept k) (kept new.store))) store
       (subst (λ (k : K). OnErr result (StaysShown (kept placed.store.keeper) (kept k))) (sym store')
       (one_stays placed.book.register placed.store next.store q result taken))
+
+  -- a crash leaves the register before the command, or that after it with the place
+  pub left_below : (fails : DeskFault → Type 0) (old new : Desk K) (placed next : Desk (Placed K)) (q : Command) (result : Result Reply DeskFault) (place : Place)
+      → placed.book ≡ old.book → placed.store.keeper ≡ old.store → placed.store.place ≡ place → new.store ≡ next.store.keeper
+      → CarriesOut (λ (it : Placed K). kept it.keeper) fails placed next q result
+      → TakesOne (Carries takes kept has_place) placed.book.register placed.store q result next.store
+      → Survives (kept old.store) (kept new.store) (AreAfterAt has_place (kept old.store).now old.book.register q place)
+  left_below fails old new placed next q result place book store at store' carried taken =
+      let s = kept placed.store.keeper in
+      let here : Survives s (kept next.store.keeper) (AreAfterAt has_place s.now placed.book.register q placed.store.place) =
+      left_both s (kept next.store.keeper) (AreAfter s.now placed.book.register q) (ArePlacedAt has_place s.now placed.store.place) carried.survives
+      (one_left placed.book.register placed.store next.store q result taken) in
+      subst (λ (k : K). Survives (kept k) (kept new.store) (AreAfterAt has_place (kept k).now old.book.register q place)) store
+      (subst (λ (k : K). Survives s (kept k) (AreAfterAt has_place s.now old.book.register q place)) (sym store')
+      (subst (λ (p : Place). Survives s (kept next.store.keeper) (AreAfterAt has_place s.now old.book.register q p)) at
+      (subst (λ (b : Shelved). Survives s (kept next.store.keeper) (AreAfterAt has_place s.now b.register q placed.store.place)) book here)))
+
+  tables_on : (fails : DeskFault → Type 0) (placed next : Desk (Placed K)) (q : Command) (result : Result Reply DeskFault)
+      → CarriesOut (λ (it : Placed K). kept it.keeper) fails placed next q result → OnOk result (KeepsTables (λ (it : Placed K). kept it.keeper) placed next)
+  tables_on fails placed next q (Ok reply) carried = carried.tables
+  tables_on fails placed next q (Err fault) carried = tt
+
+  -- and where it was carried out the tables are those of the register
+  pub tables_below : (fails : DeskFault → Type 0) (old new : Desk K) (placed next : Desk (Placed K)) (q : Command) (result : Result Reply DeskFault)
+      → placed.book ≡ old.book → placed.store.keeper ≡ old.store → new.book ≡ next.book → new.store ≡ next.store.keeper
+      → CarriesOut (λ (it : Placed K). kept it.keeper) fails placed next q result → OnOk result (KeepsTables kept old new)
+  tables_below fails old new placed next q result book store book' store' carried =
+      subst (λ (b : Shelved). OnOk result (HasCleanDisk (kept new.store) → IsGood old.book.register
+      → HasTables (kept old.store).now (tables_of old.book.register) → HasTables (kept new.store).now (tables_of b.register))) (sym book')
+      (subst (λ (k : K). OnOk result (HasCleanDisk (kept k) → IsGood old.book.register → HasTables (kept old.store).now (tables_of old.book.register)
+      → HasTables (kept k).now (tables_of next.book.register))) (sym store')
+      (subst (λ (k : K). OnOk result (HasCleanDisk (kept next.store.keeper) → IsGood old.book.register → HasTables (kept k).now (tables_of old.book.register)
+      → HasTables (kept next.store.keeper).now (tables_of next.book.register))) store
+      (subst (λ (b : Shelved). OnOk result (HasCleanDisk (kept next.store.keeper) → IsGood b.register
+      → HasTables (kept placed.store.keeper).now (tables_of b.register) → HasTables (kept next.store.keeper).now (tables_of next.book.register))) book
+      (tables_on fails placed next q result carried))))

@@ -164,6 +164,25 @@ run_on first R S xs ys one two =
           ∙ ap (map reply_data) (sym on.replied) ∙ ap (λ (qs : List Command). map reply_data (replies first qs)) (sym firsts);
     }
 
+-- and the rest of a run goes on from where its beginning leads to
+pub run_rest : (first R T : Register) (xs ys : List (Command × Data)) → IsRunOf first xs R → IsRunOf first (xs ++ ys) T → IsRunOf R ys T
+run_rest first R T xs ys one all =
+    let commands = map (λ (pair : Command × Data). pair.0) xs in
+    let later = map (λ (pair : Command × Data). pair.0) ys in
+    let told = map (λ (pair : Command × Data). pair.1) xs in
+    let others = map (λ (pair : Command × Data). pair.1) ys in
+    let firsts : map (λ (pair : Command × Data). pair.0) (xs ++ ys) ≡ commands ++ later = map-append _ xs ys in
+    let seconds : map (λ (pair : Command × Data). pair.1) (xs ++ ys) ≡ told ++ others = map-append _ xs ys in
+    let on = runs_go_on first commands later in
+    let both : told ++ others ≡ told ++ map reply_data (replies R later) =
+    sym seconds ∙ all.replied ∙ ap (λ (qs : List Command). map reply_data (replies first qs)) firsts ∙ ap (map reply_data) on.replied
+    ∙ map-append reply_data (replies first commands) (replies (after_all first commands) later)
+    ∙ ap₂ (λ (a b : List Data). a ++ b) (sym one.replied) (ap (λ (X : Register). map reply_data (replies X later)) (sym one.register)) in
+    record {
+      register = all.register ∙ ap (after_all first) firsts ∙ on.register ∙ ap (λ (X : Register). after_all X later) (sym one.register);
+      replied = append_cancel_left told others (map reply_data (replies R later)) both;
+    }
+
 one_run : (R : Register) (q : Command) → IsRunOf R ((q, reply_data (Answer.reply (answer R q))) ∷ []) (after R q)
 unfolding after_all replies
 one_run R q = record { register = refl; replied = refl }

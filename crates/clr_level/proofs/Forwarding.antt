@@ -4,7 +4,8 @@ use Rattle.std.proofs.Math.Bool.{or-false, or-true}
 use Rattle.std.proofs.lemmas.List.{map-append, reverse-append, reverse-reverse}
 use Rattle.std.proofs.lemmas.List.Folds.{list_any-append}
 use Rattle.std.specs.List.{list_any}
-use Rattle.sqlite.specs.State.{State}
+use Rattle.sqlite.specs.State.{State, Survives}
+use Rattle.sqlite.specs.Tree.{Trees}
 use Rattle.serde_json.specs.Data.{Data}
 use Rattle.serde_json.specs.View.{view}
 use Rattle.clr_answer.specs.Decision.{is_accepted as accepts}
@@ -31,6 +32,7 @@ use Rattle.clr_desk.specs.Taking.{Hearing, Taking}
 use Rattle.clr_desk.specs.declared.desk.Desk.{Desk}
 use Rattle.clr_desk.specs.declared.desk_fault.DeskFault.{DeskFault}
 use Rattle.clr_desk.proofs.Givings.{leads_itself}
+use Rattle.clr_level.specs.Crash.{AreRolled, KeepsTables}
 use Rattle.clr_level.specs.Forward.{AreAnswered, AreShallow, Arrives, HasCome, HasFractionAt, HasStopped, IsAccepted, IsOfCarrying, IsOfForward, StopsAt, Went}
 use Rattle.clr_level.specs.Forward.{entry_with, open_after, open_entries, opened_by}
 use Rattle.clr_desk.specs.Placing.{Placing}
@@ -39,6 +41,7 @@ use Rattle.clr_level.specs.declared.fault.OpeningFault.{OpeningFault}
 use Rattle.clr_level.specs.declared.fault.OpeningFault.TheVariants as opening
 use Rattle.clr_level.proofs.Accepting.{accepted_data}
 use Rattle.clr_level.proofs.Chains.{accepted_out, front_kept, no_run, place_more, refused_out, reply_in_run, run_more, withdrawn_out}
+use Rattle.clr_level.proofs.Crashes.{left_itself}
 use Rattle.clr_level.proofs.Places.{at_moves, at_stays}
 
 -- a run leaves a good register good
@@ -152,6 +155,18 @@ module _ (has_place : Placing) (R : Register) (place : Place) (lines : List Entr
   whole : (had idle rest : List Entry) (entry : Entry) → had ++ ((idle ++ entry ∷ []) ++ rest) ≡ (had ++ (idle ++ entry ∷ [])) ++ (([] ++ []) ++ rest)
   whole had idle rest entry = sym (append_assoc had (idle ++ entry ∷ []) rest)
 
+  -- a run with the open command
+  pub run_with : (S : Register) (s : State) (at : Place) (one : Carried) (rest : List Entry) (come : HasCome has_place R place lines S s at (Some one) rest)
+      → view one.reply ≡ reply_data (Answer.reply (answer S one.command))
+      → IsRunOf R (carried_out (HasCome.had come ++ (HasCome.idle come ++ entry_with one ∷ []))) (after S one.command)
+  run_with S s at one rest come is =
+      let now = come.idle ++ entry_with one ∷ [] in
+      let pairs : carried_out (come.had ++ now) ≡ carried_out come.had ++ (one.command, reply_data (Answer.reply (answer S one.command))) ∷ [] =
+      carried_out-append come.had now (front_kept now rest come.begins)
+      ∙ ap (λ es. carried_out come.had ++ es) (accepted_out come.idle one.receipt one.command (view one.reply) come.none come.accepted)
+      ∙ ap (λ (d : Data). carried_out come.had ++ (one.command, d) ∷ []) is in
+      subst (λ pairs. IsRunOf R pairs (after S one.command)) (sym pairs) (run_more R S (carried_out come.had) one.command come.run)
+
   pub carried_on : (S T : Register) (s t : State) (at : Place) (one : Carried) (rest : List Entry) → HasCome has_place R place lines S s at (Some one) rest
       → withdraws rest ≡ false → view one.reply ≡ reply_data (Answer.reply (answer S one.command)) → T ≡ after S one.command → ComesTo has_place s t at
       → HasCome has_place R place lines T t at None rest × IsAt has_place t at
@@ -159,10 +174,6 @@ module _ (has_place : Placing) (R : Register) (place : Place) (lines : List Entr
   carried_on S T s t at one rest come kept is went comes =
       let entry = entry_of (line.Carried one) in
       let now = come.idle ++ entry ∷ [] in
-      let pairs : carried_out (come.had ++ now) ≡ carried_out come.had ++ (one.command, reply_data (Answer.reply (answer S one.command))) ∷ [] =
-      carried_out-append come.had now (front_kept now rest come.begins)
-      ∙ ap (λ es. carried_out come.had ++ es) (accepted_out come.idle one.receipt one.command (view one.reply) come.none come.accepted)
-      ∙ ap (λ (d : Data). carried_out come.had ++ (one.command, d) ∷ []) is in
       let here : IsAt has_place t at = at_moves has_place s t (place_after place come.had) at come.placed comes in (
         record {
           had = come.had ++ now;
@@ -171,9 +182,7 @@ module _ (has_place : Placing) (R : Register) (place : Place) (lines : List Entr
           begins = kept;
           none = refl;
           accepted = tt;
-          run = subst (λ (X : Register). IsRunOf R (carried_out (come.had ++ now)) X) (sym went)
-              (subst (λ pairs. IsRunOf R pairs (after S one.command)) (sym pairs)
-              (run_more R S (carried_out come.had) one.command come.run));
+          run = subst (λ (X : Register). IsRunOf R (carried_out (come.had ++ now)) X) (sym went) (run_with S s at one rest come is);
           at_is = come.at_is ∙ ap (place_after place) (sym (append-nil (come.had ++ now)));
           placed = subst (IsAt has_place t) come.at_is here;
           shallow = come.shallow.1;
@@ -183,15 +192,21 @@ module _ (has_place : Placing) (R : Register) (place : Place) (lines : List Entr
 
   -- ---- the place moved over idle lines
 
+  -- they carry nothing out
+  pub run_over_idle : (S : Register) (s : State) (at : Place) (come : HasCome has_place R place lines S s at None [])
+      → IsRunOf R (carried_out (HasCome.had come ++ HasCome.idle come)) S
+  run_over_idle S s at come =
+      let kept : withdraws come.idle ≡ false = front_kept come.idle [] (front_kept (come.idle ++ []) [] come.begins) in
+      let pairs : carried_out (come.had ++ come.idle) ≡ carried_out come.had =
+      carried_out-append come.had come.idle kept ∙ ap (λ ps. carried_out come.had ++ ps) come.none ∙ append-nil (carried_out come.had) in
+      subst (λ ps. IsRunOf R ps S) (sym pairs) come.run
+
   pub moved_on : (S T : Register) (s t : State) (at : Place) → HasCome has_place R place lines S s at None [] → T ≡ S → ComesTo has_place s t at
       → HasCome has_place R place lines T t at None [] × IsAt has_place t at
   unfolding carried_out
   moved_on S T s t at come same comes =
       let here : IsAt has_place t at = at_moves has_place s t (place_after place come.had) at come.placed comes in
       let none : (come.idle ++ []) ++ [] ≡ come.idle = append-nil (come.idle ++ []) ∙ append-nil come.idle in
-      let kept : withdraws come.idle ≡ false = ap withdraws (sym none) ∙ come.begins in
-      let pairs : carried_out (come.had ++ come.idle) ≡ carried_out come.had =
-      carried_out-append come.had come.idle kept ∙ ap (λ ps. carried_out come.had ++ ps) come.none ∙ append-nil (carried_out come.had) in
       let end_is : at ≡ place_after place (come.had ++ come.idle) = come.at_is ∙ ap (λ es. place_after place (come.had ++ es)) (append-nil come.idle) in (
         record {
           had = come.had ++ come.idle;
@@ -200,7 +215,7 @@ module _ (has_place : Placing) (R : Register) (place : Place) (lines : List Entr
           begins = refl;
           none = refl;
           accepted = tt;
-          run = subst (λ (X : Register). IsRunOf R (carried_out (come.had ++ come.idle)) X) (sym same) (subst (λ ps. IsRunOf R ps S) (sym pairs) come.run);
+          run = subst (λ (X : Register). IsRunOf R (carried_out (come.had ++ come.idle)) X) (sym same) (run_over_idle S s at come);
           at_is = end_is ∙ ap (place_after place) (sym (append-nil (come.had ++ come.idle)));
           placed = subst (IsAt has_place t) end_is here;
           shallow = tt;
@@ -225,7 +240,7 @@ module _ (has_place : Placing) (R : Register) (place : Place) (lines : List Entr
   }
 
   -- where all lines are answered as they say, it is
-  said : (S : Register) (s : State) (at : Place) (one : Carried) (rest : List Entry) → AreAnswered R lines
+  pub said : (S : Register) (s : State) (at : Place) (one : Carried) (rest : List Entry) → AreAnswered R lines
       → HasCome has_place R place lines S s at (Some one) rest → withdraws rest ≡ false → view one.reply ≡ reply_data (Answer.reply (answer S one.command))
   said S s at one rest answered come kept =
       let entry = entry_with one in
@@ -367,11 +382,18 @@ module _ {K : Type 0} (kept : K → State) (has_place : Placing) (R : Register) 
 
 -- ---- all lines
 
+-- a crash leaves a front of them, where they are answered as they say
+abbrev pub Left : {K : Type 0} → (K → State) → Placing → Desk K → Place → List Entry → Trees → Type 0
+Left kept has_place desk place lines trees =
+    AreAnswered desk.book.register lines → AreRolled has_place (kept desk.store) desk.book.register place lines trees
+
 -- the lines so far, where `left` are those after them, the last first
 pub record SoFar {K : Type 0} (kept : K → State) (takes : Taking K) (hears : Hearing K) (has_place : Placing) (desk now : Desk K) (place at : Place)
     (open_one : Option Carried) (lines left : List Line) : Type 0 where
   pub come : IsGood desk.book.register → AreAnswered desk.book.register (map entry_of lines) → withdraws (map entry_of lines) ≡ false → AreShallow (map entry_of lines) → IsAt has_place (kept desk.store) place
       → HasCome has_place desk.book.register place (map entry_of lines) now.book.register (kept now.store) at open_one (map entry_of (reverse left))
+  pub tables : KeepsTables kept desk now
+  pub crash : Survives (kept desk.store) (kept now.store) (Left kept has_place desk place (map entry_of lines))
   pub led : LeadsTo kept takes hears desk now
   pub before : List Line
   pub all : lines ≡ before ++ reverse left
@@ -383,6 +405,8 @@ module _ {K : Type 0} (kept : K → State) (takes : Taking K) (hears : Hearing K
         subst (λ rest. HasCome has_place desk.book.register place (map entry_of lines) desk.book.register (kept desk.store) place None rest)
         (sym (ap (λ ls. map entry_of (reverse ls)) is ∙ ap (map entry_of) (reverse-reverse lines)))
         (begun has_place desk.book.register place (map entry_of lines) (kept desk.store) begins shallow at);
+    tables = λ clean good has. has;
+    crash = left_itself (kept desk.store) (Left kept has_place desk place (map entry_of lines));
     led = leads_itself kept takes hears desk;
     before = [];
     all = sym (ap reverse is ∙ reverse-reverse lines);

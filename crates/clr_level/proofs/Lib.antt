@@ -2,6 +2,7 @@ pub mod Accepting
 pub mod Appending
 pub mod Carrying
 pub mod Chains
+pub mod Crashes
 pub mod Forwarding
 pub mod InBrief
 pub mod Levels
@@ -14,3 +15,4 @@ pub mod Tried
 pub mod BegunLevel
 pub mod Restarts
 pub mod Safes
+pub mod Fronts

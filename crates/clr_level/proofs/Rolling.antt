@@ -1,7 +1,8 @@
 -- A desk that is rolled forward: by commands, and then by a move of its place.
-use Rattle.std.proofs.Common.{◌≡◌, ◌⊎◌, [], List, None, Result, Ok, Err, inl, inr, arith, refl, ap, subst, sym}
+use Rattle.std.proofs.Common.{◌≡◌, ◌⊎◌, [], List, None, Ok, Err, inl, inr, arith, refl, ap, subst, sym}
 use Rattle.sqlite.specs.Effect.{Database}
-use Rattle.sqlite.specs.State.{State}
+use Rattle.sqlite.specs.State.{State, Survives}
+use Rattle.sqlite.proofs.StateLemmas.{survives_weaker}
 use Rattle.clr_book.specs.Book.{Shelved}
 use Rattle.clr_place.specs.declared.place.Place.{Place}
 use Rattle.clr_rules.specs.Register.{Register}
@@ -11,15 +12,17 @@ use Rattle.clr_tables.specs.TableEdits.{tables_edited}
 use Rattle.clr_load.specs.Stored.{HasTables}
 use Rattle.clr_desk.specs.Given.{LeadsTo}
 use Rattle.clr_desk.specs.Kept.{Keeps}
-use Rattle.clr_desk.specs.Placing.{CommitsAt, Placing}
+use Rattle.clr_desk.specs.Placing.{AreEditedAt, CommitsAt, Placing}
 use Rattle.clr_desk.specs.Taking.{Came, Hearing, Taking}
 use Rattle.clr_desk.specs.declared.desk.Desk.{Desk}
 use Rattle.clr_desk.specs.declared.desk_fault.DeskFault.{DeskFault}
 use Rattle.clr_desk.proofs.Givings.{leads_itself, leads_on}
 use Rattle.clr_desk.proofs.Keeping.{keeps_on}
+use Rattle.clr_level.specs.Crash.{AreFurther}
 use Rattle.clr_level.specs.Forward.{Arrives, HasCome, IsMoved, RollsTo}
 use Rattle.clr_level.specs.declared.fault.OpeningFault.TheVariants.{Desk as Failed}
 use Rattle.clr_level.proofs.Forwarding.{moved_on, stayed, stopped}
+use Rattle.clr_level.proofs.Fronts.{moved_further}
 use Rattle.clr_level.proofs.Places.{comes, shows_still}
 
 -- the tables stay, whether the place is kept or not
@@ -114,3 +117,11 @@ module _ {K : Type 0} (kept : K → State) (has_place : Placing) (old new : Desk
     book = book;
     store = inr (at, came, moved_there came moved);
   }
+
+  -- a crash leaves what was left, or the place
+  pub move_left : (came : Came) → CommitsAt {X = Unit {0}} has_place (kept before) (kept after) [] at came
+      → Survives (kept old.store) (kept new.store) (AreFurther has_place old.book.register (kept old.store) at None [])
+  move_left came moved =
+      survives_weaker (kept old.store) (kept new.store) (AreEditedAt has_place (kept old.store).now [] at)
+      (AreFurther has_place old.book.register (kept old.store) at None [])
+      (λ clean trees edited. moved_further has_place old.book.register (kept old.store) at trees edited) (moved_there came moved).crash

@@ -4,7 +4,7 @@ use Rattle.std.specs.Prelude.{None, Some, IfSome, Result, Ok, Err, ⊤, if◌the
 use Rattle.std.specs.List.{list_any}
 use Rattle.serde_json.specs.Data.{depth}
 use Rattle.serde_json.specs.View.{view}
-use Rattle.sqlite.specs.State.{State}
+use Rattle.sqlite.specs.State.{State, Survives}
 use Rattle.clr_rules.specs.Answer.{Answer, answer}
 use Rattle.clr_rules.specs.Register.{Register}
 use Rattle.clr_rules.specs.declared.command.Command.{Command}
@@ -29,7 +29,7 @@ use Rattle.clr_desk.specs.Placing.{CommitsAt, Placing}
 use Rattle.clr_desk.specs.Taking.{Came, Hearing, Taking}
 use Rattle.clr_desk.specs.declared.desk.Desk.{Desk}
 use Rattle.clr_desk.specs.declared.desk_fault.DeskFault.{DeskFault}
-use Rattle.clr_level.specs.Placing.{ComesTo, IsAt, StaysShown}
+use Rattle.clr_level.specs.Placing.{ArePlacedAt, ComesTo, IsAt, StaysShown}
 use Rattle.clr_level.specs.declared.fault.OpeningFault.{OpeningFault}
 use Rattle.clr_level.specs.declared.fault.OpeningFault.TheVariants.{OtherRegister, OtherRules}
 use Rattle.clr_level.specs.declared.fault.OpeningFault.TheVariants.{TooShort, Differs, BadLine}
@@ -212,6 +212,9 @@ pub record Carries {K : Type 0} (takes : Taking K) (kept : K → State) (has_pla
   pub placed : came ≡ Ok tt → accepts reply ≡ true
       → ComesTo has_place (kept old.keeper) (kept new.keeper) old.place
   pub stays : (fault : DeskFault) → came ≡ Err fault → StaysShown (kept old.keeper) (kept new.keeper)
+  -- a crash leaves what it left before, or the place
+  pub crash : Survives (kept old.keeper) (kept new.keeper)
+      (ArePlacedAt has_place (kept old.keeper).now old.place)
 
 abbrev pub HearsBelow : {K : Type 0} → Hearing K → Placed K → Option (List ℕ) → Placed K → Type 0
 HearsBelow hears old login new = hears old.keeper login new.keeper

@@ -3,3 +3,4 @@ pub mod Journaling
 pub mod Levelling
 pub mod Forward
 pub mod Restarting
+pub mod Crash

@@ -1,7 +1,8 @@
--- A CHANGE KEPT WITH ITS PLACE: what is shown after it.
+-- A CHANGE KEPT WITH ITS PLACE: what is shown after it, and what a crash leaves.
 use Rattle.std.specs.Prelude.{◌≡◌, IsTrue, Some}
 use Rattle.sqlite.specs.Effect.{Database}
 use Rattle.sqlite.specs.State.{HasCleanDisk, State}
+use Rattle.sqlite.specs.Tree.{Trees}
 use Rattle.clr_place.specs.declared.place.Place.{Place}
 use Rattle.clr_tables.specs.Tables.{Tables}
 use Rattle.clr_load.specs.Stored.{HasTables}
@@ -30,3 +31,8 @@ pub record StaysShown (old new : State) : Type 0 where
   pub clean : HasCleanDisk new → HasCleanDisk old
   pub was_open : HasCleanDisk new → IsTrue new.is_open → IsTrue old.is_open
   pub now : HasCleanDisk new → IsTrue new.is_open → new.now ≡ old.now
+
+-- whatever tables there were, the trees have this place
+abbrev pub ArePlacedAt : Placing → Database → Place → Trees → Type 0
+ArePlacedAt has_place before place trees = (t : Tables) → HasTables before t
+    → has_place trees (Some place)

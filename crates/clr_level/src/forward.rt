@@ -1,11 +1,13 @@
 //! A register is rolled forward through the lines after its place.
 ghost use Rattle.std.specs.Prelude.{◌≡◌, ◌∷◌, ℕ, Err, false, IfErr, List, [], map, None, OnOk, Some};
+ghost use Rattle.sqlite.specs.State.{Survives};
 ghost use Rattle.clr_rules.specs.Good.{IsGood};
 ghost use Rattle.clr_rules.specs.Register.{Register};
 ghost use Rattle.clr_place.specs.declared.place.Place.{Place};
 ghost use Rattle.clr_journal.specs.Journals.{withdraws};
 ghost use Rattle.clr_journal.specs.Line.{Entry, entry_of};
 ghost use Rattle.clr_desk.specs.Given.{LeadsTo};
+ghost use Rattle.clr_level.specs.Crash.{AreFurther, AreRolled, KeepsTables};
 ghost use Rattle.clr_level.specs.Forward.{AreAnswered, AreShallow, Arrives, HasCome, IsOfCarrying};
 ghost use Rattle.clr_level.specs.Forward.{IsOfForward, RollsTo, Went, open_after, opened_by};
 ghost use Rattle.clr_level.specs.Placing.{IsAt};
@@ -43,6 +45,8 @@ pub(crate) fn roll_forward<K: CommitAt>(
         → AreShallow (map entry_of lines.items) → IsAt K.has_place (K.kept desk.store) place
         → Arrives K.kept K.has_place desk.book.register place (map entry_of lines.items)
         result.0 result.1 result.2 [] }
+    ensures left { Survives (K.kept desk.store) (K.kept result.1.store) (AreRolled K.has_place
+        (K.kept desk.store) desk.book.register place (map entry_of lines.items)) }
     ensures led { RollsTo K.kept K.takes K.hears K.has_place desk result.1 }
     ensures unchanged { (n : ℕ) → result.0 ≡ Err (OpeningFault.Differs n) → result.1 ≡ desk }
     ensures fault { IfErr result.0 (IsOfForward K.fails (map entry_of lines.items)) }
@@ -69,6 +73,9 @@ fn carry_all<K: CommitAt>(
         → AreShallow (map entry_of lines.items) → IsAt K.has_place (K.kept desk.store) place
         → Arrives K.kept K.has_place desk.book.register place (map entry_of lines.items)
         result.0 result.1 result.2 [] }
+    ensures left { Survives (K.kept desk.store) (K.kept result.1.store) (λ trees. AreAnswered
+        desk.book.register (map entry_of lines.items) → AreRolled K.has_place
+        (K.kept desk.store) desk.book.register place (map entry_of lines.items) trees) }
     ensures led { RollsTo K.kept K.takes K.hears K.has_place desk result.1 }
     ensures fault { IfErr result.0 (IsOfCarrying K.fails (map entry_of lines.items)) }
 {
@@ -98,6 +105,10 @@ impl<K: CommitAt> Forward<K> {
             self.at self.pending (entry_of line ∷ rest)
             → Went K.kept K.has_place R place lines result.0 result.1.desk result.1.at
             result.1.pending rest }
+        ensures tables { OnOk result.0 (KeepsTables K.kept self.desk result.1.desk) }
+        ensures left { (rest : List Entry) → Survives (K.kept self.desk.store)
+            (K.kept result.1.desk.store) (AreFurther K.has_place self.desk.book.register
+            (K.kept self.desk.store) self.at self.pending (entry_of line ∷ rest)) }
         ensures led { LeadsTo K.kept K.takes K.hears self.desk result.1.desk }
         ensures fault { IfErr result.0 (IsOfCarrying K.fails (entry_of line ∷ [])) }
     {
@@ -117,6 +128,10 @@ impl<K: CommitAt> Forward<K> {
             → Went K.kept K.has_place R place lines result.0 result.1.desk result.1.at
             result.1.pending (entry_of line.now ∷ rest) }
         ensures closed { OnOk result.0 (result.1.pending ≡ open_after line.now self.pending) }
+        ensures tables { OnOk result.0 (KeepsTables K.kept self.desk result.1.desk) }
+        ensures left { (rest : List Entry) → Survives (K.kept self.desk.store)
+            (K.kept result.1.desk.store) (AreFurther K.has_place self.desk.book.register
+            (K.kept self.desk.store) self.at self.pending (entry_of line.now ∷ rest)) }
         ensures led { LeadsTo K.kept K.takes K.hears self.desk result.1.desk }
         ensures fault { IfErr result.0 (IsOfCarrying K.fails []) }
     {
@@ -159,6 +174,11 @@ impl<K: CommitAt> Forward<K> {
             self.at self.pending rest
             → Went K.kept K.has_place R place lines result.0 result.1.desk result.1.at None rest }
         ensures closed { OnOk result.0 (result.1.pending ≡ None) }
+        ensures tables { OnOk result.0 (KeepsTables K.kept self.desk result.1.desk) }
+        ensures left { (rest : List Entry) → withdraws rest ≡ false
+            → Survives (K.kept self.desk.store) (K.kept result.1.desk.store)
+            (AreFurther K.has_place self.desk.book.register (K.kept self.desk.store) self.at
+            self.pending rest) }
         ensures led { LeadsTo K.kept K.takes K.hears self.desk result.1.desk }
         ensures fault { IfErr result.0 (IsOfCarrying K.fails []) }
     {
@@ -183,6 +203,9 @@ impl<K: CommitAt> Forward<K> {
             → HasCome K.has_place R place lines self.desk.book.register (K.kept self.desk.store)
             self.at self.pending []
             → Arrives K.kept K.has_place R place lines result.0 result.1 result.2 [] }
+        ensures left { Survives (K.kept self.desk.store) (K.kept result.1.store)
+            (AreFurther K.has_place self.desk.book.register (K.kept self.desk.store) self.at
+            self.pending []) }
         ensures led { RollsTo K.kept K.takes K.hears K.has_place self.desk result.1 }
         ensures fault { IfErr result.0 (IsOfCarrying K.fails []) }
     {
@@ -206,6 +229,8 @@ fn move_to<K: CommitAt>(
     ensures went { (R : Register) (place : Place) (lines : List Entry)
         → HasCome K.has_place R place lines desk.book.register (K.kept desk.store) at None []
         → Arrives K.kept K.has_place R place lines result.0 result.1 result.2 [] }
+    ensures left { Survives (K.kept desk.store) (K.kept result.1.store)
+        (AreFurther K.has_place desk.book.register (K.kept desk.store) at None []) }
     ensures led { RollsTo K.kept K.takes K.hears K.has_place desk result.1 }
     ensures fault { IfErr result.0 (IsOfCarrying K.fails []) }
 {
@@ -231,6 +256,10 @@ fn carry_out<K: CommitAt>(
         → HasCome K.has_place R place lines desk.book.register (K.kept desk.store) at (Some one) rest
         → Arrives K.kept K.has_place R place lines result.0 result.1.desk result.1.at rest }
     ensures closed { OnOk result.0 (result.1.pending ≡ None) }
+    ensures tables { OnOk result.0 (KeepsTables K.kept desk result.1.desk) }
+    ensures left { (rest : List Entry) → withdraws rest ≡ false
+        → Survives (K.kept desk.store) (K.kept result.1.desk.store)
+        (AreFurther K.has_place desk.book.register (K.kept desk.store) at (Some one) rest) }
     ensures led { LeadsTo K.kept K.takes K.hears desk result.1.desk }
     ensures fault { IfErr result.0 (IsOfCarrying K.fails []) }
 {

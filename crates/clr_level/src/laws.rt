@@ -1,4 +1,5 @@
 //! Laws of keepers with a journal: the contract of each function is the law, and its body is empty.
+ghost use Rattle.clr_level.specs.Crash.{FrontsCanBeOpened};
 ghost use Rattle.clr_level.specs.Levelling.{BegunIsLevel, EitherIsLevel, LevelIsKept};
 ghost use Rattle.clr_level.specs.Levelling.{SettledIsWhatItSays, SoundIsKept};
 ghost use Rattle.clr_level.specs.Restarting.{DueIsSafe, RestartsKeepLevel, SafeIsKept};
@@ -37,4 +38,11 @@ pub fn restarts_keep_level<K: CommitAt, J: Journal + Drop, C: Clock>()
         J.is_usable }
     ensures due { DueIsSafe K J C K.kept K.has_place J.text J.may_leave }
     ensures opened { RestartsKeepLevel }
+{}
+
+/// What a crash leaves while an opening rolls a register forward, as `with_journal` says it, can be
+/// opened again with the same journal. That opening goes on from there, and comes to the register
+/// that the first would have come to.
+pub fn fronts_can_be_opened<K: CommitAt>(was: &K, found: &K)
+    ensures { FrontsCanBeOpened K.has_place (K.kept was.now) (K.kept found.now) }
 {}

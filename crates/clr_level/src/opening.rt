@@ -1,11 +1,13 @@
 //! A register and its journal are opened together.
 ghost use Rattle.std.specs.Prelude.{◌≡◌, ℕ, false, IfErr, IfOk, map, None};
+ghost use Rattle.sqlite.specs.State.{Survives};
 ghost use Rattle.clr_rules.specs.Good.{IsGood};
 ghost use Rattle.clr_rules.specs.Register.{Register};
 ghost use Rattle.clr_place.specs.declared.place.Place.{Place};
 ghost use Rattle.clr_journal.specs.Journals.{carried_out, withdraws};
 ghost use Rattle.clr_journal.specs.Line.{entry_of};
 ghost use Rattle.clr_chain.specs.Level.{IsRunOf};
+ghost use Rattle.clr_level.specs.Crash.{AreRolled};
 ghost use Rattle.clr_level.specs.Forward.{AreShallow, CanBeOpened, IsAheadOf, IsOfForward, IsOver};
 ghost use Rattle.clr_level.specs.Forward.{RollsTo, StopsAt};
 ghost use Rattle.clr_level.specs.Journaling.{HasText, IsSound};
@@ -69,6 +71,9 @@ pub fn with_journal<K: CommitAt, J: Journal + Drop, C: Clock>(
         → withdraws (map entry_of lines.items) ≡ false → AreShallow (map entry_of lines.items)
         → IsAt K.has_place (K.kept desk.store) place
         → IsAt K.has_place (K.kept opened.store.keeper) opened.store.at) }
+    ensures left { IfOk result (λ opened. Survives (K.kept desk.store)
+        (K.kept opened.store.keeper) (AreRolled K.has_place (K.kept desk.store)
+        desk.book.register place (map entry_of lines.items))) }
     ensures journal { IfOk result (λ opened. opened.store.journal ≡ journal) }
     ensures clock { IfOk result (λ opened. opened.store.clock ≡ clock) }
     ensures login { IfOk result (λ opened. opened.store.login ≡ None) }
@@ -80,6 +85,9 @@ pub fn with_journal<K: CommitAt, J: Journal + Drop, C: Clock>(
         → IsAt K.has_place (K.kept desk.store) place
         → StopsAt K.has_place desk.book.register place (map entry_of lines.items) back.0
         back.1.book.register (K.kept back.1.store)) }
+    ensures left_too { IfErr result (λ back. Survives (K.kept desk.store)
+        (K.kept back.1.store) (AreRolled K.has_place (K.kept desk.store)
+        desk.book.register place (map entry_of lines.items))) }
     ensures unchanged { IfErr result (λ back. (n : ℕ)
         → back.0 ≡ OpeningFault.Differs n → back.1 ≡ desk) }
     ensures fault { IfErr result (λ back.

@@ -1,11 +1,13 @@
 //! A command is carried out, and its change kept with a place.
 ghost use Rattle.std.specs.Prelude.{◌≡◌, true, IfErr, IfOk, OnErr, OnOk};
+ghost use Rattle.sqlite.specs.State.{Survives};
 ghost use Rattle.clr_answer.specs.Decision.{is_accepted};
 ghost use Rattle.clr_rules.specs.Answer.{Answer, answer};
 ghost use Rattle.clr_rules.specs.Good.{IsGood};
 ghost use Rattle.clr_rules.specs.Run.{after};
 ghost use Rattle.clr_desk.specs.Faults.{IsOfKeeper};
 ghost use Rattle.clr_desk.specs.Given.{LeadsTo};
+ghost use Rattle.clr_level.specs.Crash.{AreAfterAt, KeepsTables};
 ghost use Rattle.clr_level.specs.Forward.{Carries, HearsBelow};
 ghost use Rattle.clr_level.specs.Placing.{ComesTo, StaysShown};
 
@@ -71,6 +73,9 @@ pub(crate) fn carry_at<K: CommitAt>(
     ensures placed { IfOk result.0 (λ reply. is_accepted reply ≡ true
         → ComesTo K.has_place (K.kept desk.store) (K.kept result.1.store) place) }
     ensures stays { OnErr result.0 (StaysShown (K.kept desk.store) (K.kept result.1.store)) }
+    ensures tables { OnOk result.0 (KeepsTables K.kept desk result.1) }
+    ensures left { Survives (K.kept desk.store) (K.kept result.1.store)
+        (AreAfterAt K.has_place (K.kept desk.store).now desk.book.register command place) }
     ensures led { LeadsTo K.kept K.takes K.hears desk result.1 }
     ensures place { result.2 ≡ place }
     ensures fault { IfErr result.0 (IsOfKeeper K.fails) }

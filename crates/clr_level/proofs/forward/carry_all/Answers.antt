@@ -1,7 +1,9 @@
 use Rattle.std.proofs.Common.{[], ◌++◌, ◌∷◌, map, reverse, rules}
 use Rattle.clr_desk.proofs.Givings.{leads_on}
 use Rattle.clr_journal.specs.Line.{entry_of}
-use Rattle.clr_level.proofs.Forwarding.{at_its_end, at_last, at_line, goes_on, in_lines, none_yet, of_more, one_before, one_of_all, stops_on}
+use Rattle.clr_level.proofs.Forwarding.{at_its_end, at_last, at_line, goes_on, in_lines, none_yet, of_more, on_ok, one_before, one_of_all, stops_on}
+use Rattle.clr_level.specs.Crash.{KeepsTables}
+use Rattle.clr_level.proofs.Fronts.{keeps_tables, left_on}
 use Rattle.clr_level.proofs.Rolling.{rolls_by, rolls_on}
 use Rattle.clr_level.proofs.forward.carry_all.Goals as goal
 
@@ -19,6 +21,16 @@ returns-in-Err-clause-went g c = λ good answered begins shallow at.
     (c.line-came.ensures.went c.args.desk.book.register c.args.place (map entry_of c.args.lines.items) rest good answered
     (at_line g.K.Commit.kept g.K.Commit.takes g.K.Commit.hears g.K.CommitAt.has_place c.args.desk c.args.place c.args.lines.items l.forward.desk l.forward.at
     l.forward.pending l.left.items c.pop.new.self.items c.in-Some.line (search rules) l.invariant good answered begins shallow at))
+
+pub returns-in-Err-clause-left : goal.returns-in-Err-clause-left
+returns-in-Err-clause-left g c =
+    let l = c.loop-line in
+    let rest = map entry_of (reverse c.pop.new.self.items) in
+    left_on g.K.Commit.kept g.K.CommitAt.has_place c.args.desk c.args.place (map entry_of c.args.lines.items) l.forward.desk c.line-came.result.1.desk
+    l.forward.at l.forward.pending (entry_of c.in-Some.line ∷ rest) l.invariant.crash l.invariant.tables
+    (at_line g.K.Commit.kept g.K.Commit.takes g.K.Commit.hears g.K.CommitAt.has_place c.args.desk c.args.place c.args.lines.items l.forward.desk
+    l.forward.at l.forward.pending l.left.items c.pop.new.self.items c.in-Some.line (search rules) l.invariant)
+    (c.line-came.ensures.left rest)
 
 pub returns-in-Err-clause-led : goal.returns-in-Err-clause-led
 returns-in-Err-clause-led g c =
@@ -38,6 +50,16 @@ loop-line-preserved g c =
           (c.line-came.ensures.went c.args.desk.book.register c.args.place (map entry_of c.args.lines.items) rest good answered
           (at_line g.K.Commit.kept g.K.Commit.takes g.K.Commit.hears g.K.CommitAt.has_place c.args.desk c.args.place c.args.lines.items l.forward.desk
           l.forward.at l.forward.pending l.left.items c.pop.new.self.items c.in-Some.line (search rules) l.invariant good answered begins shallow at));
+      tables =
+          keeps_tables g.K.Commit.kept c.args.desk l.forward.desk next.desk l.invariant.tables
+          (on_ok c.line-came.result.0 c.in_default-came.field-0 (KeepsTables g.K.Commit.kept l.forward.desk next.desk) c.in_default-came.is c.line-came.ensures.tables)
+          l.invariant.led.keeps.good c.line-came.ensures.led.keeps.clean;
+      crash =
+          left_on g.K.Commit.kept g.K.CommitAt.has_place c.args.desk c.args.place (map entry_of c.args.lines.items) l.forward.desk next.desk l.forward.at
+          l.forward.pending (entry_of c.in-Some.line ∷ rest) l.invariant.crash l.invariant.tables
+          (at_line g.K.Commit.kept g.K.Commit.takes g.K.Commit.hears g.K.CommitAt.has_place c.args.desk c.args.place c.args.lines.items l.forward.desk
+          l.forward.at l.forward.pending l.left.items c.pop.new.self.items c.in-Some.line (search rules) l.invariant)
+          (c.line-came.ensures.left rest);
       led = leads_on g.K.Commit.kept g.K.Commit.takes g.K.Commit.hears c.args.desk l.forward.desk next.desk l.invariant.led c.line-came.ensures.led;
       before = l.invariant.before ++ c.in-Some.line ∷ [];
       all =
@@ -51,6 +73,15 @@ returns-clause-went g c = λ good answered begins shallow at.
     c.arrive.ensures.went c.args.desk.book.register c.args.place (map entry_of c.args.lines.items) good answered
     (at_last g.K.Commit.kept g.K.Commit.takes g.K.Commit.hears g.K.CommitAt.has_place c.args.desk c.args.place c.args.lines.items l.forward.desk l.forward.at
     l.forward.pending l.left.items (search rules) l.invariant good answered begins shallow at)
+
+pub returns-clause-left : goal.returns-clause-left
+returns-clause-left g c =
+    let l = c.loop-line in
+    left_on g.K.Commit.kept g.K.CommitAt.has_place c.args.desk c.args.place (map entry_of c.args.lines.items) l.forward.desk c.arrive.result.1
+    l.forward.at l.forward.pending [] l.invariant.crash l.invariant.tables
+    (at_last g.K.Commit.kept g.K.Commit.takes g.K.Commit.hears g.K.CommitAt.has_place c.args.desk c.args.place c.args.lines.items l.forward.desk l.forward.at
+    l.forward.pending l.left.items (search rules) l.invariant)
+    c.arrive.ensures.left
 
 pub returns-clause-led : goal.returns-clause-led
 returns-clause-led g c =

@@ -1,12 +1,15 @@
 use Rattle.std.proofs.Common.{◌≡◌, None, Some, subst, sym, true}
+use Rattle.sqlite.proofs.StateLemmas.{survives_weaker}
 use Rattle.clr_answer.specs.Decision.{is_accepted}
 use Rattle.clr_rules.specs.Answer.{Answer, answer}
 use Rattle.clr_rules.specs.Run.{after}
 use Rattle.clr_place.specs.declared.place.Place.{Place}
+use Rattle.clr_level.specs.Crash.{AreAfterAt, AreFurther, KeepsTables}
 use Rattle.clr_level.specs.Forward.{HasCome}
 use Rattle.clr_level.specs.Placing.{ComesTo, IsAt, StaysShown}
 use Rattle.clr_desk.specs.Faults.{IsOfKeeper}
 use Rattle.clr_level.proofs.Forwarding.{answered_on, if_err, if_ok, on_err, on_ok, stayed, stopped}
+use Rattle.clr_level.proofs.Fronts.{carried_further}
 use Rattle.clr_level.proofs.forward.carry_out.Goals as goal
 
 pub returns-in-Ok-clause-went : goal.returns-in-Ok-clause-went
@@ -26,6 +29,20 @@ returns-in-Ok-clause-went g c = λ R place lines rest good answered kept come.
     (if_ok c.carry_at-came.result.0 c.in-Ok.field-0 (λ reply. is_accepted reply ≡ true → ComesTo g.K.CommitAt.has_place s t c.args.at) c.in-Ok.is
     c.carry_at-came.ensures.placed))
 
+-- a crash leaves what was left, or the command and its place
+pub returns-in-Ok-clause-left : goal.returns-in-Ok-clause-left
+returns-in-Ok-clause-left g c = λ rest kept.
+    let old = c.args.desk in
+    let s = g.K.Commit.kept old.store in
+    survives_weaker s (g.K.Commit.kept c.carry_at-came.result.1.store)
+    (AreAfterAt g.K.CommitAt.has_place s.now old.book.register c.args.one.command c.args.at)
+    (AreFurther g.K.CommitAt.has_place old.book.register s c.args.at (Some c.args.one) rest)
+    (λ clean trees left. carried_further g.K.CommitAt.has_place old.book.register s c.args.at c.args.one rest trees kept left) c.carry_at-came.ensures.left
+
+pub returns-in-Ok-clause-tables : goal.returns-in-Ok-clause-tables
+returns-in-Ok-clause-tables g c =
+    on_ok c.carry_at-came.result.0 c.in-Ok.field-0 (KeepsTables g.K.Commit.kept c.args.desk c.carry_at-came.result.1) c.in-Ok.is c.carry_at-came.ensures.tables
+
 pub returns-clause-went : goal.returns-clause-went
 returns-clause-went g c = λ R place lines rest good answered kept come.
     let old = c.args.desk in
@@ -36,6 +53,15 @@ returns-clause-went g c = λ R place lines rest good answered kept come.
     (stayed g.K.CommitAt.has_place R place lines old.book.register new.book.register s t c.args.at (Some c.args.one) rest come
     (on_err c.carry_at-came.result.0 c.in-Err.fault (new.book.register ≡ old.book.register) c.in-Err.is c.carry_at-came.ensures.unchanged)
     (on_err c.carry_at-came.result.0 c.in-Err.fault (StaysShown s t) c.in-Err.is c.carry_at-came.ensures.stays))
+
+pub returns-clause-left : goal.returns-clause-left
+returns-clause-left g c = λ rest kept.
+    let old = c.args.desk in
+    let s = g.K.Commit.kept old.store in
+    survives_weaker s (g.K.Commit.kept c.carry_at-came.result.1.store)
+    (AreAfterAt g.K.CommitAt.has_place s.now old.book.register c.args.one.command c.args.at)
+    (AreFurther g.K.CommitAt.has_place old.book.register s c.args.at (Some c.args.one) rest)
+    (λ clean trees left. carried_further g.K.CommitAt.has_place old.book.register s c.args.at c.args.one rest trees kept left) c.carry_at-came.ensures.left
 
 pub returns-clause-fault : goal.returns-clause-fault
 returns-clause-fault g c = if_err c.carry_at-came.result.0 c.in-Err.fault (IsOfKeeper g.K.Commit.fails) c.in-Err.is c.carry_at-came.ensures.fault

@@ -1,13 +1,16 @@
 use Rattle.std.proofs.Common.{◌≡◌, ◌==◌, [], ◌∷◌, length, true, None, Option, Some, List, Result, arith, inl, inr, map, refl, rules, subst, ℕ}
 use Rattle.std.proofs.lemmas.Bool.{eqb-true}
 use Rattle.std.specs.Prelude.{IfErr}
+use Rattle.sqlite.proofs.StateLemmas.{survives_weaker}
 use Rattle.clr_book.specs.Book.{Shelved}
 use Rattle.clr_rules.specs.Good.{IsGood}
 use Rattle.clr_journal.specs.Line.{entry_of}
 use Rattle.clr_journal.specs.declared.line.Line.{Line}
+use Rattle.clr_level.specs.Crash.{AreRolled}
 use Rattle.clr_level.specs.Forward.{AreShallow, IsOfCarrying, IsTried}
 use Rattle.clr_level.specs.declared.fault.OpeningFault.{OpeningFault}
-use Rattle.clr_level.proofs.Forwarding.{begun, begun_there, of_forward, stopped}
+use Rattle.clr_level.proofs.Crashes.{left_itself}
+use Rattle.clr_level.proofs.Forwarding.{Left, begun, begun_there, of_forward, stopped}
 use Rattle.clr_level.proofs.Rolling.{rolls_itself}
 use Rattle.clr_level.proofs.forward.roll_forward.Goals as goal
 
@@ -31,6 +34,11 @@ returns-then-is_empty-clause-went g c = λ good begins shallow at.
     begun_there g.K.CommitAt.has_place c.args.desk.book.register c.args.place (map entry_of c.args.lines.items) (g.K.Commit.kept c.args.desk.store) none begins
     shallow at
 
+pub returns-then-is_empty-clause-left : goal.returns-then-is_empty-clause-left
+returns-then-is_empty-clause-left g c =
+    let s = g.K.Commit.kept c.args.desk.store in
+    left_itself s (AreRolled g.K.CommitAt.has_place s c.args.desk.book.register c.args.place (map entry_of c.args.lines.items))
+
 pub returns-then-is_empty-clause-led : goal.returns-then-is_empty-clause-led
 returns-then-is_empty-clause-led g c = rolls_itself g.K.Commit.kept g.K.Commit.takes g.K.Commit.hears g.K.CommitAt.has_place c.args.desk
 
@@ -41,6 +49,18 @@ returns-in-Ok-None-clause-went g c = λ good begins shallow at.
     tried_there c.args.lines.items c.as_slice-2.result.now c.args.desk.book c.book.result.now c.in-Ok-None.field-0 None c.as_slice-2.ensures.value c.book.ensures
     (search rules) c.in-Ok-None.ensures in
     c.carry_all.ensures.went good (tried good shallow) begins shallow at
+
+pub returns-in-Ok-None-clause-left : goal.returns-in-Ok-None-clause-left
+returns-in-Ok-None-clause-left g c =
+    let R = c.args.desk.book.register in
+    let s = g.K.Commit.kept c.args.desk.store in
+    let lines = map entry_of c.args.lines.items in
+    let tried =
+    tried_there c.args.lines.items c.as_slice-2.result.now c.args.desk.book c.book.result.now c.in-Ok-None.field-0 None c.as_slice-2.ensures.value c.book.ensures
+    (search rules) c.in-Ok-None.ensures in
+    survives_weaker s (g.K.Commit.kept c.carry_all.result.1.store) (Left g.K.Commit.kept g.K.CommitAt.has_place c.args.desk c.args.place lines)
+    (AreRolled g.K.CommitAt.has_place s R c.args.place lines)
+    (λ clean trees left good has begins shallow at. left (tried good shallow) good has begins shallow at) c.carry_all.ensures.left
 
 pub returns-in-Ok-None-clause-unchanged : goal.returns-in-Ok-None-clause-unchanged
 returns-in-Ok-None-clause-unchanged g c = λ n is.
@@ -57,6 +77,11 @@ returns-in-Ok-Some-clause-went g c = λ good begins shallow at.
     c.book.ensures (search rules) c.in-Ok-Some.ensures in
     (refl, tried good shallow)
 
+pub returns-in-Ok-Some-clause-left : goal.returns-in-Ok-Some-clause-left
+returns-in-Ok-Some-clause-left g c =
+    let s = g.K.Commit.kept c.args.desk.store in
+    left_itself s (AreRolled g.K.CommitAt.has_place s c.args.desk.book.register c.args.place (map entry_of c.args.lines.items))
+
 pub returns-in-Ok-Some-clause-led : goal.returns-in-Ok-Some-clause-led
 returns-in-Ok-Some-clause-led g c = rolls_itself g.K.Commit.kept g.K.Commit.takes g.K.Commit.hears g.K.CommitAt.has_place c.args.desk
 
@@ -70,6 +95,11 @@ returns-in-Err-clause-went g c = λ good begins shallow at.
     let s = g.K.Commit.kept c.args.desk.store in
     let lines = map entry_of c.args.lines.items in
     stopped g.K.CommitAt.has_place R c.args.place lines R s c.args.place None lines (begun g.K.CommitAt.has_place R c.args.place lines s begins shallow at)
+
+pub returns-in-Err-clause-left : goal.returns-in-Err-clause-left
+returns-in-Err-clause-left g c =
+    let s = g.K.Commit.kept c.args.desk.store in
+    left_itself s (AreRolled g.K.CommitAt.has_place s c.args.desk.book.register c.args.place (map entry_of c.args.lines.items))
 
 pub returns-in-Err-clause-led : goal.returns-in-Err-clause-led
 returns-in-Err-clause-led g c = rolls_itself g.K.Commit.kept g.K.Commit.takes g.K.Commit.hears g.K.CommitAt.has_place c.args.desk

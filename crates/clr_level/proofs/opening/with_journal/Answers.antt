@@ -1,7 +1,9 @@
-use Rattle.std.proofs.Common.{[], Err, ◌∙◌, ap, map, sym}
+use Rattle.std.proofs.Common.{[], Err, ◌∙◌, ap, map, subst, sym}
+use Rattle.sqlite.specs.State.{Survives}
 use Rattle.clr_book.specs.Book.{Shelved}
 use Rattle.clr_journal.specs.Journals.{carried_out, withdraws}
 use Rattle.clr_journal.specs.Line.{entry_of}
+use Rattle.clr_level.specs.Crash.{AreRolled}
 use Rattle.clr_level.specs.Forward.{CanBeOpened, IsOfForward}
 use Rattle.clr_level.specs.declared.keeper.Keeper.{Keeper}
 use Rattle.clr_level.proofs.Forwarding.{arrives_on, if_err, still_good, stops_there}
@@ -54,6 +56,16 @@ returns-in-Ok-clause-placed g c = λ good begins shallow placed.
     (ap (λ (k : Keeper g.row.K.Denot g.row.J.Denot g.row.C.Denot). k.keeper) store ∙ c.new-keeper.ensures.keeper ∙ c.parted-book.ensures.kept)
     (ap (λ (k : Keeper g.row.K.Denot g.row.J.Denot g.row.C.Denot). k.at) store ∙ c.new-keeper.ensures.at) here
 
+pub returns-in-Ok-clause-left : goal.returns-in-Ok-clause-left
+returns-in-Ok-clause-left g c =
+    let kept = g.K.Commit.kept in
+    let s = kept c.args.desk.store in
+    subst
+    (λ (k : g.row.K.Denot). Survives s (kept k)
+    (AreRolled g.K.CommitAt.has_place s c.args.desk.book.register c.args.place (map entry_of c.args.lines.items)))
+    (sym (ap (λ (k : Keeper g.row.K.Denot g.row.J.Denot g.row.C.Denot). k.keeper) c.of.ensures.store ∙ c.new-keeper.ensures.keeper ∙ c.parted-book.ensures.kept))
+    c.roll_forward-came.ensures.left
+
 pub returns-in-Ok-clause-led : goal.returns-in-Ok-clause-led
 returns-in-Ok-clause-led g c =
     let store = c.of.ensures.store in
@@ -69,6 +81,9 @@ returns-in-Err-clause-stops g c = λ good begins shallow at.
     stops_there g.K.Commit.kept g.K.CommitAt.has_place c.args.desk.book.register c.args.place (map entry_of c.args.lines.items) c.roll_forward-came.result.0
     c.in-Err.fault c.roll_forward-came.result.1 c.roll_forward-came.result.2 [] c.in-Err.is
     (c.roll_forward-came.ensures.went good begins shallow at)
+
+pub returns-in-Err-clause-left_too : goal.returns-in-Err-clause-left_too
+returns-in-Err-clause-left_too g c = c.roll_forward-came.ensures.left
 
 pub returns-in-Err-clause-unchanged : goal.returns-in-Err-clause-unchanged
 returns-in-Err-clause-unchanged g c = λ n is. c.roll_forward-came.ensures.unchanged n (c.in-Err.is ∙ ap Err is)

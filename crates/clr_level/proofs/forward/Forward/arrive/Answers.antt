@@ -1,5 +1,7 @@
-use Rattle.std.proofs.Common.{[], Option, refl, subst}
+use Rattle.std.proofs.Common.{[], Option, refl, subst, sym}
+use Rattle.sqlite.specs.State.{Survives}
 use Rattle.clr_journal.specs.declared.line.Carried.{Carried}
+use Rattle.clr_level.specs.Crash.{AreFurther}
 use Rattle.clr_level.specs.Forward.{HasCome}
 use Rattle.clr_level.proofs.Rolling.{rolls_by}
 use Rattle.clr_level.proofs.forward.Forward.arrive.Goals as goal
@@ -22,3 +24,21 @@ pub returns-in-Some-clause-led : goal.returns-in-Some-clause-led
 returns-in-Some-clause-led g c =
     rolls_by g.K.Commit.kept g.K.Commit.takes g.K.Commit.hears g.K.CommitAt.has_place c.args.self.desk c.carry_out-came.result.1.desk
     c.carry_out-came.ensures.led
+
+pub returns-in-None-clause-left : goal.returns-in-None-clause-left
+returns-in-None-clause-left g c =
+    let self = c.args.self in
+    let s = g.K.Commit.kept self.desk.store in
+    subst
+    (λ (one : Option Carried). Survives s (g.K.Commit.kept c.move_to.result.1.store)
+    (AreFurther g.K.CommitAt.has_place self.desk.book.register s self.at one []))
+    (sym c.in-None.is) c.move_to.ensures.left
+
+pub returns-in-Some-clause-left : goal.returns-in-Some-clause-left
+returns-in-Some-clause-left g c =
+    let self = c.args.self in
+    let s = g.K.Commit.kept self.desk.store in
+    subst
+    (λ (one : Option Carried). Survives s (g.K.Commit.kept c.carry_out-came.result.1.desk.store)
+    (AreFurther g.K.CommitAt.has_place self.desk.book.register s self.at one []))
+    (sym c.in-Some.is) (c.carry_out-came.ensures.left [] refl)

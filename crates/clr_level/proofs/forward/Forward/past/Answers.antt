@@ -1,4 +1,4 @@
-use Rattle.std.proofs.Common.{◌≡◌, ◌∙◌, Bool, ap, false, rules, true}
+use Rattle.std.proofs.Common.{◌≡◌, ◌∙◌, Bool, ap, rules, true}
 use Rattle.clr_journal.specs.Line.{entry_of}
 use Rattle.clr_chain.specs.Level.{stepped}
 use Rattle.clr_chain.specs.Link.{has_fraction}
