@@ -4,6 +4,8 @@ use Rattle.std.proofs.Math.Seq.{take-length}
 use Rattle.std.specs.Prelude.{None, Some, IsTrue}
 use Rattle.sqlite.specs.Held.{Held, state}
 use Rattle.sqlite.specs.State.{HasCleanDisk, State, Survives}
+use Rattle.sqlite.specs.Tree.{Trees}
+use Rattle.sqlite.proofs.StateLemmas.{survives_then}
 use Rattle.sqlite_trees.specs.declared.store.Store.{Ghosts}
 use Rattle.clr_append.specs.Journal.{BeginsWith}
 use Rattle.clr_chain.specs.declared.finding.Ahead.{Ahead}
@@ -16,6 +18,7 @@ use Rattle.clr_load.specs.Stored.{ArePlaced, HasTables}
 use Rattle.clr_load.specs.declared.fault.StoreFault.{StoreFault}
 use Rattle.clr_load.specs.declared.fault.StoreFault.TheVariants as store
 use Rattle.clr_desk.specs.Kept.{Keeps}
+use Rattle.clr_level.specs.Crash.{AreRolled}
 use Rattle.clr_level.specs.Journaling.{HasText}
 use Rattle.clr_level.specs.declared.keeper.Keeper.{Keeper}
 use Rattle.clr_level.specs.declared.last.Last.TheVariants.{Settled}
@@ -24,7 +27,7 @@ use Rattle.clr_edge.specs.Database.{IsOnlyRead}
 use Rattle.clr_edge.specs.Journals.{IsOfOpening}
 use Rattle.clr_keeping.specs.Keeping.{IsNotReadAlone, IsReadFrom}
 use Rattle.clr_keeping.specs.TakenUp.{HasPlace, IsGiven, IsKept, IsNotGiven, IsNotTakenUp, IsTakenUp, IsUnplaced, IsUnsuited, LacksPlace, Logs, MissesOne, StaysRead}
-use Rattle.clr_keeping.specs.TakenUp.{OpensLevel, OpensSound, RollsForward, StopsForward, entries_of}
+use Rattle.clr_keeping.specs.TakenUp.{LeavesFronts, OpensLevel, OpensSound, RollsForward, StopsForward, entries_of, store_place}
 use Rattle.clr_keeping.specs.TakenUp.IsNotGiven.{apart as was_apart, unopened as was_unopened, unplaced as was_unplaced, without as was_without}
 use Rattle.clr_keeping.specs.TakenUp.IsNotTakenUp.{apart, unopened, unplaced, without}
 use Rattle.clr_edge.specs.declared.fault.Fault.{Fault}
@@ -43,6 +46,10 @@ cause_on s t u tables (store.WrongVersion n) first later clean same has of = tt
 cause_on s t u tables (store.BadRow table) first later clean same has of = tt
 cause_on s t u tables store.NoMemory first later clean same has of = tt
 cause_on s t u tables store.OtherTables first later clean same has of = tt
+
+-- what a crash leaves, over one more reading
+left_on : (s t u : State) (Left : Trees → Type 0) → Survives s t (λ _. ⊥) → Survives t u Left → Survives s u Left
+left_on s t u Left read left = survives_then s t u (λ _. ⊥) Left Left (λ clean trees none. absurd none) (λ clean trees is. is) read left
 
 module _ {T : Type 0} (g : Ghosts T) (before desk after : Held T) (read : IsOnlyRead g before desk) (stays : StaysRead (state g desk) (state g after)) where
   -- a database that was only read, over one more reading
@@ -138,6 +145,8 @@ module _ {T : Type 0} (g : Ghosts T) (before desk : Held T) (R : Register) (is :
       rolled = given.rolled is.fit.0;
       level = given.level;
       sound = given.sound;
+      left = left_on (state g before) (state g desk) (state g it.keeper)
+          (AreRolled store_place (state g given.read) R given.place (entries_of given.ahead)) is.read.survives given.left;
     }
 
     pub not_up : (fault : Fault) (after : Held T) → IsNotGiven g logs path old new desk R fault after → IsNotTakenUp g logs path before fault after old new
@@ -161,6 +170,8 @@ module _ {T : Type 0} (g : Ghosts T) (before desk : Held T) (R : Register) (is :
           of = stopped.of;
           stops = stopped.stops;
           unchanged = stopped.unchanged;
+          left = left_on (state g before) (state g read) (state g after) (AreRolled store_place (state g read) R place (entries_of ahead))
+              (survives_on (state g before) (state g desk) (state g read) is.read.survives stays.survives) stopped.left;
         })
 
 -- ---- a desk over a register that was read
@@ -173,8 +184,9 @@ module _ {M J C T : Type 0} (g : Ghosts T) (logs : Logs M J C) (path : List ℕ)
       → Keeps (state g read) X (state g it.keeper) S → (IsGood X → RollsForward g read X place (entries_of ahead) it S)
       → OpensLevel g logs.log.text read X place (entries_of ahead) it S
       → (HasText logs.log.text logs.log.found it.journal → OpensSound logs it)
+      → LeavesFronts g read read X place (entries_of ahead) it.keeper
       → IsGiven g logs path old new desk R it S
-  given_by clock it S opens timed whole journal_is clock_is unheard settled kept rolled level sound =
+  given_by clock it S opens timed whole journal_is clock_is unheard settled kept rolled level sound left =
       let text : HasText logs.log.text logs.log.found opened =
       subst (λ bytes. BeginsWith (logs.log.text opened) bytes) (sym whole) (take-length (logs.log.text opened)) in
       subst (λ Y. IsGiven g logs path old new desk Y it S) same (record {
@@ -191,6 +203,8 @@ module _ {M J C T : Type 0} (g : Ghosts T) (logs : Logs M J C) (path : List ℕ)
         rolled = rolled;
         level = level;
         sound = sound (subst (λ (j : J). HasText logs.log.text logs.log.found j) (sym journal_is) text);
+        left = left_on (state g desk) (state g read) (state g it.keeper) (AreRolled store_place (state g read) X place (entries_of ahead))
+            stays.survives left;
       })
 
   -- or a line stopped it, and the journal was let go as it was opened

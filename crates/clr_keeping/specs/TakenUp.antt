@@ -25,6 +25,7 @@ use Rattle.clr_journal.specs.Journals.{carried_out, withdraws}
 use Rattle.clr_journal.specs.Line.{Entry, entry_of}
 use Rattle.clr_chain.specs.Level.{IsRunOf}
 use Rattle.clr_chain.specs.declared.finding.Ahead.{Ahead}
+use Rattle.clr_level.specs.Crash.{AreRolled}
 use Rattle.clr_level.specs.Forward.{AreShallow, CanBeOpened, IsOfForward, StopsAt}
 use Rattle.clr_level.specs.Journaling.{IsSound}
 use Rattle.clr_level.specs.Levelling.{IsKeptLevel}
@@ -134,6 +135,13 @@ RollsForward g opened R place lines it S = withdraws lines ≡ false → AreShal
     → IsAt store_place (state g opened) place
     → IsRunOf R (carried_out lines) S × IsAt store_place (state g it.keeper) it.at
 
+-- A CRASH LEAVES WHAT THE DATABASE HAD, or a register that is level with the lines up to some point,
+-- with its place there, so that the next opening rolls it on. It was opened with this register
+abbrev pub LeavesFronts : {T : Type 0} → Ghosts T → Held T → Held T → Register → Place
+    → List Entry → Held T → Type 0
+LeavesFronts g before opened R place lines after = Survives (state g before) (state g after)
+    (AreRolled store_place (state g opened) R place lines)
+
 -- ---- the same over a desk, whose register was read before
 
 -- what is shown, what was committed and what a crash leaves stay as they are
@@ -162,6 +170,7 @@ pub record StopsForward {T : Type 0} (g : Ghosts T) (desk : Held T) (R : Registe
       → StopsAt store_place R place lines cause register (state g after)
   pub unchanged : (n : ℕ) → cause ≡ opening.Differs n
       → (register ≡ R) × (after ≡ desk)
+  pub left : LeavesFronts g desk desk R place lines after
 
 -- A DESK WAS GIVEN THE JOURNAL AT A PATH, at the place that its register has
 pub record IsGiven {M J C T : Type 0} (g : Ghosts T) (logs : Logs M J C) (path : List ℕ)
@@ -180,6 +189,7 @@ pub record IsGiven {M J C T : Type 0} (g : Ghosts T) (logs : Logs M J C) (path :
   pub rolled : IsGood R → RollsForward g read R place (entries_of ahead) it S
   pub level : OpensLevel g logs.log.text read R place (entries_of ahead) it S
   pub sound : OpensSound logs it
+  pub left : LeavesFronts g desk read R place (entries_of ahead) it.keeper
 
 -- it was given none, and why. The journal, if it was opened, is let go as it was opened
 pub data IsNotGiven {M J C T : Type 0} (g : Ghosts T) (logs : Logs M J C) (path : List ℕ)
@@ -219,6 +229,8 @@ pub record IsTakenUp {M J C T : Type 0} (g : Ghosts T) (logs : Logs M J C) (path
   pub level : OpensLevel g logs.log.text (IsKept.opened kept) (IsKept.first kept) place
       (entries_of ahead) it S
   pub sound : OpensSound logs it
+  pub left : LeavesFronts g before (IsKept.opened kept) (IsKept.first kept) place
+      (entries_of ahead) it.keeper
 
 -- A REGISTER WAS READ, and nothing was changed; and it is not opened with the journal, or without
 -- one, that is named: it has another, has none, or has one
@@ -262,6 +274,8 @@ pub record IsRefusedItsJournal {M J C T : Type 0} (g : Ghosts T) (logs : Logs M 
       (state g after)
   pub unchanged : (n : ℕ) → cause ≡ opening.Differs n
       → (register ≡ IsKept.first kept) × (after ≡ IsKept.opened kept)
+  pub left : LeavesFronts g before (IsKept.opened kept) (IsKept.first kept) place
+      (entries_of ahead) after
 
 -- IT WAS NOT TAKEN UP. Its database was refused, its place not read, or it has no journal: then it is
 -- as it was, and no journal was opened. Or the journal was not opened at its place, and the database

@@ -10,8 +10,8 @@ ghost use Rattle.clr_edge.specs.Database.{IsOfLine};
 ghost use Rattle.clr_keeping.specs.Keeping.{IsEnded, IsLetGo, IsNotUp, IsNotUpWith, IsUp, IsUpWith};
 ghost use Rattle.clr_keeping.specs.Keeping.{logged, plain, unlogged};
 ghost use Rattle.clr_keeping.specs.TakenUp.{HasPlace, IsGiven, IsNotGiven, IsOfTakingUp, LacksPlace};
-ghost use Rattle.clr_keeping.specs.TakenUp.{MissesOne, OpensLevel, RollsForward, StaysRead};
-ghost use Rattle.clr_keeping.specs.TakenUp.{StopsForward, entries_of, logs, of_opening};
+ghost use Rattle.clr_keeping.specs.TakenUp.{LeavesFronts, MissesOne, OpensLevel, RollsForward};
+ghost use Rattle.clr_keeping.specs.TakenUp.{StaysRead, StopsForward, entries_of, logs, of_opening};
 
 use clr_append::Journal;
 use clr_chain::{Ahead, Clock};
@@ -287,6 +287,8 @@ fn taken_up<S: Alter + Drop, J: Journal + Drop, C: Clock>(
         taken.book.register) }
     ensures kept { IfOk result (λ taken. Keeps (state S.Store desk.store) desk.book.register
         (state S.Store taken.store.keeper) taken.book.register) }
+    ensures left { IfOk result (λ taken. LeavesFronts S.Store desk.store desk.store
+        desk.book.register place (entries_of opened.ahead) taken.store.keeper) }
     ensures stops { IfErr result (λ back. IsGood desk.book.register
         → StopsForward S.Store desk.store desk.book.register place (entries_of opened.ahead)
         back.0 back.1) }

@@ -1,9 +1,11 @@
 use Rattle.std.proofs.Common.{◌≡◌, ◌∙◌, ap, inr, subst, sym}
 use Rattle.sqlite.specs.Held.{Held, state}
+use Rattle.sqlite.specs.State.{Survives}
 use Rattle.clr_book.specs.Book.{Shelved}
 use Rattle.clr_desk.specs.Kept.{Keeps}
 use Rattle.clr_desk.specs.Taking.{HearsNothing, PassesOver}
 use Rattle.clr_desk.specs.declared.desk.Desk.{Desk}
+use Rattle.clr_level.specs.Crash.{AreRolled}
 use Rattle.clr_level.specs.Forward.{CanBeOpened, StopsAt}
 use Rattle.clr_level.specs.Journaling.{HasText}
 use Rattle.clr_level.proofs.Rolling.{rolls_keep}
@@ -37,6 +39,10 @@ pub returns-in-Ok-clause-sound : goal.returns-in-Ok-clause-sound
 returns-in-Ok-clause-sound g c has =
     c.in-Ok.ensures.sound (subst (λ (j : _). HasText g.J.Journal.text g.J.Journal.found j) c.in-Ok.ensures.journal has)
 
+-- a crash leaves a front of the lines
+pub returns-in-Ok-clause-left : goal.returns-in-Ok-clause-left
+returns-in-Ok-clause-left g c = c.in-Ok.ensures.left
+
 -- or a line stopped it
 pub returns-clause-stops : goal.returns-clause-stops
 returns-clause-stops g c good =
@@ -54,6 +60,9 @@ returns-clause-stops g c good =
       stops = λ begins shallow at.
           subst (λ h. StopsAt store_place R c.args.place (entries_of c.args.opened.ahead) c.in-Err.fault S (state g.S.Store h)) (sym same)
           (c.in-Err.ensures.stops good begins shallow at);
+      left =
+          subst (λ h. Survives old (state g.S.Store h) (AreRolled store_place old R c.args.place (entries_of c.args.opened.ahead))) (sym same)
+          c.in-Err.ensures.left_too;
       unchanged = λ n is.
           let back = c.in-Err.ensures.unchanged n is in (
             ap (λ (d : Desk (Held g.row.S.Denot)). d.book.register) back,
