@@ -18,7 +18,7 @@ pub(crate) const MAX_HEAD_BYTES: usize = 8192;
 pub(crate) const MAX_FIELDS: usize = 64;
 
 /// Why no head was read.
-#[derive(Clone, Copy, Debug, PartialEq, Eq)]
+#[derive(Clone, Copy)]
 pub(crate) enum HeadFault {
     /// The bytes are no head, whatever follows them.
     BadHead,

@@ -17,7 +17,7 @@ use std::str::from_utf8;
 pub(crate) const MAX_BODY_BYTES: u64 = 65_536;
 
 /// Why the head gives no length of a body.
-#[derive(Clone, Copy, Debug, PartialEq, Eq)]
+#[derive(Clone, Copy)]
 pub(crate) enum LengthFault {
     /// There is a `Transfer-Encoding`, or no `Content-Length`.
     NoLength,

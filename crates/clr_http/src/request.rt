@@ -16,7 +16,7 @@ ghost use Rattle.clr_http.specs.Foreign.{is_foreign};
 ghost use Rattle.clr_http.specs.Length.{body_length};
 ghost use Rattle.clr_http.specs.Request.{IsNo503, IsReadAs, command_read};
 ghost use Rattle.clr_http.specs.Request.{fault_of_length, method_of};
-ghost use Rattle.clr_http.specs.Request.{head_read, reading, refusal_of, refused};
+ghost use Rattle.clr_http.specs.Request.{head_read, reading, refusal_of, refused, route_read};
 ghost use Rattle.clr_http.specs.Response.{fault_response};
 ghost use Rattle.clr_http.specs.Target.{target_of};
 
@@ -34,7 +34,7 @@ use std::alloc::Global;
 use std::str;
 
 /// A request that was read.
-#[derive(Debug, Drop)]
+#[derive(Drop)]
 pub(crate) enum Request {
     /// It is refused, with this response.
     Refused(Response),
@@ -43,14 +43,14 @@ pub(crate) enum Request {
 }
 
 /// A request that was read, and the login of its head.
-#[derive(Debug, Drop)]
+#[derive(Drop)]
 pub(crate) struct Heard {
     pub request: Request,
     pub login: Option<Login>,
 }
 
 /// Why no request was read.
-#[derive(Clone, Copy, Debug, PartialEq, Eq)]
+#[derive(Clone, Copy)]
 pub(crate) enum ReadFault {
     /// The reader failed.
     ReadFailed,
@@ -256,20 +256,49 @@ fn request_in<R: CountedRead>(
         → Rose (R.failure_count reader.old) (R.failure_count reader.new) }
 {
     let path = spans.path.of(buffer.as_slice());
-    let Some(asked) = target_read(alloc, service.desk, path)? else {
-        return refused(alloc, Fault::NoRoute);
-    };
+    match target_read(alloc, service.desk, path)? {
+        Some(asked) => request_for(alloc, service, reader, buffer, headers, spans, asked),
+        None => refused(alloc, Fault::NoRoute),
+    }
+}
+
+/// The request for this target, whose head lies at the front of the buffer.
+fn request_for<R: CountedRead>(
+    alloc: Global,
+    service: &Service,
+    reader: &mut R,
+    buffer: &mut Vec<u8>,
+    headers: &[HeaderSpan],
+    spans: RequestSpans,
+    asked: Target,
+) -> Result<Request, ReadFault>
+    requires within { IsRequestWithin buffer.old.items headers.now spans }
+    requires size { vec_len buffer.old ≤ 8192 }
+    ensures reading { (head : RequestHead) (input : List ℕ)
+        → IsRequestAt buffer.old.items headers.now spans head
+        → Consumes (Some input) (R.remaining reader.old) buffer.old.items
+        → IfOk result (λ r. reading r
+        ≡ route_read service.now (Some asked) head (drop spans.len input)) }
+    ensures taken { (first : Option (List ℕ))
+        → Consumes first (R.remaining reader.old) buffer.old.items
+        → Consumes first (R.remaining reader.new) buffer.new.items }
+    ensures within { vec_len buffer.new ≤ 8192 + 65536 }
+    ensures plain { IfOk result (λ r. IsNo503 (reading r)) }
+    ensures cause { result ≡ Err ReadFault.ReadFailed
+        → Rose (R.failure_count reader.old) (R.failure_count reader.new) }
+{
+    let fields = &headers[..spans.headers];
     let method = asked.method();
     if spans.method.of(buffer.as_slice()) != method.word().as_bytes() {
         return Ok(Request::Refused(Response::Allow(method)));
     }
-    if seems_foreign(service, buffer.as_slice(), &headers[..spans.headers]) {
+    if seems_foreign(service, buffer.as_slice(), fields) {
         return refused(alloc, Fault::Foreign);
     }
-    if asked == Target::Command {
-        return command_in(alloc, reader, buffer, &headers[..spans.headers], spans.len);
+    match asked {
+        Target::Command => command_in(alloc, reader, buffer, fields, spans.len),
+        _ => Ok(Request::Asks(asked, Vec::new(alloc))),
     }
-    Ok(Request::Asks(asked, Vec::new(alloc)))
 }
 
 /// Reads one request, and no byte that it does not need but those that come with it. `None` where

@@ -9,7 +9,7 @@ use http::StatusCode;
 use std::alloc::{AllocError, Global};
 
 /// Why a request is refused by the service, and not by the register.
-#[derive(Clone, Copy, Debug, PartialEq, Eq)]
+#[derive(Clone, Copy)]
 pub(crate) enum Fault {
     /// The bytes are no head: 400.
     BadHead,
@@ -79,7 +79,7 @@ impl Fault {
 }
 
 /// The methods of the routes.
-#[derive(Clone, Copy, Debug, PartialEq, Eq)]
+#[derive(Clone, Copy)]
 pub(crate) enum Method {
     Get,
     Post,
@@ -98,7 +98,7 @@ impl Method {
 }
 
 /// What is answered to a request.
-#[derive(Debug, Drop)]
+#[derive(Drop)]
 pub(crate) enum Response {
     /// A JSON text, and the status.
     Json(StatusCode, String),

@@ -16,7 +16,7 @@ use matchit::{InsertError, Params, Router};
 use std::alloc::{AllocError, Global};
 
 /// The routes of the service.
-#[derive(Clone, Copy, Debug, PartialEq, Eq)]
+#[derive(Clone, Copy)]
 pub(crate) enum Route {
     /// `POST /command`
     Command,
@@ -33,14 +33,14 @@ pub(crate) enum Route {
 }
 
 /// Whose view of which clearance is asked for.
-#[derive(Clone, Copy, Debug, PartialEq, Eq)]
+#[derive(Clone, Copy)]
 pub(crate) struct ViewRequest {
     pub caller: Name,
     pub id: ClearanceId,
 }
 
 /// Which round of which clearance is to be printed.
-#[derive(Clone, Copy, Debug, PartialEq, Eq)]
+#[derive(Clone, Copy)]
 pub(crate) struct OrderRequest {
     pub id: ClearanceId,
     pub round: u8,
@@ -48,7 +48,7 @@ pub(crate) struct OrderRequest {
 
 /// What a target asks for. A view, an order or a way back is `None` where a name, a number or the round
 /// in the path does not read.
-#[derive(Clone, Copy, Debug, PartialEq, Eq)]
+#[derive(Clone, Copy)]
 pub(crate) enum Target {
     Command,
     Clearance(Option<ViewRequest>),
