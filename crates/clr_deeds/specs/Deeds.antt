@@ -1,5 +1,5 @@
--- DEEDS: what the lines of a journal carry out, one after the other. A command; changes of network
--- and staff; or an archive of the records that were closed before a moment.
+-- DEEDS, one after the other, as the lines of a journal are to carry them out. A command; changes of
+-- network and staff; or an archive of the records that were closed before a moment.
 use Rattle.std.specs.Prelude.{ℕ, List, [], ◌∷◌}
 use Rattle.clr_archive.specs.Archive.{archived}
 use Rattle.clr_rules.specs.Register.{Register}

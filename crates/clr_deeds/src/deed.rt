@@ -1,8 +1,8 @@
-//! What a line of a journal carries out.
+//! A command, an update or an archive.
 use clr_rules::{Command, Moment};
 use clr_update::Changes;
 
-/// What a line of a journal carries out.
+/// A command, an update or an archive, as a line of a journal is to carry it out.
 #[derive(Drop)]
 pub enum Deed {
     /// A command.

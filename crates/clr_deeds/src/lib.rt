@@ -1,4 +1,4 @@
-//! What the lines of a journal carry out: commands, changes of network and staff, and archives.
+//! Deeds: commands, changes of network and staff, and archives.
 #![tactic(auto)]
 
 mod deed;
