@@ -73,9 +73,7 @@ macro_rules! rows {
     ([kind of $of:ident at $alloc:ident $value:ident]
         $($kind:ident $text:literal ($($field:ident: $key:ident),*))*) => {
         match $of {
-            $(Word::$kind => Ok(Kind::$kind {
-                $($field: at($alloc, $value, Key::$key)?),*
-            }),)*
+            $(Word::$kind => read! { [$alloc $value] $kind [$($field)*] $($field: $key),* },)*
         }
     };
     ([put $of:ident into $object:ident]
@@ -91,6 +89,20 @@ macro_rules! rows {
             $(Kind::$kind { $($field),* } => {
                 $($field.taken();)*
             })*
+        }
+    };
+}
+
+/// What is read from the values at a command's own keys, one after the other, then the command.
+macro_rules! read {
+    ([$alloc:ident $value:ident] $kind:ident [$($all:ident)*]) => {
+        Ok(Kind::$kind { $($all),* })
+    };
+    ([$alloc:ident $value:ident] $kind:ident $all:tt
+        $field:ident: $key:ident $(, $fields:ident: $keys:ident)*) => {
+        match at($alloc, $value, Key::$key) {
+            Ok($field) => read! { [$alloc $value] $kind $all $($fields: $keys),* },
+            Err(fault) => Err(fault),
         }
     };
 }
