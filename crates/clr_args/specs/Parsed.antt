@@ -226,6 +226,7 @@ pub record AsksArchive (rows : List Row) (args : ArchiveArgs) : Type 0 where
 pub record AsksMigrate (rows : List Row) (args : MigrateArgs) : Type 0 where
   pub database : args.database.now ≡ word_in rows (codes "DB")
   pub journal : option_map (λ path. path.now) args.journal ≡ first_of (codes "journal") rows
+  pub after : option_map (λ number. number.now) args.after ≡ first_of (codes "after") rows
 
 -- THE SUBCOMMAND of this name is asked for, on the words that its arguments were given
 abbrev pub Asks : Text → List Row → Asked → Type 0

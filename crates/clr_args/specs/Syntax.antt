@@ -150,11 +150,12 @@ update = with_rule (with_rule plain_update (flag_rule (codes "dry-run")))
 abbrev pub archive : App
 archive = with_rule (with_rule (new_app (codes "archive")) (required_rule (codes "DB"))) before_rule
 
--- `migrate DB [--journal FILE]`
+-- `migrate DB [--journal FILE] [--after NUMBER]`
 abbrev pub migrate : App
 migrate =
-    with_rule (with_rule (new_app (codes "migrate")) (required_rule (codes "DB")))
-    (option_rule (codes "journal"))
+    with_rule (with_rule (with_rule (new_app (codes "migrate")) (required_rule (codes "DB")))
+    (option_rule (codes "journal")))
+    (option_rule (codes "after"))
 
 -- `gridclear` alone: it has a version, and asks for a subcommand
 abbrev pub top : App

@@ -188,6 +188,8 @@ pub struct MigrateArgs<'a> {
     pub database: &'a str,
     /// The path of the journal to begin, if one is to be.
     pub journal: Option<&'a str>,
+    /// The number at which the journal ends that the register has, if it has one.
+    pub after: Option<&'a str>,
 }
 
 /// What `update` is asked for.

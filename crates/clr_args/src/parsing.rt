@@ -507,12 +507,13 @@ fn archive_args<'a>(matches: &ArgMatches<'a>) -> ArchiveArgs<'a>
     }
 }
 
-/// What `migrate DB [--journal FILE]` asks for.
+/// What `migrate DB [--journal FILE] [--after NUMBER]` asks for.
 fn migrate_args<'a>(matches: &ArgMatches<'a>) -> MigrateArgs<'a>
     ensures { AsksMigrate (rows_of (found_of matches.now)) result }
 {
     MigrateArgs {
         database: word_of(matches, "DB"),
         journal: option_of(matches, "journal"),
+        after: option_of(matches, "after"),
     }
 }

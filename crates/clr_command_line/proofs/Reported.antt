@@ -186,8 +186,8 @@ reported_journal (Err fault) status output output' errors errors' sent (one, lin
   unread = λ two. absurd (omega (arith, one, two));
 }
 
-module _ {M D L R W I J C : Type 0} (by : Steps M D L R W J C) (around : Around I) where
-  open by use {logs, medium, opens, shuts, ends, net, seen}
+module _ {M S L R W I J C : Type 0} (by : Steps M S L R W J C) (around : Around I) where
+  open by use {logs, tables, opens, shuts, ends, net, seen}
   open around use {files, owns}
 
   carried_out : (what : Asked) (status : ℕ) (before after : Moment M I)
@@ -202,7 +202,7 @@ module _ {M D L R W I J C : Type 0} (by : Steps M D L R W J C) (around : Around 
   carried_out (asked.WayBack args) status before after (answer, does, own, untouched, reports) = reported answer status _ _ _ _ own reports
   carried_out (asked.Serve args) status before after (served, middle, untouched, serves, reports) =
       reported_served args.port args.count served status before.output after.output before.errors middle after.errors
-      (serve_written logs net seen before.output after.output before.errors middle files args medium opens shuts ends served
+      (serve_written logs net seen before.output after.output before.errors middle files args tables opens shuts ends served
       before.machine after.machine serves) reports
   carried_out (asked.Journal args) status before after (printed, untouched, prints, reports) = reported_journal printed status _ _ _ _ prints.sent reports
   carried_out (asked.NextPart args) status before after (answer, does, own, untouched, reports) = reported answer status _ _ _ _ own reports
@@ -211,7 +211,7 @@ module _ {M D L R W I J C : Type 0} (by : Steps M D L R W J C) (around : Around 
   carried_out (asked.Update args) status before after (answer, does, own, untouched, reports) = reported answer status _ _ _ _ own reports
   carried_out (asked.Archive args) status before after (archived, untouched, archives, reports) =
       reported_archive archived status _ _ _ _
-      (archive_written before.output after.output medium opens shuts ends args archived before.machine after.machine archives) reports
+      (archive_written before.output after.output tables opens shuts ends args archived before.machine after.machine archives) reports
   carried_out (asked.Migrate args) status before after (answer, does, own, untouched, reports) = reported answer status _ _ _ _ own reports
 
   pub does : (what : Parsed) (status : ℕ) (before after : Moment M I)

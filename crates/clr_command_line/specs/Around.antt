@@ -1,7 +1,7 @@
 -- What a command line runs over: the steps of its machine, and what is seen of its files and of its
 -- input.
 use Rattle.std.specs.Prelude.{ℕ, List, Option}
-use Rattle.sqlite_disk.specs.declared.Disk as disk
+use Rattle.sqlite_trees.specs.declared.store.Store.{Ghosts}
 use Rattle.clr_keeping.specs.TakenUp.{Logs}
 use Rattle.clr_edge.specs.Visit.{Ending, Opening, Shutting}
 use Rattle.clr_edge.specs.declared.loopback.Loopback as loopback
@@ -9,22 +9,22 @@ use Rattle.clr_commands.specs.Connections.{Seen}
 use Rattle.clr_edge.specs.Paths.{AtPaths}
 
 -- the steps by which a machine opens journals, makes, opens and closes databases and takes
--- connections; what lies in a file of a database, and what is seen of a connection
-pub record Steps (M D L R W J C : Type 0) : Type 1 where
+-- connections; what the tables of a database are kept in, and what is seen of a connection
+pub record Steps (M S L R W J C : Type 0) : Type 1 where
   pub logs : Logs M J C
-  pub medium : disk.Ghosts D
-  pub makes : Opening M D
-  pub opens : Opening M D
+  pub tables : Ghosts S
+  pub makes : Opening M S
+  pub opens : Opening M S
   pub shuts : Shutting M
-  pub ends : Ending M D
+  pub ends : Ending M S
   pub net : loopback.Ghosts M L R W
   pub seen : Seen R W
 
-abbrev pub steps : {M D L R W J C : Type 0} → Logs M J C → disk.Ghosts D → Opening M D → Opening M D
-    → Shutting M → Ending M D → loopback.Ghosts M L R W → Seen R W → Steps M D L R W J C
-steps logs medium makes opens shuts ends net seen = record {
+abbrev pub steps : {M S L R W J C : Type 0} → Logs M J C → Ghosts S → Opening M S → Opening M S
+    → Shutting M → Ending M S → loopback.Ghosts M L R W → Seen R W → Steps M S L R W J C
+steps logs tables makes opens shuts ends net seen = record {
   logs = logs;
-  medium = medium;
+  tables = tables;
   makes = makes;
   opens = opens;
   shuts = shuts;

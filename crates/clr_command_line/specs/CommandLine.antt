@@ -4,7 +4,6 @@ use Rattle.std.specs.Prelude.{String, codes, string_bytes}
 use Rattle.std.specs.declared.alloc.Global.{Global}
 use Rattle.std.specs.declared.io.ErrorKind.{ErrorKind}
 use Rattle.std.specs.declared.io.ErrorKind.TheVariants.{OutOfMemory}
-use Rattle.sqlite.specs.Files.{over_files}
 use Rattle.clr_stream.specs.Streams.{Sends, Stream}
 use Rattle.clr_args.specs.Parsed.{Parses}
 use Rattle.clr_args.specs.declared.asked.Asked.{Asked}
@@ -59,8 +58,8 @@ ComesTo Does status before after = (answer : Result (String Global) Fault)
     × Reports answer status before.output after.output before.errors after.errors
 
 -- over the steps of a machine, and what is seen of the files at paths and of the input
-module _ {M D L R W I J C : Type 0} (by : Steps M D L R W J C) (around : Around I) where
-  open by use {logs, medium, makes, opens, shuts, ends, net, seen}
+module _ {M S L R W I J C : Type 0} (by : Steps M S L R W J C) (around : Around I) where
+  open by use {logs, tables, makes, opens, shuts, ends, net, seen}
   open around use {files, owns, spares, remaining, failures}
 
   -- what `run` printed is reported, and the input is read for it
@@ -81,45 +80,45 @@ module _ {M D L R W I J C : Type 0} (by : Steps M D L R W J C) (around : Around 
   CarriesOut (asked.Check three) status before after = ComesTo
       (λ answer old new. ChecksAt files three answer × (new ≡ old)) status before after
   CarriesOut (asked.Init args) status before after = ComesTo
-      (InitsAt files (λ path register. Comes medium makes shuts ends path
-      (Alone (MakesRegister over_files register)))
-      (InitsWith logs (λ path register first. Comes medium makes shuts ends path
-      (Alone (MakesRegisterAt over_files register first)))) args) status before after
+      (InitsAt files (λ path register. Comes makes shuts ends path
+      (Alone (MakesRegister tables register)))
+      (InitsWith logs (λ path register first. Comes makes shuts ends path
+      (Alone (MakesRegisterAt tables register first)))) args) status before after
   CarriesOut (asked.Run args) status before after = RunComesTo
-      (RunsAsked files (RunsKept logs medium opens shuts ends (remaining before.input)) args
+      (RunsAsked files (RunsKept logs tables opens shuts ends (remaining before.input)) args
       (remaining before.input)) status before after
   CarriesOut (asked.Order args) status before after = ComesTo
-      (Comes medium opens shuts ends args.database.now (PrintsOrder args)) status before after
+      (Comes opens shuts ends args.database.now (PrintsOrder tables args)) status before after
   CarriesOut (asked.Board args) status before after = ComesTo
-      (Comes medium opens shuts ends args.database.now (PrintsBoard args)) status before after
+      (Comes opens shuts ends args.database.now (PrintsBoard tables args)) status before after
   CarriesOut (asked.WayBack args) status before after = ComesTo
-      (Comes medium opens shuts ends args.database.now (PrintsWayBack args)) status before after
+      (Comes opens shuts ends args.database.now (PrintsWayBack tables args)) status before after
   CarriesOut (asked.Serve args) status before after =
       (served : Done) × (reported : Stream) × (after.input ≡ before.input)
       × ServesAt logs net seen files args before.output after.output before.errors reported
-      medium opens shuts ends served before.machine after.machine
+      tables opens shuts ends served before.machine after.machine
       × ReportsServed served status reported after.errors
   CarriesOut (asked.Journal args) status before after =
       (printed : Done) × IsUntouched before after
       × PrintsParts files args before.output after.output printed
       × ReportsServed printed status before.errors after.errors
   CarriesOut (asked.NextPart args) status before after = ComesTo
-      (BeginsNext logs medium opens shuts ends args) status before after
+      (BeginsNext logs tables opens shuts ends args) status before after
   CarriesOut (asked.Verify args) status before after = ComesTo
-      (VerifiesAt files args (Comes medium opens shuts ends args.database.now ReadsPlaced))
+      (VerifiesAt files args (Comes opens shuts ends args.database.now (ReadsPlaced tables)))
       status before after
   CarriesOut (asked.VerifyFrom args) status before after = ComesTo
-      (VerifiesFromAt files args (Comes medium opens shuts ends args.copy.now ReadsPlaced)
-      (Comes medium opens shuts ends args.database.now ReadsPlaced)) status before after
+      (VerifiesFromAt files args (Comes opens shuts ends args.copy.now (ReadsPlaced tables))
+      (Comes opens shuts ends args.database.now (ReadsPlaced tables))) status before after
   CarriesOut (asked.Update args) status before after = ComesTo
-      (UpdatesFiles files medium opens shuts ends args) status before after
+      (UpdatesFiles files tables opens shuts ends args) status before after
   CarriesOut (asked.Archive args) status before after =
       (archived : Done) × (after.input ≡ before.input)
-      × ArchivesAt medium opens shuts ends args before.output after.output archived before.machine
+      × ArchivesAt tables opens shuts ends args before.output after.output archived before.machine
       after.machine
       × ReportsServed archived status before.errors after.errors
   CarriesOut (asked.Migrate args) status before after = ComesTo
-      (MigratesAt logs medium opens shuts ends args) status before after
+      (MigratesAt logs tables opens shuts ends args) status before after
 
   -- a file that is named beside a database is one of its own, or memory ran out: nothing is done
   abbrev pub RefusesOwn : Asked → ℕ → Moment M I → Moment M I → Type 0

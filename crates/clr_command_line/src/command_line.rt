@@ -60,7 +60,7 @@ where
     E: CountedFlush,
     ensures answer { IfOk words.now (λ given. AnswersWords
         (steps (logs R.Journals R.Log.Journal R.Time.shows)
-        R.Medium.Disk R.makes R.opens R.shuts R.ends R.Loopback
+        R.Tables.Store R.makes R.opens R.shuts R.ends R.Loopback
         (seen R.Reader.remaining R.Reader.failure_count R.Writer.stream))
         (around (at_paths O.File.remaining O.File.failure_count (O.bytes_at paths.now))
         (O.owns paths.now) (O.spares paths.now) I.remaining I.failure_count)
@@ -99,7 +99,7 @@ where
     E: CountedFlush,
     ensures answer { AnswersWords
         (steps (logs R.Journals R.Log.Journal R.Time.shows)
-        R.Medium.Disk R.makes R.opens R.shuts R.ends R.Loopback
+        R.Tables.Store R.makes R.opens R.shuts R.ends R.Loopback
         (seen R.Reader.remaining R.Reader.failure_count R.Writer.stream))
         (around (at_paths O.File.remaining O.File.failure_count (O.bytes_at paths.now))
         (O.owns paths.now) (O.spares paths.now) I.remaining I.failure_count)
@@ -133,7 +133,7 @@ where
     E: CountedFlush,
     ensures { DoesParsed
         (steps (logs R.Journals R.Log.Journal R.Time.shows)
-        R.Medium.Disk R.makes R.opens R.shuts R.ends R.Loopback
+        R.Tables.Store R.makes R.opens R.shuts R.ends R.Loopback
         (seen R.Reader.remaining R.Reader.failure_count R.Writer.stream))
         (around (at_paths O.File.remaining O.File.failure_count (O.bytes_at paths.now))
         (O.owns paths.now) (O.spares paths.now) I.remaining I.failure_count) parsed.now result
@@ -170,7 +170,7 @@ where
     E: CountedFlush,
     ensures { CarriesOut
         (steps (logs R.Journals R.Log.Journal R.Time.shows)
-        R.Medium.Disk R.makes R.opens R.shuts R.ends R.Loopback
+        R.Tables.Store R.makes R.opens R.shuts R.ends R.Loopback
         (seen R.Reader.remaining R.Reader.failure_count R.Writer.stream))
         (around (at_paths O.File.remaining O.File.failure_count (O.bytes_at paths.now))
         (O.owns paths.now) (O.spares paths.now) I.remaining I.failure_count) asked.now result

@@ -1,16 +1,14 @@
 -- An archive over a register that was read from a database, and what went out of it.
 use Rattle.std.proofs.Common.{◌≡◌, ◌≢◌, ◌⊎◌, ◌∙◌, ap, inl, inr, refl, subst, sym, ℕ, List, Result, Ok, Err}
 use Rattle.std.specs.Prelude.{IfErr, IsErrAnd}
-use Rattle.sqlite.specs.Files.{over_files}
 use Rattle.sqlite.specs.Held.{Held}
-use Rattle.sqlite_disk.specs.declared.Disk as disk
 use Rattle.sqlite_trees.specs.declared.store.Store.{Ghosts}
 use Rattle.clr_args.specs.declared.asked.ArchiveArgs.{ArchiveArgs}
 use Rattle.clr_desk.specs.declared.desk.Desk.{Desk}
 use Rattle.clr_stream.specs.Streams.{HasFailed, Stream, WentOut}
 use Rattle.clr_edge.specs.Database.{IsOfLine}
 use Rattle.clr_keeping.specs.Keeping.{IsNotReadAlone, IsNotUp, IsUp, unlogged}
-use Rattle.clr_edge.specs.Visit.{Done, Ending, Ends, Opening, Over, Shutting, first_fault}
+use Rattle.clr_edge.specs.Visit.{Done, Ending, Ends, Opening, Shutting, first_fault}
 use Rattle.clr_edge.specs.declared.fault.Fault.{Fault}
 use Rattle.clr_edge.specs.declared.fault.Fault.TheVariants.{Output}
 use Rattle.clr_commands.specs.Archive.{Archives, ArchivesAt, ArchivesOver, IsArchived}
@@ -50,17 +48,17 @@ module _ (output output' : Stream) where
         of (Err fault) (inl (refused, same)) = inr (not_alone_other g before after fault refused, inl same)
         of told (inr done) = archived_written told closed done it.closing
 
-  module _ {M D : Type 0} (g : disk.Ghosts D) (opens : Opening M D) (shuts : Shutting M) (ends : Ending M D) (args : ArchiveArgs) where
+  module _ {M S : Type 0} (g : Ghosts S) (opens : Opening M S) (shuts : Shutting M) (ends : Ending M S) (args : ArchiveArgs) where
     -- what went out
     pub archive_written : (result : Done) (old new : M) → ArchivesAt g opens shuts ends args output output' result old new → HasWritten output output' result
     archive_written result old new (inl (fault, is, line, (shut, same))) =
         subst (HasWritten output output') (sym is) (inr (line_other fault line, inl same))
-    archive_written result old new (inr visit) = over_written over_files args visit.before visit.after result visit.closed visit.does.1
+    archive_written result old new (inr visit) = over_written g args visit.before visit.after result visit.closed visit.does.1
 
     -- the register of the database at the path was archived
-    pub archived_at : (before : ℕ) (told closed result : Done) (old between new : M) (desk : Desk (Over g)) (store after : Over g)
-        → IsUp g opens args.database.now (unlogged over_files) old between desk → before ≡ args.before
-        → IsArchived over_files before output output' desk.book.register told desk.store store → after ≡ store
+    pub archived_at : (before : ℕ) (told closed result : Done) (old between new : M) (desk : Desk (Held S)) (store after : Held S)
+        → IsUp opens args.database.now (unlogged g) old between desk → before ≡ args.before
+        → IsArchived g before output output' desk.book.register told desk.store store → after ≡ store
         → Ends ends after closed between new → IfErr closed IsOfLine → result ≡ first_fault told closed
         → ArchivesAt g opens shuts ends args output output' result old new
     archived_at before told closed result old between new desk store after up moment archived same ended line is = inr (record {
@@ -79,18 +77,18 @@ module _ (output output' : Stream) where
             register = desk.book.register;
             read = desk.store;
             is_read = up.taken_up.1;
-            archived = subst (λ (n : ℕ). IsArchived over_files n output output' desk.book.register told desk.store store) moment archived;
+            archived = subst (λ (n : ℕ). IsArchived g n output output' desk.book.register told desk.store store) moment archived;
           });
           closing = line;
           result_is = is;
         },
       );
-      ended = subst (λ (h : Over g). Ends ends h closed between new) same ended;
+      ended = subst (λ (h : Held S). Ends ends h closed between new) same ended;
     })
 
     -- or it was not read, and nothing went out
     pub unarchived_at : (result : Done) (old new : M) (fault : Fault) → output' ≡ output → IsErrAnd result (λ cause. cause ≡ fault)
-        → IsNotUp g opens shuts ends args.database.now (unlogged over_files) old new fault → ArchivesAt g opens shuts ends args output output' result old new
+        → IsNotUp opens shuts ends args.database.now (unlogged g) old new fault → ArchivesAt g opens shuts ends args output output' result old new
     unarchived_at (Ok value) old new fault same is not = absurd is
     unarchived_at (Err cause) old new fault same is (inl (line, shut)) = inl (fault, ap Err is, line, (shut, same))
     unarchived_at (Err cause) old new fault same is (inr visit) = inr (record {

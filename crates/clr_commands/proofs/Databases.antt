@@ -2,9 +2,7 @@
 use Rattle.std.proofs.Common.{◌≡◌, ◌⊎◌, ap, inl, inr, subst, sym, ℕ, List, Result, Ok, Err}
 use Rattle.std.specs.Prelude.{IfErr, IfOk, IsErrAnd, String, string_bytes}
 use Rattle.std.specs.declared.alloc.Global.{Global}
-use Rattle.sqlite.specs.Files.{over_files}
 use Rattle.sqlite.specs.Held.{Held}
-use Rattle.sqlite_disk.specs.declared.Disk as disk
 use Rattle.sqlite_trees.specs.declared.store.Store.{Ghosts}
 use Rattle.clr_desk.specs.declared.desk.Desk.{Desk}
 use Rattle.clr_rules.specs.CrewSafety.{CrewsAreSafe}
@@ -14,7 +12,7 @@ use Rattle.clr_rules.proofs.good.CrewSafety.{crews_are_safe}
 use Rattle.clr_rules.specs.Register.{Register}
 use Rattle.clr_edge.specs.Database.{IsOfLine, IsOnlyRead, IsRefused, ReadsAs}
 use Rattle.clr_keeping.specs.Keeping.{IsNotRead, IsNotUp, IsReadFrom, IsUp, plain}
-use Rattle.clr_edge.specs.Visit.{Comes, Done, Ending, Ends, Opening, Over, Shutting}
+use Rattle.clr_edge.specs.Visit.{Comes, Done, Ending, Ends, Opening, Shutting}
 use Rattle.clr_edge.specs.declared.fault.Fault.{Fault}
 use Rattle.clr_edge.specs.declared.fault.Fault.TheVariants.{Memory}
 use Rattle.clr_edge.proofs.Databases.{OnOk-any}
@@ -79,13 +77,13 @@ answers_none g IsOwn Is fault before after it = record {
   faulted = λ other. inl it.refused;
 }
 
-module _ {M D : Type 0} (g : disk.Ghosts D) (opens : Opening M D) (shuts : Shutting M) (ends : Ending M D) (path : List ℕ) (IsOwn : Fault → Type 0)
+module _ {M S : Type 0} (g : Ghosts S) (opens : Opening M S) (shuts : Shutting M) (ends : Ending M S) (path : List ℕ) (IsOwn : Fault → Type 0)
     (Is : Register → Result (List ℕ) Fault → Type 0) where
   -- a register was taken up from the database at a path, answered, and let go
-  pub visited : (result : Result (String Global) Fault) (old between new : M) (desk : Desk (Over g)) (after : Over g) (closed : Done)
-      → IsUp g opens path (plain over_files) old between desk → after ≡ desk.store → Ends ends after closed between new
+  pub visited : (result : Result (String Global) Fault) (old between new : M) (desk : Desk (Held S)) (after : Held S) (closed : Done)
+      → IsUp opens path (plain g) old between desk → after ≡ desk.store → Ends ends after closed between new
       → Prints IsMemory (Is desk.book.register) result → IfErr result IsOwn
-      → Comes g opens shuts ends path (WhileOpen (AnswersOf over_files IsOwn Is)) result old new
+      → Comes opens shuts ends path (WhileOpen (AnswersOf g IsOwn Is)) result old new
   visited result old between new desk after closed up same ended prints own = inr (record {
     before = up.before;
     after = desk.store;
@@ -94,14 +92,14 @@ module _ {M D : Type 0} (g : disk.Ghosts D) (opens : Opening M D) (shuts : Shutt
     later = between;
     opened = up.opened;
     mode = up.mode;
-    does = (up.taken_up.0, answers_of over_files IsOwn Is result up.before desk.store desk.book.register up.taken_up.1 prints own);
-    ended = subst (λ (h : Over g). Ends ends h closed between new) same ended;
+    does = (up.taken_up.0, answers_of g IsOwn Is result up.before desk.store desk.book.register up.taken_up.1 prints own);
+    ended = subst (λ (h : Held S). Ends ends h closed between new) same ended;
   })
 
   -- it was not taken up
   pub unvisited : (result : Result (String Global) Fault) (old new : M) (fault : Fault) → IsErrAnd result (λ cause. cause ≡ fault)
-      → IsNotUp g opens shuts ends path (plain over_files) old new fault
-      → Comes g opens shuts ends path (WhileOpen (AnswersOf over_files IsOwn Is)) result old new
+      → IsNotUp opens shuts ends path (plain g) old new fault
+      → Comes opens shuts ends path (WhileOpen (AnswersOf g IsOwn Is)) result old new
   unvisited (Ok value) old new fault is not = absurd is
   unvisited (Err cause) old new fault is (inl (line, shut)) = inl (fault, ap Err is, line, shut)
   unvisited (Err cause) old new fault is (inr visit) = inr (record {
@@ -114,8 +112,8 @@ module _ {M D : Type 0} (g : disk.Ghosts D) (opens : Opening M D) (shuts : Shutt
     mode = visit.mode;
     does = (
       visit.does.0.0,
-      subst (λ (f : Fault). AnswersOf over_files IsOwn Is (Err f) visit.before visit.after) (sym is)
-          (answers_none over_files IsOwn Is fault visit.before visit.after visit.does.0.1),
+      subst (λ (f : Fault). AnswersOf g IsOwn Is (Err f) visit.before visit.after) (sym is)
+          (answers_none g IsOwn Is fault visit.before visit.after visit.does.0.1),
     );
     ended = visit.ended;
   })

@@ -27,7 +27,8 @@ use Rattle.clr_keeping.specs.Beginning.{IsOfBegun}
 use Rattle.clr_edge.specs.Journals.{IsOfBeginning, of_chain, of_new}
 use Rattle.clr_keeping.specs.TakenUp.{IsOfTakingUp, of_opening}
 use Rattle.clr_edge.specs.declared.fault.Fault.{Fault}
-use Rattle.clr_edge.specs.declared.fault.Fault.TheVariants.{Accept, Listen, Memory, Output, SameFile, Update}
+use Rattle.clr_edge.specs.declared.fault.Fault.TheVariants.{Accept, Journal, Listen, Memory, Output, SameFile, Update}
+use Rattle.clr_edge.specs.declared.fault.JournalFault.{JournalFault}
 use Rattle.clr_update.specs.declared.obstacle.Obstacle.{Obstacle}
 use Rattle.clr_edge.specs.declared.fault.ImportFile.{ImportFile}
 use Rattle.clr_commands.specs.Faults.{IsOfSubcommand}
@@ -108,6 +109,9 @@ of_file_plain file csv.NoMemory = plain _ refl
 -- the faults that parts may answer
 pub memory_plain : (fault : Fault) → fault ≡ Memory → IsOfSubcommand fault
 memory_plain fault e = plain_as fault Memory e refl
+
+pub journal_plain : (fault : Fault) (cause : JournalFault) → fault ≡ Journal cause → IsOfSubcommand fault
+journal_plain fault cause is = plain_as fault (Journal cause) is refl
 
 pub line_plain : (fault : Fault) → IsOfLine fault → IsOfSubcommand fault
 line_plain fault (inl memory) = memory_plain fault memory

@@ -11,6 +11,7 @@ pub mod LevelStays
 pub mod MadeRegisters
 pub mod Migrates
 pub mod OfNoReader
+pub mod PartsAfter
 pub mod PointsNamed
 pub mod ReadFiles
 pub mod ReadRows

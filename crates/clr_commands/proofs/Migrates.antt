@@ -3,9 +3,7 @@ use Rattle.std.proofs.Common.{◌≡◌, ap, inl, inr, refl, subst, sym, ℕ, Li
 use Rattle.std.specs.Prelude.{IfErr, IsErrAnd, None, Option, Some, String, pos, string_bytes}
 use Rattle.std.specs.Borrow.{Bor}
 use Rattle.std.specs.declared.alloc.Global.{Global}
-use Rattle.sqlite.specs.Files.{over_files}
 use Rattle.sqlite.specs.Held.{Held}
-use Rattle.sqlite_disk.specs.declared.Disk as disk
 use Rattle.sqlite_trees.specs.declared.store.Store.{Ghosts}
 use Rattle.clr_rules.specs.Register.{Register}
 use Rattle.clr_place.specs.declared.place.Place.{Place}
@@ -15,13 +13,13 @@ use Rattle.clr_keeping.specs.Beginning.{IsOfBegun, PlacesAt}
 use Rattle.clr_edge.specs.Database.{IsOfLine}
 use Rattle.clr_keeping.specs.Keeping.{IsNotUp, IsUp, unlogged}
 use Rattle.clr_keeping.specs.TakenUp.{Logs}
-use Rattle.clr_edge.specs.Visit.{Alone, Comes, Done, Ending, Ends, MovesRegister, Opening, Over, Shutting, first_fault}
+use Rattle.clr_edge.specs.Visit.{Alone, Comes, Done, Ending, Ends, MovesRegister, Opening, Shutting, first_fault}
 use Rattle.clr_edge.specs.declared.fault.Fault.{Fault}
 use Rattle.clr_edge.specs.declared.fault.Fault.TheVariants.{Memory}
 use Rattle.clr_args.specs.declared.asked.MigrateArgs.{MigrateArgs}
 use Rattle.clr_commands.specs.Faults.{IsOfSubcommand}
 use Rattle.clr_commands.specs.First.{board_files, first_place, made_at}
-use Rattle.clr_commands.specs.Migrate.{BeginsIn, BeginsJournal, BeginsOver, Migrates, MigratesAt, MigratesBy, PrintsBegun, PrintsMoved, journal_line}
+use Rattle.clr_commands.specs.Migrate.{BeginsIn, BeginsOver, BeginsWith, MigratesAt, MigratesBy, MovesUnless, PrintsBegun, PrintsMoved, journal_line}
 use Rattle.clr_commands.proofs.Faults.{line_plain}
 
 -- the fault is passed on
@@ -52,13 +50,13 @@ pub BeginsOver-placed : {M J C T : Type 0} (g : Ghosts T) (logs : Logs M J C) (f
 BeginsOver-placed g logs first place path result begun old new read after is prints places =
     subst (λ (p : Place). BeginsOver g logs p path result old new read after) is (inr (begun, prints, places))
 
-module _ {M D J C : Type 0} (logs : Logs M J C) (g : disk.Ghosts D) (opens : Opening M D) (shuts : Shutting M) (ends : Ending M D) (moment : ℕ) (path journal : List ℕ) where
+module _ {M S J C : Type 0} (logs : Logs M J C) (g : Ghosts S) (opens : Opening M S) (shuts : Shutting M) (ends : Ending M S) (moment : ℕ) (path journal : List ℕ) where
   -- the register of the database at the path got a journal
-  pub begun_at : (report result : Result (String Global) Fault) (closed : Done) (old between later new : M) (desk : Desk (Over g)) (after : Over g)
-      → IsUp g opens path (unlogged over_files) old between desk
-      → BeginsOver over_files logs (first_place (board_files desk.book.register) (made_at moment path journal)) journal report between later desk.store after
+  pub begun_at : (report result : Result (String Global) Fault) (closed : Done) (old between later new : M) (desk : Desk (Held S)) (after : Held S)
+      → IsUp opens path (unlogged g) old between desk
+      → BeginsOver g logs (first_place (board_files desk.book.register) (made_at moment path journal)) journal report between later desk.store after
       → Ends ends after closed later new → IfErr closed IsOfLine → result ≡ first_fault report closed
-      → Comes g opens shuts ends path (BeginsIn over_files logs moment path journal) result old new
+      → Comes opens shuts ends path (BeginsIn g logs moment path journal) result old new
   begun_at report result closed old between later new desk after up begun ended line is = inr (record {
     before = up.before;
     after = after;
@@ -73,7 +71,7 @@ module _ {M D J C : Type 0} (logs : Logs M J C) (g : disk.Ghosts D) (opens : Ope
         desk.book.register,
         desk.store,
         up.taken_up.1,
-        subst (λ (m : M). BeginsOver over_files logs (first_place (board_files desk.book.register) (made_at moment path journal)) journal report m later desk.store after)
+        subst (λ (m : M). BeginsOver g logs (first_place (board_files desk.book.register) (made_at moment path journal)) journal report m later desk.store after)
             up.taken_up.0 begun,
       );
       closing = line;
@@ -84,8 +82,8 @@ module _ {M D J C : Type 0} (logs : Logs M J C) (g : disk.Ghosts D) (opens : Ope
 
   -- or it was not read, or has one
   pub unbegun_at : (result : Result (String Global) Fault) (old new : M) (fault : Fault) → IsErrAnd result (λ cause. cause ≡ fault)
-      → IsNotUp g opens shuts ends path (unlogged over_files) old new fault
-      → Comes g opens shuts ends path (BeginsIn over_files logs moment path journal) result old new
+      → IsNotUp opens shuts ends path (unlogged g) old new fault
+      → Comes opens shuts ends path (BeginsIn g logs moment path journal) result old new
   unbegun_at (Ok value) old new fault is not = absurd is
   unbegun_at (Err cause) old new fault is (inl (line, shut)) = inl (fault, ap Err is, line, shut)
   unbegun_at (Err cause) old new fault is (inr visit) = inr (record {
@@ -106,13 +104,13 @@ module _ {M D J C : Type 0} (logs : Logs M J C) (g : disk.Ghosts D) (opens : Ope
   })
 
 -- what is asked for: the tables moved, or a journal
-module _ {M D J C : Type 0} (logs : Logs M J C) (g : disk.Ghosts D) (opens : Opening M D) (shuts : Shutting M) (ends : Ending M D) (args : MigrateArgs)
+module _ {M S J C : Type 0} (logs : Logs M J C) (g : Ghosts S) (opens : Opening M S) (shuts : Shutting M) (ends : Ending M S) (args : MigrateArgs)
     (result : Result (String Global) Fault) (old new : M) where
-  pub MigratesAt-moved : args.journal ≡ None → Migrates (Comes g opens shuts ends args.database.now (Alone (MovesRegister over_files))) result old new
+  pub MigratesAt-moved : args.journal ≡ None → MovesUnless (Comes opens shuts ends args.database.now (Alone (MovesRegister g))) args.after result old new
       → MigratesAt logs g opens shuts ends args result old new
-  MigratesAt-moved none moves = subst (λ (it : Option (Bor (List ℕ))). MigratesBy logs g opens shuts ends args.database.now it result old new) (sym none) moves
+  MigratesAt-moved none moves = subst (λ (it : Option (Bor (List ℕ))). MigratesBy logs g opens shuts ends args.database.now it args.after result old new) (sym none) moves
 
   pub MigratesAt-begun : (journal : Bor (List ℕ)) → args.journal ≡ Some journal
-      → BeginsJournal logs g opens shuts ends args.database.now journal.now result old new → MigratesAt logs g opens shuts ends args result old new
+      → BeginsWith logs g opens shuts ends args.database.now journal.now args.after result old new → MigratesAt logs g opens shuts ends args result old new
   MigratesAt-begun journal some begins =
-      subst (λ (it : Option (Bor (List ℕ))). MigratesBy logs g opens shuts ends args.database.now it result old new) (sym some) begins
+      subst (λ (it : Option (Bor (List ℕ))). MigratesBy logs g opens shuts ends args.database.now it args.after result old new) (sym some) begins

@@ -1,27 +1,25 @@
 -- A register that was read with its place: nothing more was changed as the place was read.
 use Rattle.std.proofs.Common.{◌≡◌, ap, inl, inr, subst, sym, ℕ, List, Result, Ok, Err}
 use Rattle.std.specs.Prelude.{IfErr, IfOk, IsErrAnd, None, Some}
-use Rattle.sqlite.specs.Files.{over_files}
 use Rattle.sqlite.specs.Held.{Held}
-use Rattle.sqlite_disk.specs.declared.Disk as disk
 use Rattle.sqlite_trees.specs.declared.store.Store.{Ghosts}
 use Rattle.clr_rules.specs.Good.{IsGood}
 use Rattle.clr_rules.specs.Register.{Register}
 use Rattle.clr_desk.specs.declared.desk.Desk.{Desk}
 use Rattle.clr_keeping.specs.Keeping.{IsNotUp, IsReadFrom, IsUp, plain}
 use Rattle.clr_keeping.specs.TakenUp.{IsOfTakingUp}
-use Rattle.clr_edge.specs.Visit.{Comes, Done, Ending, Ends, Opening, Over, Shutting}
+use Rattle.clr_edge.specs.Visit.{Comes, Done, Ending, Ends, Opening, Shutting}
 use Rattle.clr_edge.specs.declared.fault.Fault.{Fault}
 use Rattle.clr_keeping.proofs.TakenUp.{from_on_stays, place_on_stays, unplaced_on, unsuited_on}
 use Rattle.clr_commands.specs.Verify.{IsPlacedRead, IsRead, Placed, ReadsPlaced}
 
 -- ---- the visit
 
-module _ {M D : Type 0} (g : disk.Ghosts D) (opens : Opening M D) (shuts : Shutting M) (ends : Ending M D) (path : List ℕ) where
+module _ {M S : Type 0} (g : Ghosts S) (opens : Opening M S) (shuts : Shutting M) (ends : Ending M S) (path : List ℕ) where
   -- a register was taken up from the database at a path, its place read, and the database closed
-  pub came : (told : Result Placed Fault) (old between new : M) (desk : Desk (Over g)) (after : Over g) (closed : Done)
-      → IsUp g opens path (plain over_files) old between desk → IsPlacedRead over_files desk.store desk.book.register told after
-      → Ends ends after closed between new → Comes g opens shuts ends path ReadsPlaced told old new
+  pub came : (told : Result Placed Fault) (old between new : M) (desk : Desk (Held S)) (after : Held S) (closed : Done)
+      → IsUp opens path (plain g) old between desk → IsPlacedRead g desk.store desk.book.register told after
+      → Ends ends after closed between new → Comes opens shuts ends path (ReadsPlaced g) told old new
   came told old between new desk after closed up placed ended = inr (record {
     before = up.before;
     after = after;
@@ -34,20 +32,20 @@ module _ {M D : Type 0} (g : disk.Ghosts D) (opens : Opening M D) (shuts : Shutt
     ended = ended;
   })
     where
-      read : IsReadFrom over_files up.before desk.store desk.book.register
+      read : IsReadFrom g up.before desk.store desk.book.register
       read = up.taken_up.1
 
-      by : (it : Result Placed Fault) → IsPlacedRead over_files desk.store desk.book.register it after → IsRead over_files it up.before after
+      by : (it : Result Placed Fault) → IsPlacedRead g desk.store desk.book.register it after → IsRead g it up.before after
       by (Ok found) (register, has, stays) = (
-        subst (λ (R : Register). IsReadFrom over_files up.before after R) (sym register) (from_on_stays over_files up.before desk.store desk.book.register read after stays),
-        place_on_stays over_files up.before desk.store after read.read stays (Some found.1) has,
+        subst (λ (R : Register). IsReadFrom g up.before after R) (sym register) (from_on_stays g up.before desk.store desk.book.register read after stays),
+        place_on_stays g up.before desk.store after read.read stays (Some found.1) has,
       )
-      by (Err fault) (stays, inl lacks) = inr (inl (unplaced_on over_files up.before desk.store desk.book.register read after fault stays lacks))
-      by (Err fault) (stays, inr (is, none)) = inr (inr (is, unsuited_on over_files up.before desk.store desk.book.register read after None stays none))
+      by (Err fault) (stays, inl lacks) = inr (inl (unplaced_on g up.before desk.store desk.book.register read after fault stays lacks))
+      by (Err fault) (stays, inr (is, none)) = inr (inr (is, unsuited_on g up.before desk.store desk.book.register read after None stays none))
 
   -- it was not taken up
   pub not_came : (result : Result Placed Fault) (old new : M) (fault : Fault) → IsErrAnd result (λ cause. cause ≡ fault)
-      → IsNotUp g opens shuts ends path (plain over_files) old new fault → Comes g opens shuts ends path ReadsPlaced result old new
+      → IsNotUp opens shuts ends path (plain g) old new fault → Comes opens shuts ends path (ReadsPlaced g) result old new
   not_came (Ok value) old new fault is not = absurd is
   not_came (Err cause) old new fault is (inl (line, shut)) = inl (fault, ap Err is, line, shut)
   not_came (Err cause) old new fault is (inr visit) = inr (record {
@@ -60,7 +58,7 @@ module _ {M D : Type 0} (g : disk.Ghosts D) (opens : Opening M D) (shuts : Shutt
     mode = visit.mode;
     does = (
       visit.does.0.0,
-      subst (λ (f : Fault). IsRead over_files (Err f) visit.before visit.after) (sym is) (inl visit.does.0.1),
+      subst (λ (f : Fault). IsRead g (Err f) visit.before visit.after) (sym is) (inl visit.does.0.1),
     );
     ended = visit.ended;
   })

@@ -2,10 +2,8 @@
 use Rattle.std.proofs.Common.{◌≡◌, ◌≢◌, ◌⊎◌, ◌∙◌, ap, inl, inr, refl, subst, sym, ℕ, Bool, List, [], ◌∷◌, ◌++◌, Result, Ok, Err, OnOk, OnErr, IsTrue, append_assoc}
 use Rattle.std.specs.Prelude.{IfErr, IfOk, IsErrAnd, None}
 use Rattle.std.proofs.lemmas.List.{append-nil}
-use Rattle.sqlite.specs.Files.{over_files}
 use Rattle.sqlite.specs.Held.{Held, state}
 use Rattle.sqlite.specs.State.{HasCleanDisk, Survives}
-use Rattle.sqlite_disk.specs.declared.Disk as disk
 use Rattle.sqlite_trees.specs.declared.store.Store.{Ghosts}
 use Rattle.clr_net.specs.NameText.{read_name}
 use Rattle.clr_result.specs.Results.{◌>>=◌}
@@ -29,7 +27,7 @@ use Rattle.clr_desk.specs.declared.desk_fault.DeskFault.TheVariants as desk
 use Rattle.clr_edge.specs.Database.{IsOfLine}
 use Rattle.clr_edge.specs.Fault.{of_desk}
 use Rattle.clr_keeping.specs.Keeping.{IsNotUp, IsUp, unlogged}
-use Rattle.clr_edge.specs.Visit.{Done, Ending, Ends, Opening, Over, Shutting, first_fault}
+use Rattle.clr_edge.specs.Visit.{Done, Ending, Ends, Opening, Shutting, first_fault}
 use Rattle.clr_edge.specs.declared.fault.Fault.{Fault}
 use Rattle.clr_edge.specs.declared.fault.Fault.TheVariants.{Memory}
 use Rattle.clr_commands.specs.Faults.{IsOfSubcommand}
@@ -123,11 +121,11 @@ answer_plain R u report closed result reports line is = subst (λ (it : Texts). 
     by (Err fault) closed (inl (cause, is, way)) line = obstacle_plain fault cause is
     by (Err fault) closed (inr of) line = line_plain fault of
 
-module _ {M D : Type 0} (g : disk.Ghosts D) (opens : Opening M D) (shuts : Shutting M) (ends : Ending M D) (path : List ℕ) (dry_run : Bool) (u : Update) where
+module _ {M S : Type 0} (g : Ghosts S) (opens : Opening M S) (shuts : Shutting M) (ends : Ending M S) (path : List ℕ) (dry_run : Bool) (u : Update) where
   -- the register of the database at the path was updated, or something was in the way
-  pub updated_at : (report result : Texts) (closed : Done) (old between new : M) (desk : Desk (Over g)) (store after : Over g)
-      → IsUp g opens path (unlogged over_files) old between desk → ReportsUpdate desk.book.register u report
-      → IsDone over_files dry_run desk.book.register u report desk.store store → after ≡ store → Ends ends after closed between new → IfErr closed IsOfLine
+  pub updated_at : (report result : Texts) (closed : Done) (old between new : M) (desk : Desk (Held S)) (store after : Held S)
+      → IsUp opens path (unlogged g) old between desk → ReportsUpdate desk.book.register u report
+      → IsDone g dry_run desk.book.register u report desk.store store → after ≡ store → Ends ends after closed between new → IfErr closed IsOfLine
       → result ≡ first_fault report closed → UpdatesAt g opens shuts ends path dry_run u result old new
   updated_at report result closed old between new desk store after up reports done same ended line is = inr (record {
     before = up.before;
@@ -146,12 +144,12 @@ module _ {M D : Type 0} (g : disk.Ghosts D) (opens : Opening M D) (shuts : Shutt
         result_is = is;
       },
     );
-    ended = subst (λ (h : Over g). Ends ends h closed between new) same ended;
+    ended = subst (λ (h : Held S). Ends ends h closed between new) same ended;
   })
 
   -- or it was not read
   pub not_updated_at : (result : Texts) (old new : M) (fault : Fault) → IsErrAnd result (λ cause. cause ≡ fault)
-      → IsNotUp g opens shuts ends path (unlogged over_files) old new fault → UpdatesAt g opens shuts ends path dry_run u result old new
+      → IsNotUp opens shuts ends path (unlogged g) old new fault → UpdatesAt g opens shuts ends path dry_run u result old new
   not_updated_at (Ok value) old new fault is not = absurd is
   not_updated_at (Err cause) old new fault is (inl (line, shut)) = inl (fault, ap Err is, line, shut)
   not_updated_at (Err cause) old new fault is (inr visit) = inr (record {

@@ -4,11 +4,7 @@ use Rattle.std.specs.Borrow.{Bor}
 use Rattle.std.specs.Prelude.{IfErr, IsErrAnd, position}
 use Rattle.std.specs.declared.io.ErrorKind.{ErrorKind}
 use Rattle.std.specs.declared.io.ErrorKind.TheVariants.{OutOfMemory}
-use Rattle.sqlite.specs.Files.{over_files}
 use Rattle.sqlite.specs.Held.{Held}
-use Rattle.sqlite_disk.specs.declared.Disk as disk
-use Rattle.sqlite_disk.specs.declared.Files.{Files}
-use Rattle.sqlite_store.specs.declared.store.FileStore.{FileStore}
 use Rattle.sqlite_trees.specs.declared.store.Store.{Ghosts}
 use Rattle.clr_stream.specs.Streams.{IsCut, Stream, WentOut}
 use Rattle.clr_http.specs.declared.registrar.Registrar as registrar
@@ -27,7 +23,7 @@ use Rattle.clr_keeping.specs.TakenUp.{IsNotTakenUp, Logs}
 use Rattle.clr_keeping.specs.TakenUp.IsNotTakenUp.{apart as was_apart, refused as was_refused, unopened as was_unopened, unplaced as was_unplaced, without as was_without}
 use Rattle.clr_edge.specs.Logins.{is_employee, unless_unknown}
 use Rattle.clr_edge.specs.Loopback.{listen_fault}
-use Rattle.clr_edge.specs.Visit.{Copies, Done, Ending, Opening, Shutting, first_fault}
+use Rattle.clr_edge.specs.Visit.{Done, Ending, Opening, Shutting, first_fault}
 use Rattle.clr_edge.specs.declared.fault.Fault.{Fault}
 use Rattle.clr_edge.specs.declared.fault.Fault.TheVariants.{Output, UnknownEmployee}
 use Rattle.clr_edge.specs.declared.loopback.Loopback as loopback
@@ -92,10 +88,9 @@ not_taken_other g logs path old new before after fault (was_without it is same) 
 not_taken_other g logs path old new before after fault (was_unopened place it of shuts) e = (taking_up_plain fault (inr (inr (inl of)))).0 e
 not_taken_other g logs path old new before after fault (was_apart it) e = (taking_up_plain fault (inr (inr (inr (it.cause, it.fault_is))))).0 e
 
-closed_other : {D : Type 0} (g : disk.Ghosts D) (c : Held (FileStore D g)) (last : FileStore D g) (files : Files D) (closed : Done)
-    → Copies g c last files closed → IfErr closed (λ fault. fault ≢ Output)
-closed_other g c last files (Ok value) copies = tt
-closed_other g c last files (Err fault) (error, is, cause) = other_as fault _ is (store_other _)
+closed_other : (closed : Done) → IfErr closed IsOfLine → IfErr closed (λ fault. fault ≢ Output)
+closed_other (Ok value) line = tt
+closed_other (Err fault) line = line_other fault line
 
 -- WHAT A SERVER WROTE, by its result: its line, and what is reported of each connection; nothing,
 -- or a part of its line, where it did not begin
@@ -167,10 +162,10 @@ module _ {D M L R W : Type 0} (by : registrar.Ghosts D) (net : loopback.Ghosts M
 
 module _ {M L R W : Type 0} (net : loopback.Ghosts M L R W) (seen : Seen R W) (output output' errors errors' : Stream) (args : ServeArgs) (logins : Option (List LoginRow)) where
   over_written : {T K : Type 0} (by : Keeping M T K) → ((old new : M) (before after : Held T) (fault : Fault) → by.refuses old new before fault after → fault ≢ Output)
-      → (result : Done) (old new : M) (before after : Held T) (closed : Done) → IfErr closed (λ fault. fault ≢ Output)
+      → (result : Done) (old new : M) (before after : Held T) (closed : Done)
       → WorksIn by ((output' ≡ output) × (errors' ≡ errors)) (ServesDesk net seen args logins output output' errors errors' by.keeper) first_fault result old before after closed new
       → Writes args.port args.count result output output' errors errors'
-  over_written {T} {K} by refused_other result old new before after closed other did =
+  over_written {T} {K} by refused_other result old new before after closed did =
       subst (λ (r : Done). Writes args.port args.count r output output' errors errors') (sym did.result_is) (of did.told did.works)
     where
       of : (told : Done) → (IsErrAnd told (λ fault. by.refuses old new before fault after) × ((output' ≡ output) × (errors' ≡ errors)))
@@ -180,26 +175,24 @@ module _ {M L R W : Type 0} (net : loopback.Ghosts M L R W) (seen : Seen R W) (o
       of (Err fault) (inl (refused, (same, quiet))) = inl (refused_other old new before after fault refused, same, quiet)
       of told (inr it) =
           asked_written (desk_keeps by.keeper) net seen output output' errors errors' args it.taken.book.register.staff logins it.taken it.left told closed
-          it.between it.later it.did.serves other
+          it.between it.later it.did.serves (closed_other closed did.closing)
 
-  kept_written : {D J C : Type 0} (logs : Logs M J C) (g : disk.Ghosts D) (opens : Opening M D) (shuts : Shutting M) (ends : Ending M D)
+  kept_written : {S J C : Type 0} (logs : Logs M J C) (g : Ghosts S) (opens : Opening M S) (shuts : Shutting M) (ends : Ending M S)
       (journal : Option (Bor (List ℕ))) (path : List ℕ) (result : Done) (old new : M)
       → ServesKept net seen args logins output output' errors errors' logs g opens shuts ends journal path result old new
       → Writes args.port args.count result output output' errors errors'
   kept_written logs g opens shuts ends journal path result old new (inl (fault, is, line, (shut, same, quiet))) =
       unserved_written output output' errors errors' args.port args.count fault result (line_other fault line) is same quiet
   kept_written logs g opens shuts ends None path result old new (inr visit) =
-      let (files, left, back) = visit.ended in
-      over_written (unlogged over_files) (λ old new before after fault not. not_alone_other over_files before after fault not.1)
-      result visit.middle visit.later visit.before visit.after visit.closed (closed_other g visit.after left.last files visit.closed left.copies) visit.does
+      over_written (unlogged g) (λ old new before after fault not. not_alone_other g before after fault not.1)
+      result visit.middle visit.later visit.before visit.after visit.closed visit.does
   kept_written logs g opens shuts ends (Some journal) path result old new (inr visit) =
-      let (files, left, back) = visit.ended in
-      over_written (logged over_files logs journal.now) (λ old new before after fault not. not_taken_other over_files logs journal.now old new before after fault not)
-      result visit.middle visit.later visit.before visit.after visit.closed (closed_other g visit.after left.last files visit.closed left.copies) visit.does
+      over_written (logged g logs journal.now) (λ old new before after fault not. not_taken_other g logs journal.now old new before after fault not)
+      result visit.middle visit.later visit.before visit.after visit.closed visit.does
 
 module _ {M L R W J C : Type 0} (logs : Logs M J C) (net : loopback.Ghosts M L R W) (seen : Seen R W) (output output' errors errors' : Stream) where
   -- what `serve` wrote
-  pub serve_written : {D : Type 0} (at : AtPaths) (args : ServeArgs) (g : disk.Ghosts D) (opens : Opening M D) (shuts : Shutting M) (ends : Ending M D)
+  pub serve_written : {S : Type 0} (at : AtPaths) (args : ServeArgs) (g : Ghosts S) (opens : Opening M S) (shuts : Shutting M) (ends : Ending M S)
       (result : Done) (old new : M) → ServesAt logs net seen at args output output' errors errors' g opens shuts ends result old new
       → Writes args.port args.count result output output' errors errors'
   serve_written at args g opens shuts ends result old new (Ok logins, named, did) =

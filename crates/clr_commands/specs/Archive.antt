@@ -1,10 +1,8 @@
 -- WHAT `archive` DOES: of the register that a database has, the records that were closed before a
 -- moment go out with their steps, and then these steps leave the tables.
 use Rattle.std.specs.Prelude.{◌≡◌, ◌⊎◌, ℕ, IfErr, IsErrAnd, IsTrue, List, OnErr, OnOk}
-use Rattle.sqlite.specs.Files.{over_files}
 use Rattle.sqlite.specs.Held.{Held, state}
 use Rattle.sqlite.specs.State.{HasCleanDisk, Survives}
-use Rattle.sqlite_disk.specs.declared.Disk as disk
 use Rattle.sqlite_trees.specs.declared.store.Store.{Ghosts}
 use Rattle.clr_archive.specs.Archive.{archived}
 use Rattle.clr_args.specs.declared.asked.ArchiveArgs.{ArchiveArgs}
@@ -65,8 +63,8 @@ pub record ArchivesOver {S : Type 0} (g : Ghosts S) (args : ArchiveArgs) (output
   pub result_is : result ≡ first_fault told closed
 
 -- over the database at a path; where that was not opened, nothing went out
-abbrev pub ArchivesAt : {M D : Type 0} → (g : disk.Ghosts D) → Opening M D → Shutting M
-    → Ending M D → ArchiveArgs → Stream → Stream → Done → M → M → Type 0
-ArchivesAt g opens shuts ends args output output' = Comes g opens
+abbrev pub ArchivesAt : {M S : Type 0} → Ghosts S → Opening M S → Shutting M → Ending M S
+    → ArchiveArgs → Stream → Stream → Done → M → M → Type 0
+ArchivesAt g opens shuts ends args output output' = Comes opens
     (λ old path fault new. shuts old path fault new × (output' ≡ output)) ends args.database.now
-    (Alone (ArchivesOver over_files args output output'))
+    (Alone (ArchivesOver g args output output'))

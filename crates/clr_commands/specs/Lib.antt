@@ -15,6 +15,7 @@ pub mod Logins
 pub mod Migrate
 pub mod NextPart
 pub mod Order
+pub mod PartAfter
 pub mod Replies
 pub mod Run
 pub mod Serve

@@ -3,9 +3,7 @@ use Rattle.std.specs.Prelude.{◌≡◌, ◌⊎◌, ℕ, List, ◌++◌, IfErr, 
 use Rattle.std.specs.Prelude.{Some, String, codes, string_bytes}
 use Rattle.std.specs.Borrow.{Bor}
 use Rattle.std.specs.declared.alloc.Global.{Global}
-use Rattle.sqlite.specs.Files.{over_files}
 use Rattle.sqlite.specs.Held.{Held}
-use Rattle.sqlite_disk.specs.declared.Disk as disk
 use Rattle.sqlite_trees.specs.declared.store.Store.{Ghosts}
 use Rattle.clr_rules.specs.Register.{Register}
 use Rattle.clr_place.specs.declared.place.Place.{Place}
@@ -17,8 +15,10 @@ use Rattle.clr_keeping.specs.TakenUp.{Logs}
 use Rattle.clr_edge.specs.Visit.{Alone, Comes, Done, Ending, MovesRegister, Opening, Shutting}
 use Rattle.clr_edge.specs.Visit.{first_fault}
 use Rattle.clr_edge.specs.declared.fault.Fault.{Fault}
-use Rattle.clr_edge.specs.declared.fault.Fault.TheVariants.{Memory}
+use Rattle.clr_edge.specs.declared.fault.Fault.TheVariants.{Journal, Memory}
+use Rattle.clr_edge.specs.declared.fault.JournalFault.TheVariants.{Missing}
 use Rattle.clr_commands.specs.First.{board_files, first_place, made_at}
+use Rattle.clr_commands.specs.PartAfter.{BeginsAfter}
 
 -- the version of the tables, on a line
 abbrev pub version_line : List ℕ
@@ -68,22 +68,39 @@ pub record BeginsIn {M J C T : Type 0} (g : Ghosts T) (logs : Logs M J C) (momen
   pub closing : IfErr closed IsOfLine
   pub result_is : result ≡ first_fault report closed
 
-abbrev pub BeginsJournal : {M D J C : Type 0} → Logs M J C → (g : disk.Ghosts D) → Opening M D
-    → Shutting M → Ending M D → List ℕ → List ℕ → Result (String Global) Fault → M → M → Type 0
+abbrev pub BeginsJournal : {M S J C : Type 0} → Logs M J C → Ghosts S → Opening M S
+    → Shutting M → Ending M S → List ℕ → List ℕ → Result (String Global) Fault → M → M → Type 0
 BeginsJournal {C = C} logs g opens shuts ends path journal result old new = (time : C)
     × logs.steps.has_time old time × (moment : ℕ) × logs.shows time moment
-    × Comes g opens shuts ends path (BeginsIn over_files logs moment path journal) result old new
+    × Comes opens shuts ends path (BeginsIn g logs moment path journal) result old new
+
+-- ---- what is asked for
+
+-- the tables are moved, where no number is named
+abbrev pub MovesUnless : {M : Type 0} → (Done → M → M → Type 0) → Option (Bor (List ℕ))
+    → Result (String Global) Fault → M → M → Type 0
+MovesUnless Moves None result old new = Migrates Moves result old new
+MovesUnless Moves (Some after) result old new = (result ≡ Err (Journal Missing)) × (new ≡ old)
+
+-- a journal is begun; or a part of one, where the number is named at which it ends
+abbrev pub BeginsWith : {M S J C : Type 0} → Logs M J C → Ghosts S → Opening M S → Shutting M
+    → Ending M S → List ℕ → List ℕ → Option (Bor (List ℕ)) → Result (String Global) Fault → M → M
+    → Type 0
+BeginsWith logs g opens shuts ends path journal None =
+    BeginsJournal logs g opens shuts ends path journal
+BeginsWith logs g opens shuts ends path journal (Some after) =
+    BeginsAfter logs g opens shuts ends path journal after.now
 
 -- what `migrate` does of what it is asked
-abbrev pub MigratesBy : {M D J C : Type 0} → Logs M J C → (g : disk.Ghosts D) → Opening M D
-    → Shutting M → Ending M D → List ℕ → Option (Bor (List ℕ)) → Result (String Global) Fault
-    → M → M → Type 0
-MigratesBy logs g opens shuts ends path None =
-    Migrates (Comes g opens shuts ends path (Alone (MovesRegister over_files)))
-MigratesBy logs g opens shuts ends path (Some journal) =
-    BeginsJournal logs g opens shuts ends path journal.now
+abbrev pub MigratesBy : {M S J C : Type 0} → Logs M J C → Ghosts S → Opening M S
+    → Shutting M → Ending M S → List ℕ → Option (Bor (List ℕ)) → Option (Bor (List ℕ))
+    → Result (String Global) Fault → M → M → Type 0
+MigratesBy logs g opens shuts ends path None after =
+    MovesUnless (Comes opens shuts ends path (Alone (MovesRegister g))) after
+MigratesBy logs g opens shuts ends path (Some journal) after =
+    BeginsWith logs g opens shuts ends path journal.now after
 
-abbrev pub MigratesAt : {M D J C : Type 0} → Logs M J C → (g : disk.Ghosts D) → Opening M D
-    → Shutting M → Ending M D → MigrateArgs → Result (String Global) Fault → M → M → Type 0
+abbrev pub MigratesAt : {M S J C : Type 0} → Logs M J C → Ghosts S → Opening M S
+    → Shutting M → Ending M S → MigrateArgs → Result (String Global) Fault → M → M → Type 0
 MigratesAt logs g opens shuts ends args =
-    MigratesBy logs g opens shuts ends args.database.now args.journal
+    MigratesBy logs g opens shuts ends args.database.now args.journal args.after

@@ -2,7 +2,7 @@
 use Rattle.std.specs.Prelude.{◌≡◌, ◌⊎◌, ◌++◌, ℕ, List, Result, Ok, Err, String, codes, decimal}
 use Rattle.std.specs.Prelude.{string_bytes}
 use Rattle.std.specs.declared.alloc.Global.{Global}
-use Rattle.sqlite_disk.specs.declared.Disk as disk
+use Rattle.sqlite_trees.specs.declared.store.Store.{Ghosts}
 use Rattle.clr_args.specs.declared.asked.NextPartArgs.{NextPartArgs}
 use Rattle.clr_keeping.specs.Beginning.{BeginsNextAt}
 use Rattle.clr_keeping.specs.TakenUp.{Logs}
@@ -20,8 +20,8 @@ PrintsNext (Ok number) (Err fault) = fault ≡ Memory
 PrintsNext (Err fault) (Ok text) = ⊥
 PrintsNext (Err fault) (Err told) = told ≡ fault
 
-abbrev pub BeginsNext : {M D J C : Type 0} → Logs M J C → (g : disk.Ghosts D) → Opening M D
-    → Shutting M → Ending M D → NextPartArgs → Result (String Global) Fault → M → M → Type 0
+abbrev pub BeginsNext : {M S J C : Type 0} → Logs M J C → Ghosts S → Opening M S
+    → Shutting M → Ending M S → NextPartArgs → Result (String Global) Fault → M → M → Type 0
 BeginsNext logs g opens shuts ends args result old new = (told : Result ℕ Fault)
     × PrintsNext told result
     × BeginsNextAt logs g opens shuts ends args.database.now args.path.now args.next.now told

@@ -16,10 +16,8 @@ use Rattle.clr_desk.specs.Taking.{Taking, TakesRun}
 use Rattle.clr_desk.specs.declared.commit.Commit as commit
 use Rattle.clr_desk.specs.declared.desk.Desk.{Desk}
 use Rattle.clr_desk.specs.declared.desk_fault.DeskFault.{DeskFault}
-use Rattle.sqlite.specs.Files.{over_files}
 use Rattle.sqlite.specs.Held.{Held}
 use Rattle.sqlite.specs.State.{State}
-use Rattle.sqlite_disk.specs.declared.Disk as disk
 use Rattle.sqlite_trees.specs.declared.store.Store.{Ghosts}
 use Rattle.clr_args.specs.declared.asked.Files.{Files}
 use Rattle.clr_args.specs.declared.asked.RunArgs.{RunArgs}
@@ -147,11 +145,11 @@ RunsOver logs g journal input =
     WorksWith logs g journal (Unit {0}) (RunsAlone input) printed_after
 
 -- over the database at a path, which is closed after it
-abbrev pub RunsKept : {M J C D : Type 0} → Logs M J C → (g : disk.Ghosts D) → Opening M D
-    → Shutting M → Ending M D → Option (List ℕ) → StoredArgs → Result Printed Fault → M → M
+abbrev pub RunsKept : {M J C S : Type 0} → Logs M J C → Ghosts S → Opening M S
+    → Shutting M → Ending M S → Option (List ℕ) → StoredArgs → Result Printed Fault → M → M
     → Type 0
-RunsKept logs g opens shuts ends input args = Comes g opens shuts ends args.database.now
-    (RunsOver logs over_files args.journal input)
+RunsKept logs g opens shuts ends input args = Comes opens shuts ends args.database.now
+    (RunsOver logs g args.journal input)
 
 -- what `run` answers of what it was asked for: three files, and no database is opened; or a
 -- database, where `Comes` says how

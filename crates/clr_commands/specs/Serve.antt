@@ -3,8 +3,7 @@
 use Rattle.std.specs.Prelude.{◌≡◌, ◌⊎◌, ℕ, List, [], ◌∷◌, ◌++◌, codes, decimal}
 use Rattle.std.specs.Prelude.{false, IfErr, Option, Result, Ok, Err}
 use Rattle.std.specs.Borrow.{Bor}
-use Rattle.sqlite.specs.Files.{over_files}
-use Rattle.sqlite_disk.specs.declared.Disk as disk
+use Rattle.sqlite_trees.specs.declared.store.Store.{Ghosts}
 use Rattle.clr_stream.specs.Streams.{IsCut, Stream, WentOut}
 use Rattle.clr_rules.specs.Good.{IsGood}
 use Rattle.clr_rules.specs.Staffed.{IsStaffed}
@@ -84,18 +83,18 @@ module _ {M L R W : Type 0} (net : loopback.Ghosts M L R W) (seen : Seen R W) (a
 
   -- what is done over the database at a path, with a journal or without one; where that was not
   -- opened, or the register not taken up, nothing went out
-  abbrev pub ServesKept : {D J C : Type 0} → Logs M J C → (g : disk.Ghosts D) → Opening M D
-      → Shutting M → Ending M D → Option (Bor (List ℕ)) → List ℕ → Done → M → M → Type 0
-  ServesKept logs g opens shuts ends journal path = Comes g opens
+  abbrev pub ServesKept : {S J C : Type 0} → Logs M J C → Ghosts S → Opening M S
+      → Shutting M → Ending M S → Option (Bor (List ℕ)) → List ℕ → Done → M → M → Type 0
+  ServesKept logs g opens shuts ends journal path = Comes opens
       (λ old path fault new. shuts old path fault new × (output' ≡ output) × (errors' ≡ errors))
-      ends path (WorksWith logs over_files journal ((output' ≡ output) × (errors' ≡ errors))
+      ends path (WorksWith logs g journal ((output' ≡ output) × (errors' ≡ errors))
       (λ K keeper. ServesDesk keeper) first_fault)
 
 -- WHAT `serve` DOES: it reads the file of logins, if one is named, before it opens the database, and
 -- opens none where that file has a fault
-module _ {M D L R W J C : Type 0} (logs : Logs M J C) (net : loopback.Ghosts M L R W)
+module _ {M S L R W J C : Type 0} (logs : Logs M J C) (net : loopback.Ghosts M L R W)
     (seen : Seen R W) (at : AtPaths) (args : ServeArgs) (output output' errors errors' : Stream)
-    (g : disk.Ghosts D) (opens : Opening M D) (shuts : Shutting M) (ends : Ending M D) where
+    (g : Ghosts S) (opens : Opening M S) (shuts : Shutting M) (ends : Ending M S) where
   abbrev pub ServesRead : Result (Option (List LoginRow)) Fault → Done → M → M → Type 0
   ServesRead (Ok logins) served old new = ServesKept net seen args logins output output' errors
       errors' logs g opens shuts ends args.journal args.database.now served old new

@@ -2,10 +2,8 @@
 use Rattle.std.specs.Prelude.{◌≡◌, ◌≢◌, ◌⊎◌, ℕ, Err, IfErr, IfOk, List, Ok, OnOk, Result, String}
 use Rattle.std.specs.Prelude.{string_bytes}
 use Rattle.std.specs.declared.alloc.Global.{Global}
-use Rattle.sqlite.specs.Files.{over_files}
 use Rattle.sqlite.specs.Held.{Held, state}
 use Rattle.sqlite.specs.State.{HasCleanDisk, Survives}
-use Rattle.sqlite_disk.specs.declared.Disk as disk
 use Rattle.sqlite_trees.specs.declared.store.Store.{Ghosts}
 use Rattle.clr_rules.specs.CrewSafety.{CrewsAreSafe}
 use Rattle.clr_rules.specs.Fit.{IsFit}
@@ -14,7 +12,7 @@ use Rattle.clr_print.specs.Printed.{board_text}
 use Rattle.clr_args.specs.declared.asked.BoardArgs.{BoardArgs}
 use Rattle.clr_args.specs.declared.asked.OrderArgs.{OrderArgs}
 use Rattle.clr_edge.specs.Database.{HasRegister, IsOfLine, IsOnlyRead, IsRefused, ReadsAs}
-use Rattle.clr_edge.specs.Visit.{Alone, Done, Over}
+use Rattle.clr_edge.specs.Visit.{Alone, Done}
 use Rattle.clr_edge.specs.declared.fault.Fault.{Fault}
 use Rattle.clr_edge.specs.declared.fault.Fault.TheVariants.{Memory, NoSuch}
 use Rattle.clr_commands.specs.Answers.{IsMemory, Prints}
@@ -62,12 +60,12 @@ abbrev pub WhileOpen : {M T H : Type 0} → (Result T Fault → H → H → Type
 WhileOpen Does = Alone (λ result before after closed. Does result before after)
 
 -- what `board` does over a database that is opened for it
-abbrev pub PrintsBoard : {M D : Type 0} {g : disk.Ghosts D} → BoardArgs → Result (String Global) Fault
-    → M → Over g → Over g → Done → M → Type 0
-PrintsBoard args =
-    WhileOpen (PrintsOf over_files IsMemory (λ Q. Ok (board_text Q args.offset.minutes)))
+abbrev pub PrintsBoard : {M S : Type 0} → Ghosts S → BoardArgs → Result (String Global) Fault → M
+    → Held S → Held S → Done → M → Type 0
+PrintsBoard g args =
+    WhileOpen (PrintsOf g IsMemory (λ Q. Ok (board_text Q args.offset.minutes)))
 
 -- what `order` does
-abbrev pub PrintsOrder : {M D : Type 0} {g : disk.Ghosts D} → OrderArgs → Result (String Global) Fault
-    → M → Over g → Over g → Done → M → Type 0
-PrintsOrder args = WhileOpen (PrintsOf over_files IsOfOrder (λ Q. order_asked_for Q args))
+abbrev pub PrintsOrder : {M S : Type 0} → Ghosts S → OrderArgs → Result (String Global) Fault → M
+    → Held S → Held S → Done → M → Type 0
+PrintsOrder g args = WhileOpen (PrintsOf g IsOfOrder (λ Q. order_asked_for Q args))

@@ -4,10 +4,8 @@ use Rattle.std.specs.Prelude.{◌≡◌, ◌≢◌, ◌⊎◌, ℕ, Bool, true, 
 use Rattle.std.specs.Prelude.{List, [], ◌∷◌, map, None, OnErr, OnOk, Result, Ok, Err, Some, String}
 use Rattle.std.specs.Prelude.{string_bytes}
 use Rattle.std.specs.declared.alloc.Global.{Global}
-use Rattle.sqlite.specs.Files.{over_files}
 use Rattle.sqlite.specs.Held.{Held, state}
 use Rattle.sqlite.specs.State.{HasCleanDisk, Survives}
-use Rattle.sqlite_disk.specs.declared.Disk as disk
 use Rattle.sqlite_trees.specs.declared.store.Store.{Ghosts}
 use Rattle.clr_net.specs.NameText.{read_name}
 use Rattle.clr_net.specs.Network as network
@@ -126,14 +124,14 @@ UpdatesTo Comes rows words old new result = (RefusesUpdate rows words result × 
     ⊎ ((u : Update) × IsUpdateTo rows words u × Comes u result old new)
 
 -- over the database at a path
-abbrev pub UpdatesAt : {M D : Type 0} → (g : disk.Ghosts D) → Opening M D → Shutting M → Ending M D
+abbrev pub UpdatesAt : {M S : Type 0} → Ghosts S → Opening M S → Shutting M → Ending M S
     → List ℕ → Bool → Update → Texts → M → M → Type 0
 UpdatesAt g opens shuts ends path dry_run u =
-    Comes g opens shuts ends path (Alone (UpdatesOver over_files dry_run u))
+    Comes opens shuts ends path (Alone (UpdatesOver g dry_run u))
 
 -- the same of the files at their paths
-abbrev pub UpdatesFiles : {M D : Type 0} → AtPaths → (g : disk.Ghosts D) → Opening M D → Shutting M
-    → Ending M D → UpdateArgs → Texts → M → M → Type 0
+abbrev pub UpdatesFiles : {M S : Type 0} → AtPaths → Ghosts S → Opening M S → Shutting M
+    → Ending M S → UpdateArgs → Texts → M → M → Type 0
 UpdatesFiles at g opens shuts ends args result old new =
     AnswersFiles at args.files (new ≡ old) (λ rows result.
     UpdatesTo (UpdatesAt g opens shuts ends args.database.now args.dry_run) rows

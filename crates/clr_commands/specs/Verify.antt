@@ -6,9 +6,7 @@ use Rattle.std.specs.Prelude.{IfErr, IfSome, IsSomeAnd, OnErr, String, codes, de
 use Rattle.std.specs.Prelude.{slice_get, string_bytes, ⊤}
 use Rattle.std.specs.Borrow.{Bor}
 use Rattle.std.specs.declared.alloc.Global.{Global}
-use Rattle.sqlite.specs.Files.{over_files}
 use Rattle.sqlite.specs.Held.{Held, state}
-use Rattle.sqlite_disk.specs.declared.Disk as disk
 use Rattle.sqlite_trees.specs.declared.store.Store.{Ghosts}
 use Rattle.clr_append.specs.Lines.{ended_lines}
 use Rattle.clr_book.specs.Book.{Shelved}
@@ -27,7 +25,7 @@ use Rattle.clr_edge.specs.Answers.{After}
 use Rattle.clr_edge.specs.Lines.{ends_whole}
 use Rattle.clr_keeping.specs.Keeping.{IsNotRead, IsReadFrom}
 use Rattle.clr_keeping.specs.TakenUp.{HasPlace, IsUnplaced, IsUnsuited, LacksPlace, StaysRead}
-use Rattle.clr_edge.specs.Visit.{Done, Over}
+use Rattle.clr_edge.specs.Visit.{Done}
 use Rattle.clr_edge.specs.declared.fault.Fault.{Fault}
 use Rattle.clr_edge.specs.declared.fault.Fault.TheVariants.{Journal, Memory, Verify}
 use Rattle.clr_edge.specs.declared.fault.JournalFault.TheVariants as why
@@ -64,9 +62,9 @@ IsRead g (Err fault) before after = IsNotRead g before fault after
     ⊎ ((fault ≡ Journal why.OtherRegister) × IsUnsuited g before None after)
 
 -- while the database is open
-abbrev pub ReadsPlaced : {M D : Type 0} {g : disk.Ghosts D} → Result Placed Fault → M → Over g
-    → Over g → Done → M → Type 0
-ReadsPlaced = WhileOpen (IsRead over_files)
+abbrev pub ReadsPlaced : {M S : Type 0} → Ghosts S → Result Placed Fault → M → Held S → Held S
+    → Done → M → Type 0
+ReadsPlaced g = WhileOpen (IsRead g)
 
 -- the same over a desk, whose register was read before
 abbrev pub IsPlacedRead : {S : Type 0} → Ghosts S → Held S → Register → Result Placed Fault

@@ -2,8 +2,8 @@
 -- `run` takes.
 use Rattle.std.specs.Prelude.{◌≡◌, ◌⊎◌, ℕ, List, Option, None, Some, Result, Ok, Err, String}
 use Rattle.std.specs.declared.alloc.Global.{Global}
-use Rattle.sqlite.specs.Files.{over_files}
-use Rattle.sqlite_disk.specs.declared.Disk as disk
+use Rattle.sqlite.specs.Held.{Held}
+use Rattle.sqlite_trees.specs.declared.store.Store.{Ghosts}
 use Rattle.clr_rules.specs.Id.{Id}
 use Rattle.clr_rules.specs.IdText.{read_id}
 use Rattle.clr_rules.specs.Register.{Register}
@@ -12,7 +12,7 @@ use Rattle.clr_wayback.specs.Text.{way_back_text}
 use Rattle.clr_wayback.specs.declared.answer.WayBack.{WayBack}
 use Rattle.clr_wayback.specs.declared.answer.WayBack.TheVariants as way
 use Rattle.clr_args.specs.declared.asked.WayBackArgs.{WayBackArgs}
-use Rattle.clr_edge.specs.Visit.{Done, Over}
+use Rattle.clr_edge.specs.Visit.{Done}
 use Rattle.clr_edge.specs.declared.fault.Fault.{Fault}
 use Rattle.clr_edge.specs.declared.fault.Fault.TheVariants.{Memory, NoSuch, NoWay}
 use Rattle.clr_commands.specs.Stored.{AnswersOf, WhileOpen}
@@ -49,6 +49,6 @@ IsWayBackOf args R known = (way_back_asked_for R args ≡ known)
     × GivesBackTo R (read_id args.clearance.now)
 
 -- what `wayback` does over a database that is opened for it
-abbrev pub PrintsWayBack : {M D : Type 0} {g : disk.Ghosts D} → WayBackArgs
-    → Result (String Global) Fault → M → Over g → Over g → Done → M → Type 0
-PrintsWayBack args = WhileOpen (AnswersOf over_files IsOfWayBack (IsWayBackOf args))
+abbrev pub PrintsWayBack : {M S : Type 0} → Ghosts S → WayBackArgs → Result (String Global) Fault
+    → M → Held S → Held S → Done → M → Type 0
+PrintsWayBack g args = WhileOpen (AnswersOf g IsOfWayBack (IsWayBackOf args))

@@ -36,7 +36,7 @@ pub fn archive<R: Databases, W: CountedFlush>(
     args: &ArchiveArgs<'_>,
     output: &mut W,
 ) -> Result<(), Fault>
-    ensures visit { ArchivesAt R.Medium.Disk R.opens R.shuts R.ends args.now
+    ensures visit { ArchivesAt R.Tables.Store R.opens R.shuts R.ends args.now
         (W.stream output.old) (W.stream output.new) result rt.old rt.new }
 {
     let desk = unlogged_desk(alloc, rt, args.database)?;

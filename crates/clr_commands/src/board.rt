@@ -18,8 +18,8 @@ use std::alloc::Global;
 /// What `board DB [--offset MINUTES]` prints. It is also printed where the database cannot be closed,
 /// as on a full disk.
 pub fn board<R: Databases>(alloc: Global, rt: &mut R, args: &BoardArgs<'_>) -> Result<String, Fault>
-    ensures visit { Comes R.Medium.Disk R.opens R.shuts R.ends args.now.database.now
-        (PrintsBoard args.now) result rt.old rt.new }
+    ensures visit { Comes R.opens R.shuts R.ends args.now.database.now
+        (PrintsBoard R.Tables.Store args.now) result rt.old rt.new }
     ensures faults { IfErr result IsOfSubcommand }
 {
     let desk = open_desk(alloc, rt, args.database)?;

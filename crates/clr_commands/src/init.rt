@@ -1,6 +1,5 @@
 //! The subcommand `init`: the check of the files of a network and its staff, and a register of them.
 ghost use Rattle.std.specs.Prelude.{◌≡◌, IfErr, IfOk, string_bytes};
-ghost use Rattle.sqlite.specs.Files.{over_files};
 ghost use Rattle.clr_commands.specs.Answers.{GivesText, IsMemory};
 ghost use Rattle.clr_commands.specs.Faults.{IsOfSubcommand};
 ghost use Rattle.clr_commands.specs.Import.{contents_of, lists_of};
@@ -37,11 +36,11 @@ pub fn init<'a, R: Makes + Journals, O: Opens<'a>>(
 ) -> Result<String, Fault>
     ensures visit { InitsAt
         (at_paths O.File.remaining O.File.failure_count (O.bytes_at paths.now))
-        (λ path register. Comes R.Medium.Disk R.makes R.shuts R.ends path
-        (Alone (MakesRegister over_files register)))
+        (λ path register. Comes R.makes R.shuts R.ends path
+        (Alone (MakesRegister R.Tables.Store register)))
         (InitsWith (logs R.Journals R.Log.Journal R.Time.shows)
-        (λ path register first. Comes R.Medium.Disk R.makes R.shuts R.ends path
-        (Alone (MakesRegisterAt over_files register first)))) args.now result rt.old rt.new }
+        (λ path register first. Comes R.makes R.shuts R.ends path
+        (Alone (MakesRegisterAt R.Tables.Store register first)))) args.now result rt.old rt.new }
     ensures faults { IfErr result IsOfSubcommand }
 {
     match args.stored {
@@ -64,11 +63,11 @@ fn init_stored<'a, R: Makes + Journals, O: Opens<'a>>(
 ) -> Result<String, Fault>
     ensures visit { InitsInto
         (at_paths O.File.remaining O.File.failure_count (O.bytes_at paths.now))
-        (λ path register. Comes R.Medium.Disk R.makes R.shuts R.ends path
-        (Alone (MakesRegister over_files register)))
+        (λ path register. Comes R.makes R.shuts R.ends path
+        (Alone (MakesRegister R.Tables.Store register)))
         (InitsWith (logs R.Journals R.Log.Journal R.Time.shows)
-        (λ path register first. Comes R.Medium.Disk R.makes R.shuts R.ends path
-        (Alone (MakesRegisterAt over_files register first)))) files.now stored.now.database.now
+        (λ path register first. Comes R.makes R.shuts R.ends path
+        (Alone (MakesRegisterAt R.Tables.Store register first)))) files.now stored.now.database.now
         stored.now.journal result rt.old rt.new }
     ensures faults { IfErr result IsOfSubcommand }
 {
@@ -92,8 +91,8 @@ fn init_logged<'a, R: Makes + Journals, O: Opens<'a>>(
     journal: &str,
 ) -> Result<String, Fault>
     ensures visit { InitsWith (logs R.Journals R.Log.Journal R.Time.shows)
-        (λ path register first. Comes R.Medium.Disk R.makes R.shuts R.ends path
-        (Alone (MakesRegisterAt over_files register first)))
+        (λ path register first. Comes R.makes R.shuts R.ends path
+        (Alone (MakesRegisterAt R.Tables.Store register first)))
         (at_paths O.File.remaining O.File.failure_count (O.bytes_at paths.now)) files.now
         database.now journal.now result rt.old rt.new }
     ensures faults { IfErr result IsOfSubcommand }
@@ -112,8 +111,8 @@ fn register_with_journal<R: Makes + Journals>(
     journal: &str,
 ) -> Result<String, Fault>
     ensures visit { StoresWith (logs R.Journals R.Log.Journal R.Time.shows)
-        (λ path register first. Comes R.Medium.Disk R.makes R.shuts R.ends path
-        (Alone (MakesRegisterAt over_files register first)))
+        (λ path register first. Comes R.makes R.shuts R.ends path
+        (Alone (MakesRegisterAt R.Tables.Store register first)))
         (contents_of texts.now) (lists_of rows) database.now journal.now result rt.old rt.new }
     ensures faults { IfErr result IsOfSubcommand }
 {
@@ -151,8 +150,8 @@ pub fn register_of_rows<R: Makes>(
     rows: Rows,
     path: &str,
 ) -> Result<String, Fault>
-    ensures visit { Stores (λ register. Comes R.Medium.Disk R.makes R.shuts R.ends path.now
-        (Alone (MakesRegister over_files register))) (lists_of rows) result rt.old rt.new }
+    ensures visit { Stores (λ register. Comes R.makes R.shuts R.ends path.now
+        (Alone (MakesRegister R.Tables.Store register))) (lists_of rows) result rt.old rt.new }
     ensures faults { IfErr result IsOfSubcommand }
 {
     let (network, staff, line) = built(alloc, rows)?;

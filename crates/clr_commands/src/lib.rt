@@ -13,6 +13,7 @@ pub mod laws;
 pub mod migrate;
 pub mod next_part;
 pub mod order;
+pub mod part_after;
 pub mod replies;
 pub mod run;
 pub mod serve;

@@ -1,21 +1,21 @@
 //! The subcommand `migrate`: the tables of a register brought to the version that is read, or a
 //! journal begun for it.
 ghost use Rattle.std.specs.Prelude.{◌≡◌, IfErr, IfOk, false, string_bytes};
-ghost use Rattle.sqlite.specs.Files.{over_files};
 ghost use Rattle.clr_commands.specs.Faults.{IsOfSubcommand};
 ghost use Rattle.clr_commands.specs.First.{board_files, first_place, made_at};
-ghost use Rattle.clr_commands.specs.Migrate.{BeginsJournal, BeginsOver, Migrates, MigratesAt};
-ghost use Rattle.clr_commands.specs.Migrate.{journal_line};
+ghost use Rattle.clr_commands.specs.Migrate.{BeginsJournal, BeginsOver, BeginsWith, Migrates};
+ghost use Rattle.clr_commands.specs.Migrate.{MigratesAt, MovesUnless, journal_line};
 ghost use Rattle.clr_keeping.specs.TakenUp.{logs};
 ghost use Rattle.clr_edge.specs.Visit.{Alone, Comes, MovesRegister};
 
 use crate::first::first_place;
 use crate::import::Texts;
+use crate::part_after::begin_after;
 use clr_args::asked::MigrateArgs;
 use clr_chain::Clock;
 use clr_desk::{Desk, DeskBook};
 use clr_edge::database::{Databases, close, first_fault, move_register};
-use clr_edge::fault::Fault;
+use clr_edge::fault::{Fault, JournalFault};
 use clr_edge::journals::Journals;
 use clr_keeping::beginning::begin_journal_of;
 use clr_keeping::taking_up::unlogged_desk;
@@ -26,26 +26,63 @@ use sqlite::{Alter, Connection};
 use std::alloc::{AllocError, Global};
 
 /// What `migrate DB [--journal FILE]` prints: the version, once the tables are of it; with a journal
-/// its id, once it is begun and the register has its place in it, and no tables are moved.
+/// its id, once it is begun and the register has its place in it, and no tables are moved. With a
+/// number too, that number, once a part is begun after it.
 pub fn migrate<R: Databases + Journals>(
     alloc: Global,
     rt: &mut R,
     args: &MigrateArgs<'_>,
 ) -> Result<String, Fault>
     ensures visit { MigratesAt (logs R.Journals R.Log.Journal R.Time.shows)
-        R.Medium.Disk R.opens R.shuts R.ends args.now result rt.old rt.new }
+        R.Tables.Store R.opens R.shuts R.ends args.now result rt.old rt.new }
     ensures faults { IfErr result IsOfSubcommand }
 {
     match args.journal {
-        None => move_tables(alloc, rt, args.database),
-        Some(journal) => begin_for(alloc, rt, args.database, journal),
+        None => move_unless(alloc, rt, args.database, args.after),
+        Some(journal) => begin_with(alloc, rt, args.database, journal, args.after),
+    }
+}
+
+/// The version of the tables, once they are of it, where no number is named.
+fn move_unless<R: Databases>(
+    alloc: Global,
+    rt: &mut R,
+    path: &str,
+    after: Option<&str>,
+) -> Result<String, Fault>
+    ensures visit { MovesUnless (Comes R.opens R.shuts R.ends path.now
+        (Alone (MovesRegister R.Tables.Store))) after.entry result rt.old rt.new }
+    ensures faults { IfErr result IsOfSubcommand }
+{
+    match after {
+        None => move_tables(alloc, rt, path),
+        Some(_number) => Err(Fault::Journal(JournalFault::Missing)),
+    }
+}
+
+/// What is printed of a journal that is begun, or of a part, where a number is named.
+fn begin_with<R: Databases + Journals>(
+    alloc: Global,
+    rt: &mut R,
+    path: &str,
+    journal: &str,
+    after: Option<&str>,
+) -> Result<String, Fault>
+    ensures visit { BeginsWith (logs R.Journals R.Log.Journal R.Time.shows)
+        R.Tables.Store R.opens R.shuts R.ends path.now journal.now after.entry
+        result rt.old rt.new }
+    ensures faults { IfErr result IsOfSubcommand }
+{
+    match after {
+        None => begin_for(alloc, rt, path, journal),
+        Some(number) => begin_after(alloc, rt, path, journal, number),
     }
 }
 
 /// The version of the tables, once they are of it.
 fn move_tables<R: Databases>(alloc: Global, rt: &mut R, path: &str) -> Result<String, Fault>
-    ensures visit { Migrates (Comes R.Medium.Disk R.opens R.shuts R.ends path.now
-        (Alone (MovesRegister over_files))) result rt.old rt.new }
+    ensures visit { Migrates (Comes R.opens R.shuts R.ends path.now
+        (Alone (MovesRegister R.Tables.Store))) result rt.old rt.new }
     ensures faults { IfErr result IsOfSubcommand }
 {
     let line = String::from_str(alloc, "version 2\n")?;
@@ -63,7 +100,7 @@ fn begin_for<R: Databases + Journals>(
     journal: &str,
 ) -> Result<String, Fault>
     ensures visit { BeginsJournal (logs R.Journals R.Log.Journal R.Time.shows)
-        R.Medium.Disk R.opens R.shuts R.ends path.now journal.now result rt.old rt.new }
+        R.Tables.Store R.opens R.shuts R.ends path.now journal.now result rt.old rt.new }
     ensures faults { IfErr result IsOfSubcommand }
 {
     let time = rt.time();

@@ -19,7 +19,7 @@ pub fn next_part<R: Databases + Journals>(
     args: &NextPartArgs<'_>,
 ) -> Result<String, Fault>
     ensures visit { BeginsNext (logs R.Journals R.Log.Journal R.Time.shows)
-        R.Medium.Disk R.opens R.shuts R.ends args.now result rt.old rt.new }
+        R.Tables.Store R.opens R.shuts R.ends args.now result rt.old rt.new }
     ensures faults { IfErr result IsOfSubcommand }
 {
     let number = begin_next(alloc, rt, args.database, args.path, args.next)?;

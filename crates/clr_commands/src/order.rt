@@ -19,8 +19,8 @@ use std::alloc::Global;
 /// What `order DB CLEARANCE ROUND [--offset MINUTES]` prints. It is also printed where
 /// the database cannot be closed, as on a full disk.
 pub fn order<R: Databases>(alloc: Global, rt: &mut R, args: &OrderArgs<'_>) -> Result<String, Fault>
-    ensures visit { Comes R.Medium.Disk R.opens R.shuts R.ends args.now.database.now
-        (PrintsOrder args.now) result rt.old rt.new }
+    ensures visit { Comes R.opens R.shuts R.ends args.now.database.now
+        (PrintsOrder R.Tables.Store args.now) result rt.old rt.new }
     ensures faults { IfErr result IsOfSubcommand }
 {
     let desk = open_desk(alloc, rt, args.database)?;

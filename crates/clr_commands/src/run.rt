@@ -44,7 +44,7 @@ pub fn run<'a, R: Databases + Journals, O: Opens<'a>, I: CountedRead>(
 ) -> Result<Printed, Fault>
     ensures visit { RunsAsked
         (at_paths O.File.remaining O.File.failure_count (O.bytes_at paths.now))
-        (RunsKept (logs R.Journals R.Log.Journal R.Time.shows) R.Medium.Disk R.opens R.shuts R.ends
+        (RunsKept (logs R.Journals R.Log.Journal R.Time.shows) R.Tables.Store R.opens R.shuts R.ends
         (I.remaining input.old)) args.now (I.remaining input.old) result rt.old rt.new }
     ensures input { ReadsInput (I.remaining input.old) (I.failure_count input.old)
         (I.failure_count input.new) input.old input.new result }
@@ -66,7 +66,7 @@ pub fn run_stored<R: Databases + Journals, I: CountedRead>(
     input: &mut I,
 ) -> Result<Printed, Fault>
     ensures visit { RunsKept (logs R.Journals R.Log.Journal R.Time.shows)
-        R.Medium.Disk R.opens R.shuts R.ends
+        R.Tables.Store R.opens R.shuts R.ends
         (I.remaining input.old) args.now result rt.old rt.new }
     ensures input { ReadsInput (I.remaining input.old) (I.failure_count input.old)
         (I.failure_count input.new) input.old input.new result }

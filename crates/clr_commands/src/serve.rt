@@ -79,7 +79,7 @@ pub fn serve<
         (seen R.Reader.remaining R.Reader.failure_count R.Writer.stream)
         (at_paths O.File.remaining O.File.failure_count (O.bytes_at paths.now)) args.now
         (W.stream output.old) (W.stream output.new) (E.stream errors.old) (E.stream errors.new)
-        R.Medium.Disk R.opens R.shuts R.ends result rt.old rt.new }
+        R.Tables.Store R.opens R.shuts R.ends result rt.old rt.new }
 {
     let logins = logins_at(alloc, paths, args.logins)?;
     serve_kept(alloc, rt, args, logins, output, errors)
@@ -97,7 +97,7 @@ fn serve_kept<R: Databases + Journals + Loopback, W: CountedFlush, E: CountedFlu
     ensures visit { ServesKept R.Loopback
         (seen R.Reader.remaining R.Reader.failure_count R.Writer.stream) args.now logins
         (W.stream output.old) (W.stream output.new) (E.stream errors.old) (E.stream errors.new)
-        (logs R.Journals R.Log.Journal R.Time.shows) R.Medium.Disk R.opens R.shuts R.ends
+        (logs R.Journals R.Log.Journal R.Time.shows) R.Tables.Store R.opens R.shuts R.ends
         args.now.journal args.now.database.now result rt.old rt.new }
 {
     let mut opened = take_up(alloc, rt, args.database, args.journal)?;

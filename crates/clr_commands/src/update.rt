@@ -40,7 +40,7 @@ pub fn update<'a, R: Databases, O: Opens<'a>>(
 ) -> Result<String, Fault>
     ensures visit { UpdatesFiles
         (at_paths O.File.remaining O.File.failure_count (O.bytes_at paths.now))
-        R.Medium.Disk R.opens R.shuts R.ends args.now result rt.old rt.new }
+        R.Tables.Store R.opens R.shuts R.ends args.now result rt.old rt.new }
     ensures faults { IfErr result IsOfSubcommand }
 {
     let rows = rows_at(alloc, paths, &args.files)?;
@@ -57,7 +57,7 @@ fn update_to_rows<R: Databases>(
     path: &str,
     dry_run: bool,
 ) -> Result<String, Fault>
-    ensures visit { UpdatesTo (UpdatesAt R.Medium.Disk R.opens R.shuts R.ends path.now dry_run)
+    ensures visit { UpdatesTo (UpdatesAt R.Tables.Store R.opens R.shuts R.ends path.now dry_run)
         (lists_of rows) (map (λ word. word.now) without.now) rt.old rt.new result }
     ensures faults { IfErr result IsOfSubcommand }
 {
@@ -113,7 +113,7 @@ fn update_register<R: Databases>(
     update: Update,
     dry_run: bool,
 ) -> Result<String, Fault>
-    ensures visit { UpdatesAt R.Medium.Disk R.opens R.shuts R.ends path.now dry_run
+    ensures visit { UpdatesAt R.Tables.Store R.opens R.shuts R.ends path.now dry_run
         (as_update update) result rt.old rt.new }
     ensures faults { IfErr result IsOfSubcommand }
 {

@@ -56,7 +56,8 @@ pub fn verify<'a, R: Databases, O: Opens<'a>>(
 ) -> Result<String, Fault>
     ensures visit { VerifiesAt
         (at_paths O.File.remaining O.File.failure_count (O.bytes_at paths.now)) args.now
-        (Comes R.Medium.Disk R.opens R.shuts R.ends args.now.database.now ReadsPlaced)
+        (Comes R.opens R.shuts R.ends args.now.database.now
+        (ReadsPlaced R.Tables.Store))
         result rt.old rt.new }
     ensures faults { IfErr result IsOfSubcommand }
 {
@@ -86,8 +87,10 @@ pub fn verify_from<'a, R: Databases, O: Opens<'a>>(
 ) -> Result<String, Fault>
     ensures visit { VerifiesFromAt
         (at_paths O.File.remaining O.File.failure_count (O.bytes_at paths.now)) args.now
-        (Comes R.Medium.Disk R.opens R.shuts R.ends args.now.copy.now ReadsPlaced)
-        (Comes R.Medium.Disk R.opens R.shuts R.ends args.now.database.now ReadsPlaced)
+        (Comes R.opens R.shuts R.ends args.now.copy.now
+        (ReadsPlaced R.Tables.Store))
+        (Comes R.opens R.shuts R.ends args.now.database.now
+        (ReadsPlaced R.Tables.Store))
         result rt.old rt.new }
     ensures faults { IfErr result IsOfSubcommand }
 {
@@ -107,7 +110,7 @@ fn register_at<R: Databases>(
     rt: &mut R,
     path: &str,
 ) -> Result<(DeskBook, Place), Fault>
-    ensures read { Comes R.Medium.Disk R.opens R.shuts R.ends path.now ReadsPlaced result
+    ensures read { Comes R.opens R.shuts R.ends path.now (ReadsPlaced R.Tables.Store) result
         rt.old rt.new }
     ensures good { IfOk result (λ read. IsGood read.0.register) }
     ensures faults { IfErr result IsOfTakingUp }

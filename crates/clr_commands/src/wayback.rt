@@ -28,8 +28,8 @@ pub fn wayback<R: Databases>(
     rt: &mut R,
     args: &WayBackArgs<'_>,
 ) -> Result<String, Fault>
-    ensures visit { Comes R.Medium.Disk R.opens R.shuts R.ends args.now.database.now
-        (PrintsWayBack args.now) result rt.old rt.new }
+    ensures visit { Comes R.opens R.shuts R.ends args.now.database.now
+        (PrintsWayBack R.Tables.Store args.now) result rt.old rt.new }
     ensures faults { IfErr result IsOfSubcommand }
 {
     let desk = open_desk(alloc, rt, args.database)?;

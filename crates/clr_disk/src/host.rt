@@ -7,6 +7,7 @@ ghost use Rattle.sqlite_wal.specs.Files.{image_at};
 use crate::host_place::place_at;
 use crate::place::Place;
 use crate::system::System;
+use crate::watch::Event;
 use sqlite::{FileFrom, Start};
 use sqlite_disk::{Disk, Files};
 use sqlite_std_file::OpenError;
@@ -157,6 +158,8 @@ impl<S: Start + Drop, J: Start + Drop> System for Host<S, J> {
     {
         opened(&self.rt, path, self.database.take())
     }
+
+    fn show(&self, _event: Event) {}
 
     fn let_go(&mut self, file: FileFrom<S>)
         ensures { self.new ≡ self.old }

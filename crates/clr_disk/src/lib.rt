@@ -4,6 +4,7 @@
 
 mod behind;
 mod closing;
+mod database;
 mod host;
 mod host_place;
 mod line;
@@ -13,13 +14,14 @@ mod system;
 mod timed;
 mod watch;
 mod watched;
-mod watched_database;
+mod watching;
 
 pub use behind::Behind;
+pub use database::{Database, let_go, open_database};
 pub use host::Host;
 pub use place::{Node, Place, is_own};
 pub use system::System;
 pub use timed::{Call, Limit, Timed, Waits};
 pub use watch::{Event, Watch};
 pub use watched::Watched;
-pub use watched_database::{WatchedDatabase, let_go, open_watched};
+pub use watching::Watching;

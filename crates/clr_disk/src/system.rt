@@ -9,6 +9,7 @@ ghost use Rattle.sqlite_disk.specs.declared.Files.{Files as DiskFiles};
 ghost use Rattle.clr_disk.specs.declared.place.Place.{Place as AnyPlace};
 
 use crate::place::Place;
+use crate::watch::Event;
 use sqlite_disk::{Disk, Files};
 use sqlite_std_file::OpenError;
 use std::io;
@@ -116,6 +117,9 @@ pub trait System {
         ensures db { IfOk result (λ files. IsTrue (Self.Medium.Disk.is_usable files.db)) }
         ensures has { IfOk result (λ files. has_files self.old path.now files self.new) }
         ensures lacks { IfErr result (λ _. lacks_files self.old path.now self.new) };
+
+    /// Shows how the opening of a database goes, if the system shows that.
+    fn show(&self, event: Event);
 
     /// Lets a file of a database go.
     fn let_go(&mut self, file: Self::Medium)

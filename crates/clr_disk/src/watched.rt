@@ -6,16 +6,16 @@ use sqlite_disk::{Disk, Tally};
 use std::io;
 use std::rt::Clock;
 
-/// A disk whose reads a watch sees, if there is one.
+/// A disk whose reads a watch sees.
 #[derive(Drop)]
 pub struct Watched<'a, D: Disk, K: Clock> {
     disk: D,
-    watch: Option<&'a Watch<K>>,
+    watch: &'a Watch<K>,
 }
 
 impl<'a, D: Disk, K: Clock> Watched<'a, D, K> {
     /// A disk, and what watches it.
-    pub fn new(disk: D, watch: Option<&'a Watch<K>>) -> Watched<'a, D, K>
+    pub fn new(disk: D, watch: &'a Watch<K>) -> Watched<'a, D, K>
         ensures { result.disk ≡ disk }
     {
         Watched { disk, watch }
@@ -30,9 +30,7 @@ impl<'a, D: Disk, K: Clock> Watched<'a, D, K> {
 
     /// Lets the watch see a read.
     fn see(&self, bytes: usize) {
-        if let Some(watch) = self.watch {
-            watch.see(Event::Reads(bytes));
-        }
+        self.watch.see(Event::Reads(bytes));
     }
 }
 

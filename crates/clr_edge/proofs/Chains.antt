@@ -15,7 +15,7 @@ use Rattle.clr_chain.specs.declared.fault.NewFault.{NewFault}
 use Rattle.clr_chain.specs.declared.fault.NewFault.TheVariants as unbegun
 use Rattle.clr_chain.specs.declared.finding.Ahead.{Ahead}
 use Rattle.clr_place.specs.declared.place.Place.{Place}
-use Rattle.clr_edge.specs.Journals.{HasJournalDisk, IsBegunAt, IsChainAt, IsOfBeginning, IsOfOpening, IsUnbegunOver, IsUnopenedOver, of_chain, of_new}
+use Rattle.clr_edge.specs.Journals.{HasJournalDisk, IsBegunAt, IsChainAt, IsNew, IsOfBeginning, IsOfOpening, IsUnbegunOver, IsUnopenedOver, of_chain, of_new}
 use Rattle.clr_edge.specs.declared.fault.Fault.{Fault}
 use Rattle.clr_edge.specs.declared.fault.Fault.TheVariants.{Journal, Memory}
 use Rattle.clr_edge.specs.declared.fault.JournalFault.TheVariants as why
@@ -73,18 +73,14 @@ module _ {Y D : Type 0} (has : Y → List ℕ → Files D → Y → Type 0) (let
   -- it was had, and a journal was begun in it
   pub begun_at : {J : Type 0} (log : append.Ghosts J) (disk_of : J → D) (new : Y) (disk : D) (journal : J)
       → HasJournalDisk has lets_go old path new disk → (IsTrue (g.is_clean (disk_of journal)) → g.seen disk ≡ [])
-      → (IsTrue (g.is_clean (disk_of journal)) → log.text journal ≡ new_text place)
-      → (IsTrue (g.is_clean (disk_of journal)) → Only (new_text place) (log.may_leave journal)) → log.found journal ≡ log.text journal
-      → IsBegunAt has lets_go g log disk_of old path place journal new
-  begun_at log disk_of new disk journal (files, middle, had, gone, is) empty text durable whole = record {
+      → IsNew log (λ it. g.is_clean (disk_of it)) place journal → IsBegunAt has lets_go g log disk_of old path place journal new
+  begun_at log disk_of new disk journal (files, middle, had, gone, is) empty new_there = record {
     files = files;
     middle = middle;
     had = had;
     gone = gone;
     empty = subst (λ d. IsTrue (g.is_clean (disk_of journal)) → g.seen d ≡ []) is empty;
-    text = text;
-    durable = durable;
-    whole = whole;
+    new_there = new_there;
   }
 
   -- or none

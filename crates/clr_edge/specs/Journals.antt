@@ -1,5 +1,5 @@
 -- JOURNALS AT PATHS: one is opened at the place of a register, or begun; and why not.
-use Rattle.std.specs.Prelude.{◌≡◌, ◌≢◌, ◌⊎◌, ◌<◌, ℕ, IsTrue, List, [], length}
+use Rattle.std.specs.Prelude.{◌≡◌, ◌≢◌, ◌⊎◌, ◌<◌, ℕ, Bool, IsTrue, List, [], length}
 use Rattle.std.specs.declared.io.ErrorKind.{ErrorKind}
 use Rattle.std.specs.declared.io.ErrorKind.TheVariants.{OutOfMemory}
 use Rattle.sqlite_disk.specs.Disk.{Cut, Follows, MoreFaults, Only}
@@ -9,7 +9,7 @@ use Rattle.clr_append.specs.declared.journal.Journal as append
 use Rattle.clr_journal.specs.Opening.{Unchanged}
 use Rattle.clr_chain.specs.Finding.{found_in}
 use Rattle.clr_chain.specs.OnDisk.{WasRead}
-use Rattle.clr_chain.specs.Opening.{IsOpened, Refuses, WasNotCut, new_text}
+use Rattle.clr_chain.specs.Opening.{CanBegin, IsOpened, Refuses, WasNotCut, new_text}
 use Rattle.clr_chain.specs.declared.fault.ChainFault.{ChainFault}
 use Rattle.clr_chain.specs.declared.fault.ChainFault.TheVariants as chain
 use Rattle.clr_chain.specs.declared.fault.NewFault.{NewFault}
@@ -115,6 +115,15 @@ IsUnopenedAt has lacks lets_go g old path place fault new =
 
 -- ---- a journal that is begun
 
+-- A JOURNAL HAS A FIRST LINE AND NO MORE, that of this place, which can be written and read: so it
+-- is where the disk is clean, now and after a crash
+pub record IsNew {J : Type 0} (log : append.Ghosts J) (is_clean : J → Bool) (first : Place)
+    (journal : J) : Type 0 where
+  pub can : CanBegin first
+  pub text : IsTrue (is_clean journal) → log.text journal ≡ new_text first
+  pub durable : IsTrue (is_clean journal) → Only (new_text first) (log.may_leave journal)
+  pub whole : log.found journal ≡ log.text journal
+
 -- A JOURNAL WAS BEGUN OVER THE FILE AT A PATH: it held nothing, and has this first line, which a
 -- crash leaves
 pub record IsBegunAt {Y D J : Type 0} (has : Y → List ℕ → Files D → Y → Type 0)
@@ -125,10 +134,7 @@ pub record IsBegunAt {Y D J : Type 0} (has : Y → List ℕ → Files D → Y �
   pub had : has old path files middle
   pub gone : lets_go middle files.log new
   pub empty : IsTrue (g.is_clean (disk_of journal)) → g.seen files.db ≡ []
-  pub text : IsTrue (g.is_clean (disk_of journal)) → log.text journal ≡ new_text first
-  pub durable : IsTrue (g.is_clean (disk_of journal))
-      → Only (new_text first) (log.may_leave journal)
-  pub whole : log.found journal ≡ log.text journal
+  pub new_there : IsNew log (λ it. g.is_clean (disk_of it)) first journal
 
 -- none was begun there: the file has bytes, and they are as they were; or the disk failed, or memory
 -- ran out

@@ -19,23 +19,25 @@ use Rattle.clr_edge.specs.Database.{HasRegister, IsMade, IsMoved, IsOfLine, IsUn
 use Rattle.clr_edge.specs.Fault.{of_store}
 use Rattle.clr_edge.specs.declared.fault.Fault.{Fault}
 
--- a connection over files
-abbrev pub Over : {D : Type 0} → disk.Ghosts D → Type 0
-Over {D} g = Held (FileStore D g)
-
 -- what closing gives, or any step that gives nothing else
 abbrev pub Done : Type 0
 Done = Result (Unit {0}) Fault
 
--- the steps by which a machine opens a database at a path, does not, and takes its files back
+-- the steps by which a machine opens a database at a path, does not, and closes it with this outcome
 abbrev pub Opening : Type 0 → Type 0 → Type 1
-Opening M D = M → List ℕ → (g : disk.Ghosts D) → Over g → M → Type 0
+Opening M T = M → List ℕ → Held T → M → Type 0
 
 abbrev pub Shutting : Type 0 → Type 1
 Shutting M = M → List ℕ → Fault → M → Type 0
 
 abbrev pub Ending : Type 0 → Type 0 → Type 1
-Ending M D = M → Files D → M → Type 0
+Ending M T = M → Held T → Done → M → Type 0
+
+-- ---- over files
+
+-- a connection over files
+abbrev pub Over : {D : Type 0} → disk.Ghosts D → Type 0
+Over {D} g = Held (FileStore D g)
 
 -- what was committed last is in the database file, now and after a crash, where the files gave back
 -- what was written; of a closing that failed the fault has its cause
@@ -55,30 +57,38 @@ pub record IsLeft {D : Type 0} {g : disk.Ghosts D} (c : Over g) (files : Files D
   pub copies : Copies g c last files closed
 
 -- the same, and what opened it took the files back
-abbrev pub Ends : {M D : Type 0} {g : disk.Ghosts D} → Ending M D → Over g → Done → M → M → Type 0
-Ends {M} {D} ends c closed old new = (files : Files D) × IsLeft c files closed × ends old files new
+abbrev pub GivesBack : {M D : Type 0} {g : disk.Ghosts D} → (M → Files D → M → Type 0) → M → Over g
+    → Done → M → Type 0
+GivesBack {D = D} takes_back old c closed new =
+    (files : Files D) × IsLeft c files closed × takes_back old files new
+
+-- ---- over any tables
+
+-- a connection was closed as it was then. A fault of it is that memory ran out, or that the database
+-- refused or failed
+abbrev pub Ends : {M T : Type 0} → Ending M T → Held T → Done → M → M → Type 0
+Ends ends c closed old new = ends old c closed new × IfErr closed IsOfLine
 
 -- ONE DATABASE WAS OPENED AT A PATH, with no transaction open, WORKED ON, AND CLOSED AS IT WAS LEFT;
 -- and nothing else. What was done over it may be steps of its own
-pub record Visits {M D : Type 0} (g : disk.Ghosts D) (opens : Opening M D) (ends : Ending M D)
-    (path : List ℕ) (Does : M → Over g → Over g → Done → M → Type 0) (old new : M) : Type 0 where
-  pub before : Over g
-  pub after : Over g
+pub record Visits {M T : Type 0} (opens : Opening M T) (ends : Ending M T) (path : List ℕ)
+    (Does : M → Held T → Held T → Done → M → Type 0) (old new : M) : Type 0 where
+  pub before : Held T
+  pub after : Held T
   pub closed : Done
   pub middle : M
   pub later : M
-  pub opened : opens old path g before middle
+  pub opened : opens old path before middle
   pub mode : before.in_transaction ≡ false
   pub does : Does middle before after closed later
   pub ended : Ends ends after closed later new
 
 -- the same, unless it was not opened: memory ran out, or the database refused or failed
-abbrev pub Comes : {M D T : Type 0} → (g : disk.Ghosts D) → Opening M D → Shutting M → Ending M D
-    → List ℕ → (Result T Fault → M → Over g → Over g → Done → M → Type 0) → Result T Fault → M → M
-    → Type 0
-Comes g opens shuts ends path Does result old new =
+abbrev pub Comes : {M T R : Type 0} → Opening M T → Shutting M → Ending M T → List ℕ
+    → (Result R Fault → M → Held T → Held T → Done → M → Type 0) → Result R Fault → M → M → Type 0
+Comes opens shuts ends path Does result old new =
     ((fault : Fault) × (result ≡ Err fault) × IsOfLine fault × shuts old path fault new)
-    ⊎ Visits g opens ends path (Does result) old new
+    ⊎ Visits opens ends path (Does result) old new
 
 -- what was done over a database, with no step beside it
 abbrev pub Alone : {M T H : Type 0} → (Result T Fault → H → H → Done → Type 0) → Result T Fault

@@ -1,11 +1,9 @@
 //! The databases that registers are stored in, each opened when its turn comes, and closed.
-ghost use Rattle.std.specs.Prelude.{◌≡◌, ◌⊎◌, ◌<◌, ℕ, false, List, IfErr, IfOk, IsTrue, OnErr, OnOk};
+ghost use Rattle.std.specs.Prelude.{◌≡◌, ◌⊎◌, ◌<◌, ℕ, false, List, IfErr, IfOk, IfSome, IsTrue, None};
+ghost use Rattle.std.specs.Prelude.{OnErr, OnOk};
 ghost use Rattle.std.specs.IoError.{error_kind};
-ghost use Rattle.sqlite.specs.Files.{over_files};
-ghost use Rattle.sqlite.specs.Held.{state};
+ghost use Rattle.sqlite.specs.Held.{Held, state};
 ghost use Rattle.sqlite.specs.State.{HasCleanDisk, Survives};
-ghost use Rattle.sqlite_disk.specs.declared.Disk as disk;
-ghost use Rattle.sqlite_disk.specs.declared.Files.{Files as DiskFiles};
 ghost use Rattle.clr_disk.specs.Opened.{AreLetGo, HasBytes, IsOpenedAt, IsShutAt};
 ghost use Rattle.clr_load.specs.Cause.{fault_of};
 ghost use Rattle.clr_rules.specs.Good.{IsGood};
@@ -15,15 +13,15 @@ ghost use Rattle.clr_edge.specs.Database.{HasNoBytes, HasRegister, IsMade, IsMov
 ghost use Rattle.clr_edge.specs.Database.{IsOfStore, IsOfUnfit, IsOnlyRead, IsRefused, IsShutBy};
 ghost use Rattle.clr_edge.specs.Database.{IsUnmade, IsUnmoved, ReadsAs, size_fault};
 ghost use Rattle.clr_edge.specs.Fault.{of_store};
-ghost use Rattle.clr_edge.specs.Visit.{Alone, Comes, Ends, IsLeft};
-ghost use Rattle.clr_edge.specs.Visit.{MakesRegister, MovesRegister, Over, first_fault};
+ghost use Rattle.clr_edge.specs.Visit.{Alone, Comes, Done, Ends, GivesBack, IsLeft};
+ghost use Rattle.clr_edge.specs.Visit.{MakesRegister, MovesRegister, first_fault};
 ghost use Rattle.clr_edge.specs.declared.fault.Fault.{Fault as AnyFault};
 
 use crate::at_fault::table_in;
 use crate::fault::Fault;
 use crate::machine::Machine;
 use clr_desk::Desk;
-use clr_disk::{Event, System, Watched, WatchedDatabase, let_go, open_watched};
+use clr_disk::{Database, Event, System, let_go, open_database};
 use clr_load::StoreFault;
 use clr_net::Network;
 use clr_staff::Staff;
@@ -32,46 +30,49 @@ use sqlite::{Alter, Connection, Error, FileStore};
 use sqlite_disk::{Disk, Files};
 use std::alloc::Global;
 use std::io;
-use std::rt::Clock;
 
-/// What opens the databases that are there, and takes their files back. Each step leads from one
-/// state of it to the next, so a clause that names the steps names all that was opened.
+/// What opens the databases that are there, and closes them. Each step leads from one state of it to
+/// the next, so a clause that names the steps names all that was opened.
 pub trait Databases {
-    /// What a database lies in.
-    type Medium: Disk + Drop;
+    /// What the tables of a database are kept in.
+    type Tables: Alter + Drop;
 
     /// That the database at a path was opened, and how the connection began. Only `stored` says so.
-    ghost opens: { Self → List ℕ → (g : disk.Ghosts Self.Medium) → Over g → Self → Type 0 };
+    ghost opens: { Self → List ℕ → Held Self.Tables → Self → Type 0 };
 
     /// That the database at a path could not be opened. Only `stored` and `database` say so.
     ghost shuts: { Self → List ℕ → AnyFault → Self → Type 0 };
 
-    /// That the files of a database that was closed came back. Only `give_back` says so.
-    ghost ends: { Self → DiskFiles Self.Medium → Self → Type 0 };
+    /// That a connection was closed as it was then, with this outcome, and its files came back. Only
+    /// `end` says so.
+    ghost ends: { Self → Held Self.Tables → Done → Self → Type 0 };
 
     /// Opens the database in a file. A file that is not there, or is empty, is refused, and no file
     /// is made or changed.
-    fn stored(&mut self, path: &str) -> Result<Connection<FileStore<Self::Medium>>, Fault>
-        ensures opens { IfOk result (λ connection.
-            opens self.old path.now Self.Medium.Disk connection self.new) }
+    fn stored(&mut self, path: &str) -> Result<Connection<Self::Tables>, Fault>
+        ensures opens { IfOk result (λ connection. opens self.old path.now connection self.new) }
         ensures mode { IfOk result (λ connection. connection.in_transaction ≡ false) }
         ensures shuts { IfErr result (λ fault. shuts self.old path.now fault self.new) }
         ensures fault { IfErr result IsOfLine };
 
-    /// Lets the files of a database go.
-    fn give_back(&mut self, files: Files<Self::Medium>)
-        ensures { ends self.old files self.new };
+    /// Takes the connection out of a place, and closes it as `close` says. A method that took one by
+    /// value would get no proof where it is called through the trait.
+    fn end(&mut self, place: &mut Option<Connection<Self::Tables>>) -> Result<(), Fault>
+        ensures ends { IfSome place.old (λ connection.
+            Ends ends connection result self.old self.new) }
+        ensures none { place.old ≡ None → self.new ≡ self.old }
+        ensures taken { place.new ≡ None }
+        ensures fault { IfErr result IsOfLine };
 }
 
 /// What makes databases too, for the one subcommand that may.
 pub trait Makes: Databases {
     /// That the database at a path was opened, or made. Only `database` says so.
-    ghost makes: { Self → List ℕ → (g : disk.Ghosts Self.Medium) → Over g → Self → Type 0 };
+    ghost makes: { Self → List ℕ → Held Self.Tables → Self → Type 0 };
 
     /// Opens the database in a file. A file that is not there is made, and its database is empty.
-    fn database(&mut self, path: &str) -> Result<Connection<FileStore<Self::Medium>>, Fault>
-        ensures makes { IfOk result (λ connection.
-            makes self.old path.now Self.Medium.Disk connection self.new) }
+    fn database(&mut self, path: &str) -> Result<Connection<Self::Tables>, Fault>
+        ensures makes { IfOk result (λ connection. makes self.old path.now connection self.new) }
         ensures mode { IfOk result (λ connection. connection.in_transaction ≡ false) }
         ensures shuts { IfErr result (λ fault. Self.shuts self.old path.now fault self.new) }
         ensures fault { IfErr result IsOfLine };
@@ -79,22 +80,22 @@ pub trait Makes: Databases {
 
 /// A database that is opened lies in the files at that path, and what is found is what they held.
 /// `stored` looks first whether a file is there that is not empty. No other file is had.
-impl<'a, Y: System, K: Clock> Databases for Machine<'a, Y, K> {
-    type Medium = Watched<'a, Y::Medium, K>;
+impl<Y: System> Databases for Machine<Y> {
+    type Tables = FileStore<Y::Medium>;
 
-    ghost opens = { λ old path _ connection new. HasBytes Y.has_size path
+    ghost opens = { λ old path connection new. HasBytes Y.has_size path
         × IsOpenedAt Y.has_files Y.Medium.Disk old.system path connection new.system };
 
     ghost shuts = { λ old path fault new.
         ((new.system ≡ old.system) × HasNoBytes Y.has_size Y.lacks_size path fault)
-        ⊎ IsShutBy (λ error. IsShutAt Y.has_files Y.lacks_files Y.lets_go Y.lacks_seed
-        ⟦<Watched<'a, Y::Medium, K> as Disk>⟧ (λ it. it.disk)
+        ⊎ IsShutBy (λ error. IsShutAt Y.has_files Y.lacks_files Y.lets_go Y.lacks_seed Y.Medium.Disk
         old.system path error new.system) fault };
 
-    ghost ends = { λ old files new.
-        AreLetGo Y.lets_go old.system files.log.disk files.db.disk new.system };
+    ghost ends = { λ old connection closed new. GivesBack (λ before files after.
+        AreLetGo Y.lets_go before files.log files.db after)
+        old.system connection closed new.system };
 
-    fn stored(&mut self, path: &str) -> Result<WatchedDatabase<'a, Y::Medium, K>, Fault>
+    fn stored(&mut self, path: &str) -> Result<Database<Y::Medium>, Fault>
         ensures opens { IfOk result (λ connection. HasBytes Y.has_size path.now
             × IsOpenedAt Y.has_files Y.Medium.Disk self.old.system path.now
             connection self.new.system) }
@@ -102,31 +103,37 @@ impl<'a, Y: System, K: Clock> Databases for Machine<'a, Y, K> {
         ensures shuts { IfErr result (λ fault.
             ((self.new.system ≡ self.old.system)
             × HasNoBytes Y.has_size Y.lacks_size path.now fault)
-            ⊎ IsShutBy (λ error. IsShutAt Y.has_files Y.lacks_files Y.lets_go Y.lacks_seed
-            ⟦<Watched<'a, Y::Medium, K> as Disk>⟧ (λ it. it.disk)
+            ⊎ IsShutBy (λ error. IsShutAt Y.has_files Y.lacks_files Y.lets_go Y.lacks_seed Y.Medium.Disk
             self.old.system path.now error self.new.system) fault) }
         ensures fault { IfErr result IsOfLine }
     {
         let size = expect_bytes(&self.system, path)?;
-        if let Some(watch) = self.watch {
-            watch.see(Event::Begins(size));
-        }
+        self.system.show(Event::Begins(size));
         self.opened(path)
     }
 
-    fn give_back(&mut self, files: Files<Watched<'a, Y::Medium, K>>)
-        ensures { AreLetGo Y.lets_go self.old.system files.entry.log.disk files.entry.db.disk
-            self.new.system }
+    fn end(&mut self, place: &mut Option<Database<Y::Medium>>) -> Result<(), Fault>
+        ensures ends { IfSome place.old (λ connection. GivesBack (λ before files after.
+            AreLetGo Y.lets_go before files.log files.db after)
+            self.old.system connection result self.new.system × IfErr result IsOfLine) }
+        ensures none { place.old ≡ None → self.new ≡ self.old }
+        ensures taken { place.new ≡ None }
+        ensures fault { IfErr result IsOfLine }
     {
+        let Some(connection) = place.take() else {
+            return Ok(());
+        };
+        let (closed, files) = close_over(connection);
         let_go(&mut self.system, files);
+        closed
     }
 }
 
-impl<'a, Y: System, K: Clock> Makes for Machine<'a, Y, K> {
-    ghost makes = { λ old path _ connection new.
+impl<Y: System> Makes for Machine<Y> {
+    ghost makes = { λ old path connection new.
         IsOpenedAt Y.has_files Y.Medium.Disk old.system path connection new.system };
 
-    fn database(&mut self, path: &str) -> Result<WatchedDatabase<'a, Y::Medium, K>, Fault>
+    fn database(&mut self, path: &str) -> Result<Database<Y::Medium>, Fault>
         ensures makes { IfOk result (λ connection.
             IsOpenedAt Y.has_files Y.Medium.Disk self.old.system path.now
             connection self.new.system) }
@@ -134,8 +141,7 @@ impl<'a, Y: System, K: Clock> Makes for Machine<'a, Y, K> {
         ensures shuts { IfErr result (λ fault.
             ((self.new.system ≡ self.old.system)
             × HasNoBytes Y.has_size Y.lacks_size path.now fault)
-            ⊎ IsShutBy (λ error. IsShutAt Y.has_files Y.lacks_files Y.lets_go Y.lacks_seed
-            ⟦<Watched<'a, Y::Medium, K> as Disk>⟧ (λ it. it.disk)
+            ⊎ IsShutBy (λ error. IsShutAt Y.has_files Y.lacks_files Y.lets_go Y.lacks_seed Y.Medium.Disk
             self.old.system path.now error self.new.system) fault) }
         ensures fault { IfErr result IsOfLine }
     {
@@ -143,20 +149,19 @@ impl<'a, Y: System, K: Clock> Makes for Machine<'a, Y, K> {
     }
 }
 
-impl<'a, Y: System, K: Clock> Machine<'a, Y, K> {
+impl<Y: System> Machine<Y> {
     /// The database at a path, which is made if it is not there.
-    fn opened(&mut self, path: &str) -> Result<WatchedDatabase<'a, Y::Medium, K>, Fault>
+    fn opened(&mut self, path: &str) -> Result<Database<Y::Medium>, Fault>
         ensures opened { IfOk result (λ connection.
             IsOpenedAt Y.has_files Y.Medium.Disk self.old.system path.now
             connection self.new.system) }
         ensures mode { IfOk result (λ connection. connection.in_transaction ≡ false) }
         ensures refused { IfErr result (λ fault. IsShutBy (λ error. IsShutAt Y.has_files
-            Y.lacks_files Y.lets_go Y.lacks_seed
-            ⟦<Watched<'a, Y::Medium, K> as Disk>⟧ (λ it. it.disk)
+            Y.lacks_files Y.lets_go Y.lacks_seed Y.Medium.Disk
             self.old.system path.now error self.new.system) fault) }
         ensures fault { IfErr result IsOfLine }
     {
-        match open_watched(self.alloc, &mut self.system, path, self.watch) {
+        match open_database(self.alloc, &mut self.system, path) {
             Ok(connection) => Ok(connection),
             Err(error) => Err(fault_of(error)),
         }
@@ -198,16 +203,12 @@ fn size_fault(error: &io::Error) -> Fault
 
 /// Closes a database, and gives its files back, also where it cannot be closed. Once it is closed,
 /// everything is in its file, and nothing in the log.
-pub fn close<R: Databases>(
-    rt: &mut R,
-    connection: Connection<FileStore<R::Medium>>,
-) -> Result<(), Fault>
+pub fn close<R: Databases>(rt: &mut R, connection: Connection<R::Tables>) -> Result<(), Fault>
     ensures ends { Ends R.ends connection result rt.old rt.new }
     ensures fault { IfErr result IsOfLine }
 {
-    let (closed, files) = close_over(connection);
-    rt.give_back(files);
-    closed
+    let mut place = Some(connection);
+    rt.end(&mut place)
 }
 
 /// Closes a database over files, which are given back.
@@ -243,8 +244,8 @@ pub fn store_register<R: Makes>(
     network: Network,
     staff: Staff,
 ) -> Result<(), Fault>
-    ensures visit { Comes R.Medium.Disk R.makes R.shuts R.ends path.now
-        (Alone (MakesRegister over_files (opening network staff))) result rt.old rt.new }
+    ensures visit { Comes R.makes R.shuts R.ends path.now
+        (Alone (MakesRegister R.Tables.Store (opening network staff))) result rt.old rt.new }
     ensures fault { IfErr result IsOfLine }
 {
     let connection = rt.database(path)?;
@@ -289,8 +290,8 @@ pub fn settled<S: Alter>(connection: &Connection<S>)
 /// Of the rows only the points are looked at. Whether they are those of a good register is asked
 /// at each opening of a desk (`desk_over`).
 pub fn move_register<R: Databases>(rt: &mut R, path: &str) -> Result<(), Fault>
-    ensures visit { Comes R.Medium.Disk R.opens R.shuts R.ends path.now
-        (Alone (MovesRegister over_files)) result rt.old rt.new }
+    ensures visit { Comes R.opens R.shuts R.ends path.now
+        (Alone (MovesRegister R.Tables.Store)) result rt.old rt.new }
     ensures fault { IfErr result IsOfStore }
 {
     let connection = rt.stored(path)?;

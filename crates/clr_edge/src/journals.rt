@@ -1,10 +1,10 @@
 //! The journals of registers, each opened or begun when its turn comes.
-ghost use Rattle.std.specs.Prelude.{◌≡◌, ◌⊎◌, ◌/◌, ℕ, List, IfErr, IfOk, IsTrue, ⊤};
+ghost use Rattle.std.specs.Prelude.{◌≡◌, ◌⊎◌, ◌/◌, ℕ, Bool, List, IfErr, IfOk, IsTrue, ⊤};
 ghost use Rattle.std.specs.IoError.{error_kind};
 ghost use Rattle.std.specs.Time.{system_time_nanos};
 ghost use Rattle.clr_disk.specs.Opened.{HasBytes};
 ghost use Rattle.clr_chain.specs.declared.finding.Ahead.{Ahead as AnyAhead};
-ghost use Rattle.clr_edge.specs.Journals.{HasJournalDisk, HasNoJournal, IsBegunAt, IsChainAt};
+ghost use Rattle.clr_edge.specs.Journals.{HasJournalDisk, HasNoJournal, IsBegunAt, IsChainAt, IsNew};
 ghost use Rattle.clr_edge.specs.Journals.{IsOfBeginning, IsOfOpening, IsUnbegunAt, IsUnopenedAt};
 ghost use Rattle.clr_edge.specs.Journals.{of_chain, of_new, size_fault};
 ghost use Rattle.clr_edge.specs.declared.fault.Fault.{Fault as AnyFault};
@@ -56,6 +56,9 @@ pub trait Journals {
     /// That this is its clock. Only `time` says so.
     ghost has_time: { Self → Self.Time → Type 0 };
 
+    /// Whether what a journal lies in gave back what was written to it.
+    ghost is_clean: { Self.Log → Bool };
+
     /// Opens the journal in a file, at the place that a register has in it. A file that is not
     /// there, or is empty, is refused, and none is made.
     fn journal(&mut self, path: &str, place: &Place) -> Result<OpenedJournal<Self::Log>, Fault>
@@ -72,6 +75,7 @@ pub trait Journals {
     fn begin_journal(&mut self, path: &str, first: &Place) -> Result<Self::Log, Fault>
         ensures begins_journal { IfOk result (λ journal.
             begins_journal self.old path.now first.now journal self.new) }
+        ensures new { IfOk result (IsNew Self.Log.Journal is_clean first.now) }
         ensures spares_journal { IfErr result (λ fault.
             spares_journal self.old path.now first.now fault self.new) }
         ensures fault { IfErr result IsOfBeginning };
@@ -86,7 +90,7 @@ pub trait Journals {
 }
 
 /// A journal lies in the file at that path, and has what that held. No other file is had.
-impl<'a, Y: System, K: rt::Clock> Journals for Machine<'a, Y, K> {
+impl<Y: System> Journals for Machine<Y> {
     type Log = OnDisk<Y::JournalMedium>;
 
     type Time = Seconds<Y::Clock>;
@@ -113,6 +117,8 @@ impl<'a, Y: System, K: rt::Clock> Journals for Machine<'a, Y, K> {
         Y.lets_journal_go old.system journal.disk new.system };
 
     ghost has_time = { λ machine time. Y.has_clock machine.system time.clock };
+
+    ghost is_clean = { λ journal. Y.JournalMedium.Disk.is_clean journal.disk };
 
     fn journal(
         &mut self,
@@ -148,6 +154,8 @@ impl<'a, Y: System, K: rt::Clock> Journals for Machine<'a, Y, K> {
         ensures begins_journal { IfOk result (λ journal. IsBegunAt Y.has_journal_files
             Y.lets_journal_go Y.JournalMedium.Disk ⟦<OnDisk<Y::JournalMedium> as Journal>⟧
             (λ it. it.disk) self.old.system path.now first.now journal self.new.system) }
+        ensures new { IfOk result (IsNew ⟦<OnDisk<Y::JournalMedium> as Journal>⟧
+            (λ it. Y.JournalMedium.Disk.is_clean it.disk) first.now) }
         ensures spares_journal { IfErr result (λ fault. IsUnbegunAt Y.has_journal_files
             Y.lacks_journal_files Y.lets_journal_go Y.JournalMedium.Disk self.old.system
             path.now first.now fault self.new.system) }
@@ -178,7 +186,7 @@ impl<'a, Y: System, K: rt::Clock> Journals for Machine<'a, Y, K> {
     }
 }
 
-impl<'a, Y: System, K: rt::Clock> Machine<'a, Y, K> {
+impl<Y: System> Machine<Y> {
     /// What the file of a journal at a path holds. Its log is let go as it was had.
     fn journal_disk(&mut self, path: &str) -> Result<Y::JournalMedium, Fault>
         ensures had { IfOk result (HasJournalDisk Y.has_journal_files Y.lets_journal_go

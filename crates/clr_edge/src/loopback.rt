@@ -179,7 +179,7 @@ fn connection_of<K: Clock>(half: Half<K>, writer: TcpStream) -> Connection<Handl
     }
 }
 
-impl<'a, Y: System, K: Clock> Loopback for Machine<'a, Y, K> {
+impl<Y: System> Loopback for Machine<Y> {
     type Listener = TcpListener;
 
     type Reader = Handle<Y::Clock>;
@@ -206,9 +206,7 @@ impl<'a, Y: System, K: Clock> Loopback for Machine<'a, Y, K> {
         ensures refuses { IfErr result (λ error.
             Y.refuses self.old.system address (error_kind error) self.new.system) }
     {
-        if let Some(watch) = self.watch {
-            watch.see(Event::Ends);
-        }
+        self.system.show(Event::Ends);
         self.system.listener(address)
     }
 

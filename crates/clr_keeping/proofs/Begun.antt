@@ -1,9 +1,17 @@
 -- A journal that is begun, or not: the faults, and what was done then.
-use Rattle.std.proofs.Common.{◌≡◌, ◌⊎◌, ap, Result, Ok, Err, List, ℕ, inl, inr, refl, subst, sym}
-use Rattle.std.specs.Prelude.{IfErr, IsErrAnd}
-use Rattle.sqlite.specs.Held.{Held}
+use Rattle.std.proofs.Common.{◌≡◌, ◌⊎◌, ap, Result, Ok, Err, List, [], ℕ, Some, inl, inr, refl, subst, sym}
+use Rattle.std.specs.Prelude.{IfErr, IsErrAnd, IsTrue}
+use Rattle.sqlite.specs.Held.{Held, state}
+use Rattle.sqlite.specs.State.{HasCleanDisk}
 use Rattle.sqlite_trees.specs.declared.store.Store.{Ghosts}
+use Rattle.clr_rules.specs.Register.{Register}
 use Rattle.clr_place.specs.declared.place.Place.{Place}
+use Rattle.clr_tables.specs.TableEdits.{tables_edited}
+use Rattle.clr_tables.specs.Tables.{Tables, place_row, tables_of}
+use Rattle.clr_load.specs.Stored.{ArePlaced, HasTables}
+use Rattle.clr_store.specs.Contract.{MakesEditsAt}
+use Rattle.clr_level.proofs.BegunLevel.{begun_level}
+use Rattle.clr_level.specs.Placing.{ShowsAt}
 use Rattle.clr_level.specs.declared.keeper.Keeper.{Keeper}
 use Rattle.clr_level.specs.declared.last.Last.TheVariants.{Settled}
 use Rattle.clr_load.specs.Fault.{IsOfDatabase}
@@ -11,11 +19,11 @@ use Rattle.clr_load.specs.declared.fault.StoreFault.{StoreFault}
 use Rattle.clr_load.specs.declared.fault.StoreFault.TheVariants as store
 use Rattle.clr_chain.specs.declared.fault.NewFault.TheVariants as unbegun
 use Rattle.clr_desk.specs.declared.desk_fault.DeskFault.TheVariants as desk
-use Rattle.clr_keeping.specs.Beginning.{GoesOnAt, IsOfBegun, IsPlacedOrNot, PlacesAt, begun_or, gives_number}
+use Rattle.clr_keeping.specs.Beginning.{BeginsLevel, GoesOnAt, IsOfBegun, IsPlacedOrNot, PlacedIsLevel, PlacesAt, begun_or, gives_number}
 use Rattle.clr_edge.specs.Database.{IsOfLine}
 use Rattle.clr_edge.specs.Fault.{of_store}
-use Rattle.clr_edge.specs.Journals.{IsOfBeginning}
-use Rattle.clr_keeping.specs.TakenUp.{IsOfTakingUp, Logs}
+use Rattle.clr_edge.specs.Journals.{IsNew, IsOfBeginning}
+use Rattle.clr_keeping.specs.TakenUp.{IsOfTakingUp, Logs, store_place}
 use Rattle.clr_edge.specs.Visit.{Done}
 use Rattle.clr_edge.specs.declared.fault.Fault.{Fault}
 use Rattle.clr_edge.specs.declared.fault.Fault.TheVariants.{Memory}
@@ -84,14 +92,38 @@ number-of first (Err fault) value is = absurd (cc is)
 -- a journal that was begun, and then the register given the place, or not
 pub begun-places : {M J C T : Type 0} (g : Ghosts T) (logs : Logs M J C) (path : List ℕ) (first : Place) (result : Done) (old begun new : M) (journal : J)
     (read after : Held T) (told : Done) → logs.steps.begins_journal old path first journal begun → logs.steps.lets_journal_go begun journal new
-    → IsPlacedOrNot g read first told after → result ≡ begun_or told → PlacesAt g logs path first result old new read after
-begun-places g logs path first result old begun new journal read after told begins gone placed is = inr (record {
+    → IsNew logs.log logs.steps.is_clean first journal → IsPlacedOrNot g read first told after → result ≡ begun_or told → PlacesAt g logs path first result old new read after
+begun-places g logs path first result old begun new journal read after told begins gone line placed is = inr (record {
   journal = journal;
   begun = begun;
   middle = new;
   begins = begins;
   gone = gone;
+  line = line;
   told = told;
   did = (refl, placed);
   result_is = is;
 })
+
+-- ---- level
+
+-- a register whose tables were made with the place is level there
+pub made-level : {S : Type 0} (g : Ghosts S) (R : Register) (start : Place) (after : Held S)
+    → (HasCleanDisk (state g after) → HasTables (state g after).now (tables_of R) × ArePlaced (state g after).now.trees (Some (place_row start)))
+    → BeginsLevel g R start after
+made-level g R start after made = begun_level store_place (state g after) R start (λ clean is_open. (tables_of R, (made clean).0, (made clean).1))
+
+-- so is one that was given the place
+pub placed-level : {S : Type 0} (g : Ghosts S) (before : Held S) (start : Place) (after : Held S)
+    → (HasCleanDisk (state g after) → IsTrue (state g after).is_open → IsTrue (state g before).is_open)
+    → (HasCleanDisk (state g after) → MakesEditsAt (state g before).now [] (place_row start) (state g after).now) → PlacedIsLevel g before start after
+unfolding tables_edited
+placed-level {S} g before start after was_open made R had = (
+  begun_level store_place (state g after) R start (λ clean is_open. shown (had clean (was_open clean is_open)) (made clean)),
+  λ clean t has. (made clean t has).0,
+)
+  where
+    shown : (t : Tables) × HasTables (state g before).now t
+        → ((t : Tables) → HasTables (state g before).now t → HasTables (state g after).now (tables_edited [] t) × ArePlaced (state g after).now.trees (Some (place_row start)))
+        → ShowsAt store_place (state g after).now start
+    shown (t, has) makes = (tables_edited [] t, (makes t has).0, (makes t has).1)

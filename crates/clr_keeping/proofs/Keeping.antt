@@ -2,10 +2,7 @@
 use Rattle.std.proofs.Common.{◌≡◌, ◌∙◌, ap, inl, inr, refl, sym, ℕ, List, Result, Ok, Err}
 use Rattle.std.specs.Borrow.{Bor}
 use Rattle.std.specs.Prelude.{IfErr, IsErrAnd, None, Option, Some}
-use Rattle.sqlite.specs.Files.{over_files}
 use Rattle.sqlite.specs.Held.{Held, state}
-use Rattle.sqlite_disk.specs.declared.Disk as disk
-use Rattle.sqlite_store.specs.declared.store.FileStore.{FileStore}
 use Rattle.sqlite_trees.specs.declared.store.Store.{Ghosts}
 use Rattle.clr_load.specs.declared.fault.StoreFault.{StoreFault}
 use Rattle.clr_load.specs.declared.fault.StoreFault.TheVariants.{Sql}
@@ -21,7 +18,7 @@ use Rattle.clr_edge.specs.Journals.{IsOfOpening}
 use Rattle.clr_keeping.specs.Keeping.{IsDoneOver, IsGone, IsLetGo, IsNotUp, IsNotUpWith, IsUp, IsUpWith, Keeping, StaysLevelOver, WorksIn, WorksWith, logged, logged_keeper, plain, plain_keeper, unlogged}
 use Rattle.clr_keeping.specs.TakenUp.{IsOfTakingUp, LacksPlace, Logs, MissesOne, of_opening, store_place}
 use Rattle.clr_keeping.specs.TakenUp.IsNotTakenUp.{refused}
-use Rattle.clr_edge.specs.Visit.{Comes, Done, Ending, Opening, Over, Shutting}
+use Rattle.clr_edge.specs.Visit.{Comes, Done, Ending, Opening, Shutting}
 use Rattle.clr_edge.specs.declared.fault.Fault.{Fault}
 use Rattle.clr_keeping.specs.declared.taking_up.Opened.{Opened}
 use Rattle.clr_keeping.specs.declared.taking_up.Opened.TheVariants.{Logged, Plain}
@@ -49,9 +46,9 @@ pub of_apart : (cause : OpeningFault) (fault : Fault) → fault ≡ of_opening c
 of_apart cause fault is = inr (inr (inr (cause, is)))
 
 -- why it is not taken up with a journal, or to be changed without one, where its database refused it
-pub refused_too : {M D J C : Type 0} (g : disk.Ghosts D) (opens : Opening M D) (shuts : Shutting M) (ends : Ending M D) (path journal : List ℕ) (logs : Logs M J C)
-    (old new : M) (fault : Fault) → IsNotUp g opens shuts ends path (plain over_files) old new fault
-    → IsNotUp g opens shuts ends path (logged over_files logs journal) old new fault
+pub refused_too : {M T J C : Type 0} (g : Ghosts T) (opens : Opening M T) (shuts : Shutting M) (ends : Ending M T) (path journal : List ℕ) (logs : Logs M J C)
+    (old new : M) (fault : Fault) → IsNotUp opens shuts ends path (plain g) old new fault
+    → IsNotUp opens shuts ends path (logged g logs journal) old new fault
 refused_too g opens shuts ends path journal logs old new fault (inl shut) = inl shut
 refused_too g opens shuts ends path journal logs old new fault (inr visit) = inr (record {
   before = visit.before;
@@ -65,9 +62,9 @@ refused_too g opens shuts ends path journal logs old new fault (inr visit) = inr
   ended = visit.ended;
 })
 
-pub refused_alone : {M D : Type 0} (g : disk.Ghosts D) (opens : Opening M D) (shuts : Shutting M) (ends : Ending M D) (path : List ℕ)
-    (old new : M) (fault : Fault) → IsNotUp g opens shuts ends path (plain over_files) old new fault
-    → IsNotUp g opens shuts ends path (unlogged over_files) old new fault
+pub refused_alone : {M T : Type 0} (g : Ghosts T) (opens : Opening M T) (shuts : Shutting M) (ends : Ending M T) (path : List ℕ)
+    (old new : M) (fault : Fault) → IsNotUp opens shuts ends path (plain g) old new fault
+    → IsNotUp opens shuts ends path (unlogged g) old new fault
 refused_alone g opens shuts ends path old new fault (inl shut) = inl shut
 refused_alone g opens shuts ends path old new fault (inr visit) = inr (record {
   before = visit.before;
@@ -81,13 +78,13 @@ refused_alone g opens shuts ends path old new fault (inr visit) = inr (record {
   ended = visit.ended;
 })
 
-module _ {M D R : Type 0} (g : disk.Ghosts D) (opens : Opening M D) (shuts kept_shut : Shutting M) (ends : Ending M D) (path : List ℕ) (Idle : Type 0)
+module _ {M T R : Type 0} (g : Ghosts T) (opens : Opening M T) (shuts kept_shut : Shutting M) (ends : Ending M T) (path : List ℕ) (Idle : Type 0)
     (closed_as : Result R Fault → Done → Result R Fault) where
-  module _ {K : Type 0} (by : Keeping M (FileStore D g) K) (Did : Result R Fault → M → M → Desk K → Desk K → Type 0) where
-    visit_of : (told result : Result R Fault) (old between later new : M) (taken left : Desk K) (closed : Done) → IsUp g opens path by old between taken
-        → Did told between later taken left → by.stays taken left → IsGone {g = g} by.lets_go ends left.store closed later new → IfErr closed IsOfLine
+  module _ {K : Type 0} (by : Keeping M T K) (Did : Result R Fault → M → M → Desk K → Desk K → Type 0) where
+    visit_of : (told result : Result R Fault) (old between later new : M) (taken left : Desk K) (closed : Done) → IsUp opens path by old between taken
+        → Did told between later taken left → by.stays taken left → IsGone by.lets_go ends left.store closed later new → IfErr closed IsOfLine
         → result ≡ closed_as told closed
-        → Comes g opens kept_shut ends path (WorksIn by Idle Did closed_as) result old new
+        → Comes opens kept_shut ends path (WorksIn by Idle Did closed_as) result old new
     visit_of told result old between later new taken left closed up did stays (after, behind, gone, ended) line is = inr (record {
       before = up.before;
       after = after;
@@ -118,7 +115,7 @@ module _ {M D R : Type 0} (g : disk.Ghosts D) (opens : Opening M D) (shuts kept_
 
     no_visit : (result : Result R Fault) (old new : M) (fault : Fault) → IsErrAnd result (λ cause. cause ≡ fault)
         → ((closed : Done) → closed_as (Err fault) closed ≡ Err fault) → Idle → (shuts old path fault new → kept_shut old path fault new)
-        → IsNotUp g opens shuts ends path by old new fault → Comes g opens kept_shut ends path (WorksIn by Idle Did closed_as) result old new
+        → IsNotUp opens shuts ends path by old new fault → Comes opens kept_shut ends path (WorksIn by Idle Did closed_as) result old new
     no_visit (Ok value) old new fault is same idle shut not = absurd is
     no_visit (Err cause) old new fault is same idle shut (inl (line, it)) = inl (fault, ap Err is, line, shut it)
     no_visit (Err cause) old new fault is same idle shut (inr visit) = inr (record {
@@ -135,16 +132,16 @@ module _ {M D R : Type 0} (g : disk.Ghosts D) (opens : Opening M D) (shuts kept_
 
   module _ {J C : Type 0} (logs : Logs M J C) (Did : (K : Type 0) → commit.Ghosts K → Result R Fault → M → M → Desk K → Desk K → Type 0) where
     -- the register of the database at a path was taken up, and let go as what was done over it left it
-    pub worked : (journal : Option (Bor (List ℕ))) (told result : Result R Fault) (old between later new : M) (opened last : Opened (Over g) J C) (closed : Done)
+    pub worked : (journal : Option (Bor (List ℕ))) (told result : Result R Fault) (old between later new : M) (opened last : Opened (Held T) J C) (closed : Done)
         → IsUpWith g opens path logs journal old between opened
-        → IsDoneOver (Did (Over g) (plain_keeper over_files) told between later) (Did (Keeper (Over g) J C) (logged_keeper over_files logs) told between later) opened last
-        → StaysLevelOver {K = Over g} (state over_files) store_place logs.log opened last
-        → IsLetGo {g = g} ends logs last closed later new → IfErr closed IsOfLine → result ≡ closed_as told closed
-        → Comes g opens kept_shut ends path (WorksWith logs over_files journal Idle Did closed_as) result old new
+        → IsDoneOver (Did (Held T) (plain_keeper g) told between later) (Did (Keeper (Held T) J C) (logged_keeper g logs) told between later) opened last
+        → StaysLevelOver {K = Held T} (state g) store_place logs.log opened last
+        → IsLetGo ends logs last closed later new → IfErr closed IsOfLine → result ≡ closed_as told closed
+        → Comes opens kept_shut ends path (WorksWith logs g journal Idle Did closed_as) result old new
     worked None told result old between later new (Plain taken) (Plain left) closed up did stays gone line is =
-        visit_of (unlogged over_files) (Did (Over g) (plain_keeper over_files)) told result old between later new taken left closed up did stays gone line is
+        visit_of (unlogged g) (Did (Held T) (plain_keeper g)) told result old between later new taken left closed up did stays gone line is
     worked (Some journal) told result old between later new (Logged taken) (Logged left) closed up did stays gone line is =
-        visit_of (logged over_files logs journal.now) (Did (Keeper (Over g) J C) (logged_keeper over_files logs)) told result old between later new taken left closed up did
+        visit_of (logged g logs journal.now) (Did (Keeper (Held T) J C) (logged_keeper g logs)) told result old between later new taken left closed up did
         stays gone line is
     worked None told result old between later new (Plain taken) (Logged left) closed up did stays gone line is = absurd did
     worked (Some journal) told result old between later new (Logged taken) (Plain left) closed up did stays gone line is = absurd did
@@ -154,8 +151,8 @@ module _ {M D R : Type 0} (g : disk.Ghosts D) (opens : Opening M D) (shuts kept_
     -- or it was not taken up
     pub not_worked : (journal : Option (Bor (List ℕ))) (result : Result R Fault) (old new : M) (fault : Fault) → IsErrAnd result (λ cause. cause ≡ fault)
         → ((closed : Done) → closed_as (Err fault) closed ≡ Err fault) → Idle → (shuts old path fault new → kept_shut old path fault new)
-        → IsNotUpWith g opens shuts ends path logs journal old new fault → Comes g opens kept_shut ends path (WorksWith logs over_files journal Idle Did closed_as) result old new
+        → IsNotUpWith g opens shuts ends path logs journal old new fault → Comes opens kept_shut ends path (WorksWith logs g journal Idle Did closed_as) result old new
     not_worked None result old new fault is same idle shut not =
-        no_visit (unlogged over_files) (Did (Over g) (plain_keeper over_files)) result old new fault is same idle shut not
+        no_visit (unlogged g) (Did (Held T) (plain_keeper g)) result old new fault is same idle shut not
     not_worked (Some journal) result old new fault is same idle shut not =
-        no_visit (logged over_files logs journal.now) (Did (Keeper (Over g) J C) (logged_keeper over_files logs)) result old new fault is same idle shut not
+        no_visit (logged g logs journal.now) (Did (Keeper (Held T) J C) (logged_keeper g logs)) result old new fault is same idle shut not

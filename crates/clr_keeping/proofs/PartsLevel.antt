@@ -1,15 +1,8 @@
--- A register that begins with a journal is level with it, and parts are one journal.
-use Rattle.std.proofs.Common.{◌≡◌, ◌∙◌, ◌&&◌, ◌==◌, ◌+◌, ℕ, Bool, true, false, List, [], ◌∷◌, ◌++◌, refl, ap, sym, subst, append_assoc, Ok}
-use Rattle.std.specs.Prelude.{IsTrue, Some}
+-- Parts are one journal, and an opening that stops leaves the register level.
+use Rattle.std.proofs.Common.{◌≡◌, ◌∙◌, ◌&&◌, ◌==◌, ◌+◌, ℕ, Bool, true, false, List, [], ◌∷◌, ◌++◌, refl, ap, sym, subst, append_assoc}
 use Rattle.std.proofs.lemmas.Bool.{and_from, and_parts}
-use Rattle.sqlite.specs.Held.{Held, state}
-use Rattle.sqlite.specs.State.{HasCleanDisk, State}
-use Rattle.sqlite_trees.specs.declared.store.Store.{Ghosts}
-use Rattle.clr_rules.specs.Register.{Register}
+use Rattle.sqlite.specs.State.{State}
 use Rattle.clr_place.specs.declared.place.Place.{Place}
-use Rattle.clr_tables.specs.TableEdits.{tables_edited}
-use Rattle.clr_tables.specs.Tables.{Tables, place_row, tables_of}
-use Rattle.clr_load.specs.Stored.{ArePlaced, HasTables}
 use Rattle.clr_journal.specs.Journals.{carried_out, in_turn, is_next, turn_after, withdraws}
 use Rattle.clr_journal.specs.Laws.{turn_behind}
 use Rattle.clr_journal.specs.Line.{Entry, carried, withdrawn}
@@ -17,35 +10,12 @@ use Rattle.clr_journal.specs.declared.reading.Turn.{Turn}
 use Rattle.clr_chain.proofs.LevelKept.{carried_out-append}
 use Rattle.clr_chain.specs.First.{first_turn_at}
 use Rattle.clr_chain.specs.Level.{IsLevel, IsRunOf, place_after}
-use Rattle.clr_level.proofs.BegunLevel.{begun_level}
 use Rattle.clr_level.proofs.Chains.{front_kept, place_on, run_on}
 use Rattle.clr_level.specs.Forward.{HasStopped, open_entries}
-use Rattle.clr_level.specs.Placing.{IsAt, ShowsAt}
+use Rattle.clr_level.specs.Placing.{IsAt}
 use Rattle.clr_desk.specs.Placing.{Placing}
 use Rattle.clr_level.specs.Restarting.{HasLines}
-use Rattle.clr_keeping.specs.Beginning.{IsMadeAt, IsPlacedOrNot}
-use Rattle.clr_keeping.specs.Laws.{MadeIsLevel, PartsAreOne, PlacedIsLevel, StoppedIsLevel}
-use Rattle.clr_keeping.specs.TakenUp.{store_place}
-
--- ---- what begins
-
-pub made_level : {S : Type 0} (g : Ghosts S) → MadeIsLevel g
-made_level {S} g R start before after made = (
-  begun_level store_place (state g after) R start (λ clean is_open. (tables_of R, (made.tables clean).0, (made.tables clean).1)),
-  λ clean. (made.tables clean).0,
-)
-
-pub placed_level : {S : Type 0} (g : Ghosts S) → PlacedIsLevel g
-unfolding tables_edited
-placed_level {S} g R start before after had placed = (
-  begun_level store_place (state g after) R start (λ clean is_open. shown (had clean (placed.was_open clean is_open)) (placed.made clean)),
-  λ clean t has. (placed.made clean t has).0,
-)
-  where
-    shown : (t : Tables) × HasTables (state g before).now t
-        → ((t : Tables) → HasTables (state g before).now t → HasTables (state g after).now (tables_edited [] t) × ArePlaced (state g after).now.trees (Some (place_row start)))
-        → ShowsAt store_place (state g after).now start
-    shown (t, has) makes = (tables_edited [] t, (makes t has).0, (makes t has).1)
+use Rattle.clr_keeping.specs.Laws.{PartsAreOne, StoppedIsLevel}
 
 -- ---- parts
 

@@ -1,25 +1,25 @@
 -- THE JOURNAL OF A REGISTER IS BEGUN, and then the register gets its first place in it.
 use Rattle.std.specs.Prelude.{◌≡◌, ◌⊎◌, ℕ, IfErr, IsTrue, List, [], OnErr, OnOk, Result, Some, Ok, Err}
-use Rattle.sqlite.specs.Files.{over_files}
 use Rattle.sqlite.specs.Held.{Held, state}
 use Rattle.sqlite.specs.State.{HasCleanDisk, Survives}
-use Rattle.sqlite_disk.specs.declared.Disk as disk
 use Rattle.sqlite_trees.specs.declared.store.Store.{Ghosts}
 use Rattle.clr_rules.specs.Register.{Register}
 use Rattle.clr_place.specs.declared.place.Place.{Place}
-use Rattle.clr_tables.specs.Tables.{place_row, tables_of}
+use Rattle.clr_tables.specs.Tables.{Tables, place_row, tables_of}
 use Rattle.clr_load.specs.Contract.{IsSaved}
 use Rattle.clr_load.specs.Schema.{no_schema}
 use Rattle.clr_load.specs.Stored.{ArePlaced, HasTables}
 use Rattle.clr_store.specs.Contract.{AreEditedAt, AreTablesAt, MakesEditsAt}
 use Rattle.clr_edge.specs.Database.{IsAsBefore, IsOfLine}
-use Rattle.clr_edge.specs.Journals.{IsOfBeginning}
+use Rattle.clr_edge.specs.Journals.{IsNew, IsOfBeginning}
 use Rattle.clr_desk.specs.declared.desk.Desk.{Desk}
+use Rattle.clr_chain.specs.Opening.{new_text}
+use Rattle.clr_level.specs.Forward.{CanBeOpened}
 use Rattle.clr_level.specs.declared.keeper.Keeper.{Keeper}
 use Rattle.clr_level.specs.declared.last.Last.TheVariants.{Settled}
 use Rattle.clr_keeping.specs.Keeping.{IsNotUp, IsUp, logged}
-use Rattle.clr_keeping.specs.TakenUp.{Logs}
-use Rattle.clr_edge.specs.Visit.{Done, Ending, Ends, Opening, Over, Shutting, first_fault}
+use Rattle.clr_keeping.specs.TakenUp.{Logs, store_place}
+use Rattle.clr_edge.specs.Visit.{Done, Ending, Ends, Opening, Shutting, first_fault}
 use Rattle.clr_edge.specs.declared.fault.Fault.{Fault}
 use Rattle.clr_edge.specs.declared.fault.Fault.TheVariants.{Journal, Memory}
 use Rattle.clr_edge.specs.declared.fault.JournalFault.TheVariants.{Begun}
@@ -33,7 +33,8 @@ begun_or (Err fault) = Err (Journal Begun)
 abbrev pub IsOfBegun : Fault → Type 0
 IsOfBegun fault = IsOfBeginning fault ⊎ (fault ≡ Journal Begun)
 
--- A JOURNAL WAS BEGUN AT A PATH with this first line, and let go as it was begun; then this was done
+-- A JOURNAL WAS BEGUN AT A PATH with this first line, and let go as it was begun: where its disk is
+-- clean, it has that line alone, now and after a crash. Then this was done
 pub record IsBegunThen {M J C : Type 0} (logs : Logs M J C) (path : List ℕ) (first : Place)
     (Does : Done → M → M → Type 0) (result : Done) (old new : M) : Type 0 where
   pub journal : J
@@ -41,6 +42,7 @@ pub record IsBegunThen {M J C : Type 0} (logs : Logs M J C) (path : List ℕ) (f
   pub middle : M
   pub begins : logs.steps.begins_journal old path first journal begun
   pub gone : logs.steps.lets_journal_go begun journal middle
+  pub line : IsNew logs.log logs.steps.is_clean first journal
   pub told : Done
   pub did : Does told middle new
   pub result_is : result ≡ begun_or told
@@ -53,10 +55,29 @@ BeginsFirst logs path first Does result old new =
     × logs.steps.spares_journal old path first fault new)
     ⊎ IsBegunThen logs path first Does result old new
 
+-- ---- level
+
+-- A REGISTER IS LEVEL WITH A JOURNAL THAT HAS ITS PLACE AS THE FIRST LINE, and no more, so that both
+-- can be opened: it is the register that the journal begins with
+abbrev pub BeginsLevel : {S : Type 0} → Ghosts S → Register → Place → Held S → Type 0
+BeginsLevel g R first after =
+    CanBeOpened store_place R first first R (state g after) (new_text first) []
+
+-- ONE THAT WAS GIVEN THE PLACE IS, if it had tables while its database was open; and it has these
+-- tables. Which register they are of is for the caller to know
+abbrev pub PlacedIsLevel : {S : Type 0} → Ghosts S → Held S → Place → Held S → Type 0
+PlacedIsLevel g before first after = (R : Register)
+    → (HasCleanDisk (state g after) → IsTrue (state g before).is_open
+    → (t : Tables) × HasTables (state g before).now t)
+    → BeginsLevel g R first after
+    × (HasCleanDisk (state g after) → (t : Tables) → HasTables (state g before).now t
+    → HasTables (state g after).now t)
+
 -- ---- with the register
 
--- THE TABLES OF A REGISTER WERE MADE WITH ITS FIRST PLACE, in a database that had nothing: where the
--- disk is clean they are there and saved, and a crash leaves both, or what it left before
+-- THE TABLES OF A REGISTER WERE MADE WITH ITS FIRST PLACE, in a database that had nothing, so it is
+-- level with the journal that begins there. Where the disk is clean they are there and saved, and a
+-- crash leaves both, or what it left before
 pub record IsMadeAt {S : Type 0} (g : Ghosts S) (before : Held S) (R : Register) (place : Place)
     (after : Held S) : Type 0 where
   pub mode : after.in_transaction ≡ before.in_transaction
@@ -64,6 +85,7 @@ pub record IsMadeAt {S : Type 0} (g : Ghosts S) (before : Held S) (R : Register)
   pub saved : HasCleanDisk (state g after) → IsSaved (state g after)
   pub tables : HasCleanDisk (state g after) → HasTables (state g after).now (tables_of R)
       × ArePlaced (state g after).now.trees (Some (place_row place))
+  pub level : BeginsLevel g R place after
   pub survives : Survives (state g before) (state g after)
       (AreTablesAt (tables_of R) (place_row place))
 
@@ -85,14 +107,15 @@ pub record MakesRegisterAt {S : Type 0} (g : Ghosts S) (R : Register) (place : P
 
 -- ---- for a register that has none
 
--- A REGISTER WAS GIVEN A PLACE, and its tables are as they were; or it was not, and the database is
--- as it was. Where the database is open and its disk clean, it was open. A crash leaves the same
--- tables with the place, or what it left before
+-- A REGISTER WAS GIVEN A PLACE, and its tables are as they were, so it is level with the journal that
+-- begins there; or it was not, and the database is as it was. Where the database is open and its
+-- disk clean, it was open. A crash leaves the same tables with the place, or what it left before
 pub record IsPlacedOrNot {S : Type 0} (g : Ghosts S) (before : Held S) (place : Place)
     (told : Done) (after : Held S) : Type 0 where
   pub made : HasCleanDisk (state g after)
       → OnOk told (MakesEditsAt (state g before).now [] (place_row place) (state g after).now)
   pub saved : HasCleanDisk (state g after) → OnOk told (IsSaved (state g after))
+  pub level : OnOk told (PlacedIsLevel g before place after)
   pub none : HasCleanDisk (state g after) → IsTrue (state g after).is_open
       → OnErr told ((state g after).now ≡ (state g before).now)
   pub was_open : HasCleanDisk (state g after) → IsTrue (state g after).is_open
@@ -129,14 +152,13 @@ GoesOnAt {M} g logs next result old new it after = (middle : M)
     × PlacesAt g logs next it.at told middle new it.keeper after))
 
 -- over the database at a path, taken up with the journal at another
-abbrev pub BeginsNextAt : {M D J C : Type 0} → Logs M J C → (g : disk.Ghosts D) → Opening M D
-    → Shutting M → Ending M D → List ℕ → List ℕ → List ℕ → Result ℕ Fault → M → M → Type 0
-BeginsNextAt {M = M} {D = D} {J = J} {C = C} logs g opens shuts ends path journal next result
-    old new =
+abbrev pub BeginsNextAt : {M J C T : Type 0} → Logs M J C → Ghosts T → Opening M T → Shutting M
+    → Ending M T → List ℕ → List ℕ → List ℕ → Result ℕ Fault → M → M → Type 0
+BeginsNextAt {M} {J} {C} {T} logs g opens shuts ends path journal next result old new =
     ((fault : Fault) × (result ≡ Err fault)
-    × IsNotUp g opens shuts ends path (logged over_files logs journal) old new fault)
-    ⊎ ((taken : Desk (Keeper (Over g) J C)) × (up : M) × (middle : M) × (after : Over g)
+    × IsNotUp opens shuts ends path (logged g logs journal) old new fault)
+    ⊎ ((taken : Desk (Keeper (Held T) J C)) × (up : M) × (middle : M) × (after : Held T)
     × (told : Result ℕ Fault) × (closed : Done)
-    × IsUp g opens path (logged over_files logs journal) old up taken
-    × GoesOnAt over_files logs next told up middle taken.store after
+    × IsUp opens path (logged g logs journal) old up taken
+    × GoesOnAt g logs next told up middle taken.store after
     × Ends ends after closed middle new × (result ≡ first_fault told closed))

@@ -2,11 +2,8 @@
 -- database, and how it is let go.
 use Rattle.std.specs.Prelude.{◌≡◌, ◌⊎◌, ℕ, false, IfErr, IsErrAnd, List, None, Option, Result, Some}
 use Rattle.std.specs.Borrow.{Bor}
-use Rattle.sqlite.specs.Files.{over_files}
 use Rattle.sqlite.specs.Held.{Held, state}
 use Rattle.sqlite.specs.State.{HasCleanDisk, State, Survives}
-use Rattle.sqlite_disk.specs.declared.Disk as disk
-use Rattle.sqlite_store.specs.declared.store.FileStore.{FileStore}
 use Rattle.sqlite_trees.specs.declared.store.Store.{Ghosts}
 use Rattle.clr_rules.specs.Fit.{IsFit}
 use Rattle.clr_rules.specs.Good.{IsGood}
@@ -24,7 +21,7 @@ use Rattle.clr_level.specs.declared.keeper.Keeper.{Keeper}
 use Rattle.clr_edge.specs.Database.{HasRegister, IsOfLine, IsOnlyRead, IsRefused, ReadsAs}
 use Rattle.clr_keeping.specs.TakenUp.{HasPlace, IsNotTakenUp, IsTakenUp, IsUnplaced, IsUnsuited, Logs}
 use Rattle.clr_keeping.specs.TakenUp.{store_place}
-use Rattle.clr_edge.specs.Visit.{Done, Ending, Ends, Opening, Over, Shutting, Visits}
+use Rattle.clr_edge.specs.Visit.{Done, Ending, Ends, Opening, Shutting, Visits}
 use Rattle.clr_edge.specs.declared.fault.Fault.{Fault}
 use Rattle.clr_edge.specs.declared.fault.Fault.TheVariants.{Journal}
 use Rattle.clr_edge.specs.declared.fault.JournalFault.TheVariants.{Missing}
@@ -207,53 +204,52 @@ WorksWith {J = J} {C = C} {T = T} logs g (Some journal) Idle Did =
 
 -- A REGISTER WAS TAKEN UP from the database at a path, with no transaction open, and a desk has it
 -- that has answered no fault
-pub record IsUp {M D K : Type 0} (g : disk.Ghosts D) (opens : Opening M D) (path : List ℕ)
-    (by : Keeping M (FileStore D g) K) (old new : M) (desk : Desk K) : Type 0 where
-  pub before : Over g
+pub record IsUp {M T K : Type 0} (opens : Opening M T) (path : List ℕ) (by : Keeping M T K)
+    (old new : M) (desk : Desk K) : Type 0 where
+  pub before : Held T
   pub middle : M
-  pub opened : opens old path g before middle
+  pub opened : opens old path before middle
   pub mode : before.in_transaction ≡ false
   pub good : IsGood desk.book.register
   pub uncounted : desk.faults ≡ 0
   pub taken_up : by.takes_up middle new before desk
 
 -- it was not: the database was not opened, or the register was refused, and the database closed
-abbrev pub IsNotUp : {M D K : Type 0} → (g : disk.Ghosts D) → Opening M D → Shutting M → Ending M D
-    → List ℕ → Keeping M (FileStore D g) K → M → M → Fault → Type 0
-IsNotUp g opens shuts ends path by old new fault =
+abbrev pub IsNotUp : {M T K : Type 0} → Opening M T → Shutting M → Ending M T → List ℕ
+    → Keeping M T K → M → M → Fault → Type 0
+IsNotUp opens shuts ends path by old new fault =
     (IsOfLine fault × shuts old path fault new)
-    ⊎ Visits g opens ends path (λ middle before after closed later.
+    ⊎ Visits opens ends path (λ middle before after closed later.
     by.refuses middle later before fault after × IfErr closed IsOfLine) old new
 
 -- what kept it was let go, and its database closed
-abbrev pub IsGone : {M D K : Type 0} {g : disk.Ghosts D} → (M → M → K → Over g → Type 0)
-    → Ending M D → K → Done → M → M → Type 0
-IsGone {M} {D} {K} {g} lets_go ends it closed old new = (after : Over g) × (middle : M)
+abbrev pub IsGone : {M T K : Type 0} → (M → M → K → Held T → Type 0) → Ending M T → K → Done → M
+    → M → Type 0
+IsGone {M} {T} lets_go ends it closed old new = (after : Held T) × (middle : M)
     × lets_go old middle it after × Ends ends after closed middle new
 
 -- ---- by the path of a journal, if one is named
 
-abbrev pub IsUpWith : {M D J C : Type 0} → (g : disk.Ghosts D) → Opening M D → List ℕ → Logs M J C
-    → Option (Bor (List ℕ)) → M → M → Opened (Over g) J C → Type 0
+abbrev pub IsUpWith : {M J C T : Type 0} → Ghosts T → Opening M T → List ℕ → Logs M J C
+    → Option (Bor (List ℕ)) → M → M → Opened (Held T) J C → Type 0
 IsUpWith g opens path logs None old new (Plain desk) =
-    IsUp g opens path (unlogged over_files) old new desk
+    IsUp opens path (unlogged g) old new desk
 IsUpWith g opens path logs (Some journal) old new (Logged desk) =
-    IsUp g opens path (logged over_files logs journal.now) old new desk
+    IsUp opens path (logged g logs journal.now) old new desk
 IsUpWith g opens path logs None old new (Logged desk) = ⊥
 IsUpWith g opens path logs (Some journal) old new (Plain desk) = ⊥
 
-abbrev pub IsNotUpWith : {M D J C : Type 0} → (g : disk.Ghosts D) → Opening M D → Shutting M
-    → Ending M D → List ℕ → Logs M J C → Option (Bor (List ℕ)) → M → M → Fault → Type 0
-IsNotUpWith g opens shuts ends path logs None =
-    IsNotUp g opens shuts ends path (unlogged over_files)
+abbrev pub IsNotUpWith : {M J C T : Type 0} → Ghosts T → Opening M T → Shutting M → Ending M T
+    → List ℕ → Logs M J C → Option (Bor (List ℕ)) → M → M → Fault → Type 0
+IsNotUpWith g opens shuts ends path logs None = IsNotUp opens shuts ends path (unlogged g)
 IsNotUpWith g opens shuts ends path logs (Some journal) =
-    IsNotUp g opens shuts ends path (logged over_files logs journal.now)
+    IsNotUp opens shuts ends path (logged g logs journal.now)
 
 -- THE REGISTER WAS LET GO, its journal first, if it has one, and its database closed
-abbrev pub IsLetGo : {M D J C : Type 0} {g : disk.Ghosts D} → Ending M D → Logs M J C
-    → Opened (Over g) J C → Done → M → M → Type 0
-IsLetGo {g = g} ends logs (Plain desk) = IsGone {g = g} GoesPlain ends desk.store
-IsLetGo {g = g} ends logs (Logged desk) = IsGone {g = g} (GoesLogged logs.steps) ends desk.store
+abbrev pub IsLetGo : {M J C T : Type 0} → Ending M T → Logs M J C → Opened (Held T) J C → Done
+    → M → M → Type 0
+IsLetGo ends logs (Plain desk) = IsGone GoesPlain ends desk.store
+IsLetGo ends logs (Logged desk) = IsGone (GoesLogged logs.steps) ends desk.store
 
 -- its desk was ended: its database is handed back, and its journal, if it has one
 abbrev pub IsEnded : {T J C : Type 0} → Opened (Held T) J C → Held T → Option J → Type 0

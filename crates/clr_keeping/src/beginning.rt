@@ -1,6 +1,5 @@
 //! The journal of a register is begun: with the register, or for one that has none.
 ghost use Rattle.std.specs.Prelude.{◌≡◌, ◌⊎◌, IfErr, IfOk, OnErr, OnOk, false};
-ghost use Rattle.sqlite.specs.Files.{over_files};
 ghost use Rattle.clr_rules.specs.Register.{opening};
 ghost use Rattle.clr_level.specs.declared.last.Last.TheVariants.{Settled};
 ghost use Rattle.clr_keeping.specs.Beginning.{BeginsFirst, BeginsNextAt, GoesOnAt, IsMadeAt, IsOfBegun};
@@ -41,8 +40,8 @@ pub fn begin_register<R: Makes + Journals>(
     staff: &Staff,
 ) -> Result<(), Fault>
     ensures begun { BeginsFirst (logs R.Journals R.Log.Journal R.Time.shows) journal.now first.now
-        (λ told old new. Comes R.Medium.Disk R.makes R.shuts R.ends path.now
-        (Alone (MakesRegisterAt over_files (opening network.now staff.now) first.now))
+        (λ told old new. Comes R.makes R.shuts R.ends path.now
+        (Alone (MakesRegisterAt R.Tables.Store (opening network.now staff.now) first.now))
         told old new) result rt.old rt.new }
     ensures fault { IfErr result IsOfBegun }
 {
@@ -61,8 +60,8 @@ fn store_register_at<R: Makes>(
     staff: &Staff,
     first: &Place,
 ) -> Result<(), Fault>
-    ensures visit { Comes R.Medium.Disk R.makes R.shuts R.ends path.now
-        (Alone (MakesRegisterAt over_files (opening network.now staff.now) first.now))
+    ensures visit { Comes R.makes R.shuts R.ends path.now
+        (Alone (MakesRegisterAt R.Tables.Store (opening network.now staff.now) first.now))
         result rt.old rt.new }
     ensures fault { IfErr result IsOfLine }
 {
@@ -157,7 +156,7 @@ pub fn begin_next<R: Databases + Journals>(
     journal: &str,
     next: &str,
 ) -> Result<u64, Fault>
-    ensures visit { BeginsNextAt (logs R.Journals R.Log.Journal R.Time.shows) R.Medium.Disk
+    ensures visit { BeginsNextAt (logs R.Journals R.Log.Journal R.Time.shows) R.Tables.Store
         R.opens R.shuts R.ends path.now journal.now next.now result rt.old rt.new }
     ensures fault { IfErr result (λ fault. IsOfTakingUp fault ⊎ IsOfBegun fault) }
 {

@@ -1,6 +1,5 @@
 //! A register is taken up from a database, with its journal or without one, and let go.
 ghost use Rattle.std.specs.Prelude.{◌≡◌, IfErr, IfOk, None, false};
-ghost use Rattle.sqlite.specs.Files.{over_files};
 ghost use Rattle.sqlite.specs.Held.{state};
 ghost use Rattle.clr_rules.specs.Good.{IsGood};
 ghost use Rattle.clr_desk.specs.Kept.{Keeps};
@@ -22,7 +21,7 @@ use clr_edge::journals::{Journals, OpenedJournal};
 use clr_level::{Keeper, OpeningFault, with_journal};
 use clr_place::Place;
 use clr_store::Store;
-use sqlite::{Alter, Connection, FileStore};
+use sqlite::{Alter, Connection};
 use std::alloc::Global;
 
 /// A register that was taken up: a desk over what keeps its changes, with a journal or without one.
@@ -48,10 +47,10 @@ pub fn take_up<R: Databases + Journals>(
     rt: &mut R,
     path: &str,
     journal: Option<&str>,
-) -> Result<Opened<Store<FileStore<R::Medium>>, R::Log, R::Time>, Fault>
-    ensures up { IfOk result (IsUpWith R.Medium.Disk R.opens path.now
+) -> Result<Opened<Store<R::Tables>, R::Log, R::Time>, Fault>
+    ensures up { IfOk result (IsUpWith R.Tables.Store R.opens path.now
         (logs R.Journals R.Log.Journal R.Time.shows) journal.entry rt.old rt.new) }
-    ensures none { IfErr result (IsNotUpWith R.Medium.Disk R.opens R.shuts R.ends path.now
+    ensures none { IfErr result (IsNotUpWith R.Tables.Store R.opens R.shuts R.ends path.now
         (logs R.Journals R.Log.Journal R.Time.shows) journal.entry rt.old rt.new) }
     ensures fault { IfErr result IsOfTakingUp }
 {
@@ -73,11 +72,11 @@ pub fn open_desk<R: Databases>(
     alloc: Global,
     rt: &mut R,
     path: &str,
-) -> Result<Desk<Store<FileStore<R::Medium>>>, Fault>
-    ensures up { IfOk result (IsUp R.Medium.Disk R.opens path.now (plain over_files)
+) -> Result<Desk<Store<R::Tables>>, Fault>
+    ensures up { IfOk result (IsUp R.opens path.now (plain R.Tables.Store)
         rt.old rt.new) }
-    ensures none { IfErr result (IsNotUp R.Medium.Disk R.opens R.shuts R.ends path.now
-        (plain over_files) rt.old rt.new) }
+    ensures none { IfErr result (IsNotUp R.opens R.shuts R.ends path.now
+        (plain R.Tables.Store) rt.old rt.new) }
     ensures fault { IfErr result IsOfTakingUp }
 {
     let connection = rt.stored(path)?;
@@ -96,11 +95,11 @@ pub fn unlogged_desk<R: Databases>(
     alloc: Global,
     rt: &mut R,
     path: &str,
-) -> Result<Desk<Store<FileStore<R::Medium>>>, Fault>
-    ensures up { IfOk result (IsUp R.Medium.Disk R.opens path.now (unlogged over_files)
+) -> Result<Desk<Store<R::Tables>>, Fault>
+    ensures up { IfOk result (IsUp R.opens path.now (unlogged R.Tables.Store)
         rt.old rt.new) }
-    ensures none { IfErr result (IsNotUp R.Medium.Disk R.opens R.shuts R.ends path.now
-        (unlogged over_files) rt.old rt.new) }
+    ensures none { IfErr result (IsNotUp R.opens R.shuts R.ends path.now
+        (unlogged R.Tables.Store) rt.old rt.new) }
     ensures fault { IfErr result IsOfTakingUp }
 {
     let desk = open_desk(alloc, rt, path)?;
@@ -169,12 +168,12 @@ fn logged_desk<R: Databases + Journals>(
     rt: &mut R,
     path: &str,
     journal: &str,
-) -> Result<Desk<Keeper<Store<FileStore<R::Medium>>, R::Log, R::Time>>, Fault>
-    ensures up { IfOk result (IsUp R.Medium.Disk R.opens path.now
-        (logged over_files (logs R.Journals R.Log.Journal R.Time.shows) journal.now)
+) -> Result<Desk<Keeper<Store<R::Tables>, R::Log, R::Time>>, Fault>
+    ensures up { IfOk result (IsUp R.opens path.now
+        (logged R.Tables.Store (logs R.Journals R.Log.Journal R.Time.shows) journal.now)
         rt.old rt.new) }
-    ensures none { IfErr result (IsNotUp R.Medium.Disk R.opens R.shuts R.ends path.now
-        (logged over_files (logs R.Journals R.Log.Journal R.Time.shows) journal.now)
+    ensures none { IfErr result (IsNotUp R.opens R.shuts R.ends path.now
+        (logged R.Tables.Store (logs R.Journals R.Log.Journal R.Time.shows) journal.now)
         rt.old rt.new) }
     ensures fault { IfErr result IsOfTakingUp }
 {
@@ -234,7 +233,7 @@ fn logged<S: Alter + Drop, R: Journals>(
 /// Lets a register go: its journal as it is then, if it has one, and then its database is closed.
 pub fn let_go<R: Databases + Journals>(
     rt: &mut R,
-    opened: Opened<Store<FileStore<R::Medium>>, R::Log, R::Time>,
+    opened: Opened<Store<R::Tables>, R::Log, R::Time>,
 ) -> Result<(), Fault>
     ensures gone { IsLetGo R.ends (logs R.Journals R.Log.Journal R.Time.shows) opened result
         rt.old rt.new }

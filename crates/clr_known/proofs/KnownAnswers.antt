@@ -4,10 +4,8 @@ use Rattle.std.specs.Borrow.{Bor}
 use Rattle.std.specs.Fmt.{digits}
 use Rattle.std.specs.Prelude.{◌⊎◌, IfErr, IfOk, IfSome, IsErrAnd, None, OnOk, String, string_bytes}
 use Rattle.std.specs.declared.alloc.Global.{Global}
-use Rattle.sqlite.specs.Files.{over_files}
-use Rattle.sqlite.specs.Held.{state}
-use Rattle.sqlite_disk.specs.declared.Disk as disk
-use Rattle.sqlite_disk.specs.declared.Files.{Files}
+use Rattle.sqlite.specs.Held.{Held, state}
+use Rattle.sqlite_trees.specs.declared.store.Store.{Ghosts}
 use Rattle.clr_net.specs.Grid.{Grid}
 use Rattle.clr_net.specs.declared.point.PointRow.{PointRow}
 use Rattle.clr_net.specs.declared.section.SectionRow.{SectionRow}
@@ -19,7 +17,6 @@ use Rattle.clr_load.specs.Stored.{HasTables}
 use Rattle.clr_load.specs.declared.fault.StoreFault.{StoreFault}
 use Rattle.clr_load.specs.declared.fault.StoreFault.TheVariants as store
 use Rattle.clr_tables.specs.Tables.{tables_of}
-use Rattle.clr_edge.proofs.Databases.{line_of_error}
 use Rattle.clr_csv.specs.declared.fault.CsvFault.{CsvFault}
 use Rattle.clr_result.specs.Results.{◌>>=◌}
 use Rattle.clr_edge.specs.Answers.{After}
@@ -29,7 +26,7 @@ use Rattle.clr_edge.specs.Database.{HasRegister, IsMade, IsOfLine, IsOfStore}
 use Rattle.clr_edge.specs.Fault.{of_store}
 use Rattle.clr_keeping.specs.Keeping.{IsNotReadAlone, Works, plain_keeper, unlogged}
 use Rattle.clr_keeping.specs.TakenUp.{Logs}
-use Rattle.clr_edge.specs.Visit.{Alone, Comes, Done, Ending, IsLeft, MakesRegister, MovesRegister, Opening, Over, Shutting, Visits, first_fault}
+use Rattle.clr_edge.specs.Visit.{Alone, Comes, Done, Ending, MakesRegister, MovesRegister, Opening, Shutting, Visits, first_fault}
 use Rattle.clr_edge.specs.declared.fault.Fault.{Fault}
 use Rattle.clr_edge.specs.declared.fault.Fault.TheVariants.{Journal, Memory}
 use Rattle.clr_edge.specs.declared.fault.JournalFault.TheVariants.{Missing}
@@ -78,13 +75,6 @@ moved_line (Ok value) (Ok done) of_told of_closed = tt
 moved_line (Ok value) (Err fault) of_told of_closed = of_closed
 moved_line (Err fault) closed of_told of_closed = of_told
 
--- a fault of closing is one of the database
-pub closing_line : {D : Type 0} {g : disk.Ghosts D} (c : Over g) (files : Files D) (closed : Done) → IsLeft c files closed → IfErr closed IsOfLine
-closing_line c files (Ok value) left = tt
-closing_line c files (Err fault) left =
-    let (error, is, fails) = left.copies in
-    subst (λ (f : Fault). IsOfLine f) (sym is) (line_of_error error)
-
 printed_moved : (moved : Done) (result : Result (String Global) Fault) → IfErr moved IsOfLine → PrintsMoved moved result → IsVersionTwo result
 printed_moved moved (Ok text) of_line prints = prints.1
 printed_moved moved (Err fault) of_line prints = subst (λ (d : Done). IfErr d IsOfLine) prints of_line
@@ -119,48 +109,47 @@ known_read s p e sections points staff read are =
     (subst (λ (p : Option (List ℕ)). AreRead (Some section_file) p e read) points
     (subst (λ (s : Option (List ℕ)). AreRead s p e read) sections are))
 
-module _ {D : Type 0} (g : disk.Ghosts D) (clean : IsAlwaysClean g) where
+module _ {T : Type 0} (g : Ghosts T) (clean : IsAlwaysClean g) where
   -- a register that was made is that of the worked network
-  tables_told : (told closed : Done) (after : Over g) (R : Register) → R ≡ worked_opening → first_fault told closed ≡ Ok tt
-      → OnOk told (HasTables (state over_files after).now (tables_of R)) → HasTables (state over_files after).now (tables_of worked_opening)
-  tables_told (Ok value) closed after R is whole made = subst (λ (S : Register). HasTables (state over_files after).now (tables_of S)) is made
+  tables_told : (told closed : Done) (after : Held T) (R : Register) → R ≡ worked_opening → first_fault told closed ≡ Ok tt
+      → OnOk told (HasTables (state g after).now (tables_of R)) → HasTables (state g after).now (tables_of worked_opening)
+  tables_told (Ok value) closed after R is whole made = subst (λ (S : Register). HasTables (state g after).now (tables_of S)) is made
   tables_told (Err fault) closed after R is whole made = absurd (cc whole)
 
-  made_clean : (told : Done) (before after : Over g) (R : Register) → OnOk told (IsMade over_files before R after)
-      → OnOk told (HasTables (state over_files after).now (tables_of R))
+  made_clean : (told : Done) (before after : Held T) (R : Register) → OnOk told (IsMade g before R after)
+      → OnOk told (HasTables (state g after).now (tables_of R))
   made_clean (Ok value) before after R made = made.tables (clean after)
   made_clean (Err fault) before after R made = tt
 
-  tables_made : (R : Register) (before after : Over g) (stored closed : Done) → R ≡ worked_opening → stored ≡ Ok tt
-      → MakesRegister over_files R stored before after closed → HasTables (state over_files after).now (tables_of worked_opening)
+  tables_made : (R : Register) (before after : Held T) (stored closed : Done) → R ≡ worked_opening → stored ≡ Ok tt
+      → MakesRegister g R stored before after closed → HasTables (state g after).now (tables_of worked_opening)
   tables_made R before after stored closed is ok makes =
       tables_told makes.told closed after R is (sym makes.result_is ∙ ok) (made_clean makes.told before after R makes.made)
 
-  module _ {M : Type 0} (opens : Opening M D) (shuts : Shutting M) (ends : Ending M D) where
+  module _ {M : Type 0} (opens : Opening M T) (shuts : Shutting M) (ends : Ending M T) where
     -- the tables were moved, or why not
     pub move_given : KnowsJones g opens → (path : List ℕ) (result : Result (String Global) Fault) (old new : M)
-        → Migrates (Comes g opens shuts ends path (Alone (MovesRegister over_files))) result old new → IsVersionTwo result
+        → Migrates (Comes opens shuts ends path (Alone (MovesRegister g))) result old new → IsVersionTwo result
     move_given knows path result old new (inl (is, same)) = without_memory result is
     move_given knows path result old new (inr (moved, prints, inl (fault, is, of_line, shut))) =
         printed_moved moved result (subst (λ (d : Done). IfErr d IsOfLine) (sym is) of_line) prints
     move_given knows path result old new (inr (moved, prints, inr visit)) =
         let moves = visit.does.1 in
-        let (files, left, back) = visit.ended in
         printed_moved moved result
         (subst (λ (d : Done). IfErr d IsOfLine) (sym moves.result_is)
         (moved_line moves.told visit.closed (moves.known jones_register (knows _ _ _ _ visit.opened) (clean visit.after))
-        (closing_line visit.after files visit.closed left))) prints
+        visit.ended.1)) prints
 
-    not_taken_up : (input : List ℕ) (before after : Over g) (fault : Fault) → HasRegister over_files jones_register before
-        → IsNotReadAlone over_files before fault after → IsOfStore fault ⊎ (fault ≡ Journal Missing) ⊎ IsOfInput (Some input) fault
+    not_taken_up : (input : List ℕ) (before after : Held T) (fault : Fault) → HasRegister g jones_register before
+        → IsNotReadAlone g before fault after → IsOfStore fault ⊎ (fault ≡ Journal Missing) ⊎ IsOfInput (Some input) fault
     not_taken_up input before after fault has (inl refused) = inl (line_of_store fault (refused.known _ has (clean after)))
     not_taken_up input before after fault has (inr (inl unplaced)) =
         inl (subst (λ (f : Fault). IsOfStore f) (sym unplaced.lacks.fault_is) (store_told unplaced.lacks.cause))
     not_taken_up input before after fault has (inr (inr misses)) = inr (inl misses.fault_is)
 
-    ran_given : (input : List ℕ) (printed : Result Printed Fault) (old new : M) (before after : Over g) → HasRegister over_files jones_register before
-        → (IsErrAnd printed (λ fault. (new ≡ old) × IsNotReadAlone over_files before fault after) × Unit {0})
-        ⊎ Works (unlogged over_files) (RunsAlone (Some input) (Over g) (plain_keeper over_files) printed) old new before after → IsRunOfJones input printed
+    ran_given : (input : List ℕ) (printed : Result Printed Fault) (old new : M) (before after : Held T) → HasRegister g jones_register before
+        → (IsErrAnd printed (λ fault. (new ≡ old) × IsNotReadAlone g before fault after) × Unit {0})
+        ⊎ Works (unlogged g) (RunsAlone (Some input) (Held T) (plain_keeper g) printed) old new before after → IsRunOfJones input printed
     ran_given input (Ok printed) old new before after has (inl refused) = absurd refused.0
     ran_given input (Err fault) old new before after has (inl refused) = not_taken_up input before after fault has refused.0.1
     ran_given input (Err fault) old new before after has (inr it) = inr (inr it.did.1.answer)
@@ -176,7 +165,7 @@ module _ {D : Type 0} (g : disk.Ghosts D) (clean : IsAlwaysClean g) where
 
     -- the input was answered over the register, as far as its bytes are known
     pub run_given : {J C : Type 0} (logs : Logs M J C) → KnowsJones g opens → (path : List ℕ) (input : Option (List ℕ)) (result : Result Printed Fault) (old new : M)
-        → Comes g opens shuts ends path (RunsOver logs over_files None input) result old new
+        → Comes opens shuts ends path (RunsOver logs g None input) result old new
         → IfSome input (λ bytes. IsRunOfJones bytes result)
     run_given logs knows path None result old new comes = tt
     run_given logs knows path (Some bytes) result old new (inl (fault, is, of_line, shut)) =
@@ -188,9 +177,9 @@ module _ {D : Type 0} (g : disk.Ghosts D) (clean : IsAlwaysClean g) where
         (ran_given bytes runs.told visit.middle visit.later visit.before visit.after (knows _ _ _ _ visit.opened) runs.works))
 
     stored_given : (path : List ℕ) (R : Register) (stored : Done) (old new : M) → R ≡ worked_opening → stored ≡ Ok tt
-        → Comes g opens shuts ends path (Alone (MakesRegister over_files R)) stored old new
-        → Visits g opens ends path (λ (middle : M) before after (closed : Done) (later : M).
-        HasTables (state over_files after).now (tables_of worked_opening)) old new
+        → Comes opens shuts ends path (Alone (MakesRegister g R)) stored old new
+        → Visits opens ends path (λ (middle : M) before after (closed : Done) (later : M).
+        HasTables (state g after).now (tables_of worked_opening)) old new
     stored_given path R stored old new is ok (inl (fault, failed, of_line, shut)) = absurd (cc (sym ok ∙ failed))
     stored_given path R stored old new is ok (inr visit) = record {
       before = visit.before;
@@ -205,7 +194,7 @@ module _ {D : Type 0} (g : disk.Ghosts D) (clean : IsAlwaysClean g) where
     }
 
     rows_stored : (path : List ℕ) (rows : FileRows) (result : Result (String Global) Fault) (old new : M) → worked_rows ≡ rows
-        → Stores (λ R. Comes g opens shuts ends path (Alone (MakesRegister over_files R))) rows result old new
+        → Stores (λ R. Comes opens shuts ends path (Alone (MakesRegister g R))) rows result old new
         → StoresWorked g opens ends path result old new
     rows_stored path rows (Err fault) old new is stores = tt
     rows_stored path rows (Ok text) old new is (inl (refuses, same)) = absurd refuses
@@ -217,14 +206,14 @@ module _ {D : Type 0} (g : disk.Ghosts D) (clean : IsAlwaysClean g) where
     -- the register of the worked files was stored
     pub read_given : (path : List ℕ) (read : Result FileRows Fault) (result : Result (String Global) Fault) (old new : M)
         → Gives IsUnreadFile (λ rows. rows) (rows_of worked_files) read
-        → After read (λ rows result. Stores (λ R. Comes g opens shuts ends path (Alone (MakesRegister over_files R))) rows result old new) result
+        → After read (λ rows result. Stores (λ R. Comes opens shuts ends path (Alone (MakesRegister g R))) rows result old new) result
         → StoresWorked g opens ends path result old new
     read_given path (Ok rows) result old new gives stores = rows_stored path rows result old new (cc (sym rows_read ∙ gives)) stores
     read_given path (Err fault) result old new gives is =
         subst (λ (r : Result (String Global) Fault). StoresWorked g opens ends path r old new) (sym is) tt
 
 -- the line of counts, wherever the register was stored
-pub counted : {M D : Type 0} (g : disk.Ghosts D) (makes : Opening M D) (ends : Ending M D) (path : List ℕ)
+pub counted : {M T : Type 0} (g : Ghosts T) (makes : Opening M T) (ends : Ending M T) (path : List ℕ)
     (result : Result (String Global) Fault) (old new : M) → StoresWorked g makes ends path result old new
     → IfOk result (λ text. string_bytes text ≡ worked_counts)
 counted g makes ends path (Ok text) old new stores = stores.0

@@ -3,9 +3,8 @@ use Rattle.std.proofs.Common.{◌≡◌, ◌∙◌, ℕ, ap, inl, inr, subst, sy
 use Rattle.std.specs.Prelude.{◌⊎◌, IsErrAnd, OnOk, String}
 use Rattle.std.specs.Borrow.{Bor}
 use Rattle.std.specs.declared.alloc.Global.{Global}
-use Rattle.sqlite.specs.Files.{over_files}
-use Rattle.sqlite_disk.specs.declared.Disk as disk
-use Rattle.sqlite_disk.specs.declared.Files.{Files}
+use Rattle.sqlite.specs.Held.{Held}
+use Rattle.sqlite_trees.specs.declared.store.Store.{Ghosts}
 use Rattle.clr_stream.specs.Streams.{Stream}
 use Rattle.clr_rules.specs.Good.{IsGood}
 use Rattle.clr_rules.specs.Id.{Id}
@@ -15,7 +14,7 @@ use Rattle.clr_logins.specs.declared.logins.LoginRow.{LoginRow}
 use Rattle.clr_args.specs.declared.asked.ServeArgs.{ServeArgs}
 use Rattle.clr_commands.specs.declared.serve.Terms.{Terms}
 use Rattle.clr_edge.specs.Database.{HasRegister, IsOfLine}
-use Rattle.clr_edge.specs.Visit.{Comes, Done, Ending, Opening, Over, Shutting, first_fault}
+use Rattle.clr_edge.specs.Visit.{Comes, Done, Ending, Opening, Shutting, first_fault}
 use Rattle.clr_edge.specs.declared.fault.Fault.{Fault}
 use Rattle.clr_keeping.specs.Keeping.{IsNotReadAlone, Works, plain_keeper, unlogged}
 use Rattle.clr_keeping.specs.TakenUp.{Logs}
@@ -46,11 +45,11 @@ pub given_all : {A B : Type 0} (Z : Type 0) (result : Done) → (A → B → OnO
 given_all Z (Ok value) given = given
 given_all Z (Err fault) given = tt
 
-module _ {M D : Type 0} (g : disk.Ghosts D) (clean : IsAlwaysClean g)
-    (opens : Opening M D) (shuts : Shutting M) (ends : Ending M D) (knows : KnowsJones g opens) where
+module _ {M T : Type 0} (g : Ghosts T) (clean : IsAlwaysClean g)
+    (opens : Opening M T) (shuts : Shutting M) (ends : Ending M T) (knows : KnowsJones g opens) where
   -- what is printed is what is answered of the register
   pub answer_given : (path : List ℕ) (IsOwn : Fault → Type 0) (answer : Register → Result (List ℕ) Fault) (result : Result (String Global) Fault)
-      (old new : M) → Comes g opens shuts ends path (WhileOpen (PrintsOf over_files IsOwn answer)) result old new
+      (old new : M) → Comes opens shuts ends path (WhileOpen (PrintsOf g IsOwn answer)) result old new
       → GivesText IsOfLine (answer jones_register) result
   answer_given path IsOwn answer result old new (inl (fault, is, of_line, shut)) =
       subst (λ (r : Result (String Global) Fault). GivesText IsOfLine (answer jones_register) r) (sym is) (λ other. absurd (other of_line))
@@ -59,7 +58,7 @@ module _ {M D : Type 0} (g : disk.Ghosts D) (clean : IsAlwaysClean g)
 
   -- the same of a way back, which closes its record alone besides
   pub way_back_given : (path : List ℕ) (o : Option Id) (result : Result (String Global) Fault) (old new : M)
-      → Comes g opens shuts ends path (WhileOpen (AnswersOf over_files IsOfWayBack (IsWayBackTo o))) result old new → GivesText IsOfLine (way_back_to jones_register o) result
+      → Comes opens shuts ends path (WhileOpen (AnswersOf g IsOfWayBack (IsWayBackTo o))) result old new → GivesText IsOfLine (way_back_to jones_register o) result
   way_back_given path o result old new (inl (fault, is, of_line, shut)) =
       subst (λ (r : Result (String Global) Fault). GivesText IsOfLine (way_back_to jones_register o) r) (sym is) (λ other. absurd (other of_line))
   way_back_given path o result old new (inr visit) =
@@ -102,23 +101,23 @@ module _ {M D : Type 0} (g : disk.Ghosts D) (clean : IsAlwaysClean g)
           (subst (λ (e : Stream). TakesFirst by net seen (once_at args.port) listener 1 first last errors e middle new) quiet'
           (subst (λ (t : Terms). TakesFirst by net seen t listener t.count first last errors errors' middle new) once.terms takes)))
 
-      served_so : (served : Done) (old new : M) (before after : Over g) → HasRegister over_files jones_register before
-          → (IsErrAnd served (λ fault. (new ≡ old) × IsNotReadAlone over_files before fault after) × ((output' ≡ output) × (errors' ≡ errors)))
-          ⊎ Works (unlogged over_files) (ServesDesk net seen args None output output' errors errors' (plain_keeper over_files) served) old new before after
+      served_so : (served : Done) (old new : M) (before after : Held T) → HasRegister g jones_register before
+          → (IsErrAnd served (λ fault. (new ≡ old) × IsNotReadAlone g before fault after) × ((output' ≡ output) × (errors' ≡ errors)))
+          ⊎ Works (unlogged g) (ServesDesk net seen args None output output' errors errors' (plain_keeper g) served) old new before after
           → OnOk served (IsBoardResponse (response new))
       served_so (Err fault) old new before after has over = tt
       served_so (Ok value) old new before after has (inl refused) = absurd refused.0
       served_so (Ok value) old new before after has (inr it) =
           subst (λ (m : M). IsBoardResponse (response m)) (sym it.gone.0)
-          (kept_so (desk_keeps (plain_keeper over_files)) it.taken it.left value it.between it.later (it.taken_up.1.0.is_register _ has (clean it.taken.store)) it.good
+          (kept_so (desk_keeps (plain_keeper g)) it.taken it.left value it.between it.later (it.taken_up.1.0.is_register _ has (clean it.taken.store)) it.good
           it.did.serves)
 
       -- the database is closed after it, which sends nothing
-      closed_so : (result served closed : Done) (files : Files D) (later new : M) → result ≡ first_fault served closed → ends later files new
+      closed_so : (result served closed : Done) (after : Held T) (later new : M) → result ≡ first_fault served closed → ends later after closed new
           → OnOk served (IsBoardResponse (response later)) → OnOk result (IsBoardResponse (response new))
-      closed_so result served closed files later new is back sent =
+      closed_so result served closed after later new is back sent =
           subst (λ (r : Done). OnOk r (IsBoardResponse (response new))) (sym is) (of_first served closed _
-          (subst (λ (bytes : List ℕ). OnOk served (IsBoardResponse bytes)) (sym (asked.ended _ _ _ back)) sent))
+          (subst (λ (bytes : List ℕ). OnOk served (IsBoardResponse bytes)) (sym (asked.ended _ _ _ _ back)) sent))
 
       no_visit : (result : Done) (fault : Fault) (P : Type 0) → result ≡ Err fault → OnOk result P
       no_visit result fault P is = subst (λ (r : Done). OnOk r P) (sym is) tt
@@ -129,7 +128,7 @@ module _ {M D : Type 0} (g : disk.Ghosts D) (clean : IsAlwaysClean g)
       kept path result old new (inl (fault, is, of_line, shut)) = no_visit result fault _ is
       kept path result old new (inr visit) =
           let stored = visit.does in
-          closed_so result stored.told visit.closed visit.ended.0 visit.later new stored.result_is visit.ended.2
+          closed_so result stored.told visit.closed visit.after visit.later new stored.result_is visit.ended.0
           (served_so stored.told visit.middle visit.later visit.before visit.after (knows _ _ _ _ visit.opened) stored.works)
 
       -- what goes out is the response to the request for the board

@@ -4,9 +4,8 @@ use Rattle.std.specs.Prelude.{IfErr, OnOk, String, is_ok, pos}
 use Rattle.std.specs.Str.{is_utf8, chars}
 use Rattle.std.specs.Char.{encode_utf8}
 use Rattle.std.specs.declared.alloc.Global.{Global}
-use Rattle.sqlite.specs.Files.{over_files}
-use Rattle.sqlite.specs.Held.{state}
-use Rattle.sqlite_disk.specs.declared.Disk as disk
+use Rattle.sqlite.specs.Held.{Held, state}
+use Rattle.sqlite_trees.specs.declared.store.Store.{Ghosts}
 use Rattle.clr_rules.proofs.Common.{in_fence, reaches, row_of, with_row, without_row, new_steps, greatest_number, steps_in, steps_of, has_any_hold, has_some_hold, holds_of}
 use Rattle.clr_rules.proofs.Common.{after_edits, touching_names, held_among, hindering_hold, first_of_each, places_of, after_all}
 use Rattle.clr_rules.specs.declared.command.Command.{Command}
@@ -22,13 +21,13 @@ use Rattle.clr_load.specs.declared.fault.StoreFault.TheVariants.{Sql, WrongVersi
 use Rattle.clr_store.specs.Moving.{RefusesMove}
 use Rattle.clr_edge.specs.Database.{IsMoved, IsOfLine, IsUnmoved}
 use Rattle.clr_edge.specs.Fault.{of_store}
-use Rattle.clr_edge.specs.Visit.{Alone, Comes, Done, Ending, MovesRegister, Opening, Over, Shutting, Visits, first_fault}
+use Rattle.clr_edge.specs.Visit.{Alone, Comes, Done, Ending, MovesRegister, Opening, Shutting, Visits, first_fault}
 use Rattle.clr_edge.specs.declared.fault.Fault.{Fault}
 use Rattle.clr_commands.specs.Migrate.{Migrates, PrintsMoved}
 use Rattle.clr_known.specs.Known.{IsAlwaysClean, IsVersionTwo, jones_register}
 use Rattle.clr_known.specs.OldTables.{HasOldJones, KnowsOldJones, MovesJones, first_step_tables}
 use Rattle.clr_known.proofs.JonesRegister.{jones_commands, lines_ask}
-use Rattle.clr_known.proofs.KnownAnswers.{closing_line, moved_line}
+use Rattle.clr_known.proofs.KnownAnswers.{moved_line}
 use Rattle.clr_known.proofs.OldTables.{tables_are}
 
 -- the network of the register has no jumper
@@ -64,25 +63,25 @@ refused (BadRow Journal) refuses = absurd refuses
 refused (WrongVersion n) refuses = absurd (refuses.1 (cc (sym refuses.0 ∙ version_read)))
 refused OtherTables refuses = absurd (refuses refl)
 
-module _ {M D : Type 0} (g : disk.Ghosts D) (clean : IsAlwaysClean g) (opens : Opening M D) (shuts : Shutting M) (ends : Ending M D)
+module _ {M T : Type 0} (g : Ghosts T) (clean : IsAlwaysClean g) (opens : Opening M T) (shuts : Shutting M) (ends : Ending M T)
     (knows : KnowsOldJones g opens) where
-  unmoved : (before after : Over g) (fault : Fault) → HasOldJones (state over_files before).now → IsUnmoved over_files before fault after → IsOfLine fault
+  unmoved : (before after : Held T) (fault : Fault) → HasOldJones (state g before).now → IsUnmoved g before fault after → IsOfLine fault
   unmoved before after fault has it =
       let refuses = it.refuses (clean after) (tables_by version_one jones_register) has in
       subst (λ (f : Fault). IsOfLine f) (sym it.told_is) (refused it.fault (subst (λ (t : Tables). RefusesMove t it.fault) tables_are refuses))
 
-  moved_tables : (told closed : Done) (before after : Over g) → HasOldJones (state over_files before).now → first_fault told closed ≡ Ok tt
-      → OnOk told (IsMoved over_files before after) → HasTables (state over_files after).now (tables_of jones_register)
+  moved_tables : (told closed : Done) (before after : Held T) → HasOldJones (state g before).now → first_fault told closed ≡ Ok tt
+      → OnOk told (IsMoved g before after) → HasTables (state g after).now (tables_of jones_register)
   moved_tables (Ok value) closed before after has whole moved = moved.register (clean after) jones_register no_jumper has
   moved_tables (Err fault) closed before after has whole moved = absurd (cc whole)
 
-  told_line : (told : Done) (before after : Over g) → HasOldJones (state over_files before).now → IfErr told (λ fault. IsUnmoved over_files before fault after) → IfErr told IsOfLine
+  told_line : (told : Done) (before after : Held T) → HasOldJones (state g before).now → IfErr told (λ fault. IsUnmoved g before fault after) → IfErr told IsOfLine
   told_line (Ok value) before after has it = tt
   told_line (Err fault) before after has it = unmoved before after fault has it
 
   -- the tables are those of the register
-  moved_so : (path : List ℕ) (moved : Done) (old new : M) → moved ≡ Ok tt → Comes g opens shuts ends path (Alone (MovesRegister over_files)) moved old new
-      → Visits g opens ends path (λ (middle : M) before after (closed : Done) (later : M). HasTables (state over_files after).now (tables_of jones_register)) old new
+  moved_so : (path : List ℕ) (moved : Done) (old new : M) → moved ≡ Ok tt → Comes opens shuts ends path (Alone (MovesRegister g)) moved old new
+      → Visits opens ends path (λ (middle : M) before after (closed : Done) (later : M). HasTables (state g after).now (tables_of jones_register)) old new
   moved_so path moved old new ok (inl (fault, failed, of_line, shut)) = absurd (cc (sym ok ∙ failed))
   moved_so path moved old new ok (inr visit) =
       let moves = visit.does.1 in record {
@@ -98,26 +97,25 @@ module _ {M D : Type 0} (g : disk.Ghosts D) (clean : IsAlwaysClean g) (opens : O
       }
 
   -- or only the database refused
-  of_line_so : (path : List ℕ) (moved : Done) (old new : M) → Comes g opens shuts ends path (Alone (MovesRegister over_files)) moved old new → IfErr moved IsOfLine
+  of_line_so : (path : List ℕ) (moved : Done) (old new : M) → Comes opens shuts ends path (Alone (MovesRegister g)) moved old new → IfErr moved IsOfLine
   of_line_so path moved old new (inl (fault, failed, of_line, shut)) = subst (λ (d : Done). IfErr d IsOfLine) (sym failed) of_line
   of_line_so path moved old new (inr visit) =
       let moves = visit.does.1 in
-      let (files, left, back) = visit.ended in
       subst (λ (d : Done). IfErr d IsOfLine) (sym moves.result_is)
-      (moved_line moves.told visit.closed (told_line moves.told visit.before visit.after (knows _ _ _ _ visit.opened) moves.unmoved) (closing_line visit.after files visit.closed left))
+      (moved_line moves.told visit.closed (told_line moves.told visit.before visit.after (knows _ _ _ _ visit.opened) moves.unmoved) visit.ended.1)
 
   printed_so : (path : List ℕ) (moved : Done) (result : Result (String Global) Fault) (old new : M) → PrintsMoved moved result
-      → Comes g opens shuts ends path (Alone (MovesRegister over_files)) moved old new → MovesJones g opens ends path result old new
+      → Comes opens shuts ends path (Alone (MovesRegister g)) moved old new → MovesJones g opens ends path result old new
   printed_so path moved (Ok text) old new prints comes = (prints.1, moved_so path moved old new prints.0 comes)
   printed_so path moved (Err fault) old new prints comes = subst (λ (d : Done). IfErr d IsOfLine) prints (of_line_so path moved old new comes)
 
   pub old_moved : (path : List ℕ) (result : Result (String Global) Fault) (old new : M)
-      → Migrates (Comes g opens shuts ends path (Alone (MovesRegister over_files))) result old new → MovesJones g opens ends path result old new
+      → Migrates (Comes opens shuts ends path (Alone (MovesRegister g))) result old new → MovesJones g opens ends path result old new
   old_moved path result old new (inl (is, same)) = subst (λ (r : Result (String Global) Fault). MovesJones g opens ends path r old new) (sym is) (inl refl)
   old_moved path result old new (inr (moved, prints, comes)) = printed_so path moved result old new prints comes
 
 -- what is printed, of any such move
-pub version_two : {M D : Type 0} (g : disk.Ghosts D) (opens : Opening M D) (ends : Ending M D) (path : List ℕ) (result : Result (String Global) Fault) (old new : M)
+pub version_two : {M T : Type 0} (g : Ghosts T) (opens : Opening M T) (ends : Ending M T) (path : List ℕ) (result : Result (String Global) Fault) (old new : M)
     → MovesJones g opens ends path result old new → IsVersionTwo result
 version_two g opens ends path (Ok text) old new moves = moves.0
 version_two g opens ends path (Err fault) old new moves = moves

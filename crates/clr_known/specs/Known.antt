@@ -7,11 +7,9 @@ use Rattle.std.specs.declared.alloc.Global.{Global}
 use Rattle.std.specs.declared.io.ErrorKind.{ErrorKind}
 use Rattle.std.specs.Borrow.{Bor}
 use Rattle.std.specs.Cmp.Lexicographic.{pointwise}
-use Rattle.sqlite.specs.Files.{over_files}
-use Rattle.sqlite.specs.Held.{state}
+use Rattle.sqlite.specs.Held.{Held, state}
 use Rattle.sqlite.specs.State.{HasCleanDisk}
-use Rattle.sqlite_disk.specs.declared.Disk as disk
-use Rattle.sqlite_disk.specs.declared.Files.{Files}
+use Rattle.sqlite_trees.specs.declared.store.Store.{Ghosts}
 use Rattle.clr_rules.specs.IdText.{read_id}
 use Rattle.clr_rules.specs.Register.{Register}
 use Rattle.clr_rules.specs.Run.{after_all}
@@ -28,7 +26,7 @@ use Rattle.clr_http.specs.Options.{plain}
 use Rattle.clr_http.specs.Response.{json, printed, response_bytes}
 use Rattle.clr_args.specs.declared.asked.ServeArgs.{ServeArgs}
 use Rattle.clr_edge.specs.Database.{HasRegister, IsOfLine, IsOfStore}
-use Rattle.clr_edge.specs.Visit.{Done, Ending, Opening, Over, Visits}
+use Rattle.clr_edge.specs.Visit.{Done, Ending, Opening, Visits}
 use Rattle.clr_edge.specs.declared.fault.Fault.{Fault}
 use Rattle.clr_edge.specs.declared.fault.Fault.TheVariants.{Journal}
 use Rattle.clr_edge.specs.declared.fault.JournalFault.TheVariants.{Missing}
@@ -64,20 +62,20 @@ jones_register = after_all worked_opening (commands_in jones_lines)
 -- ---- the machine
 
 -- each database that it opens has the register
-abbrev pub KnowsJones : {M D : Type 0} → (g : disk.Ghosts D) → Opening M D → Type 0
-KnowsJones {M} g opens = (old new : M) (path : List ℕ) (c : Over g) → opens old path g c new
-    → HasRegister over_files jones_register c
+abbrev pub KnowsJones : {M T : Type 0} → Ghosts T → Opening M T → Type 0
+KnowsJones {M} {T} g opens = (old new : M) (path : List ℕ) (c : Held T) → opens old path c new
+    → HasRegister g jones_register c
 
--- each connection of a medium is over a clean disk
-abbrev pub IsAlwaysClean : {D : Type 0} → disk.Ghosts D → Type 0
-IsAlwaysClean g = (c : Over g) → HasCleanDisk (state over_files c)
+-- each connection is over a clean disk
+abbrev pub IsAlwaysClean : {T : Type 0} → Ghosts T → Type 0
+IsAlwaysClean {T} g = (c : Held T) → HasCleanDisk (state g c)
 
 -- a request for the board
 abbrev pub board_request : List ℕ
 board_request = codes "GET /board HTTP/1.1\r\n\r\n"
 
 -- IT IS ASKED FOR THE BOARD over each connection, and keeps what went out over the last one
-pub record IsAskedForBoard {M D L R W : Type 0} (ends : Ending M D) (net : loopback.Ghosts M L R W)
+pub record IsAskedForBoard {M T L R W : Type 0} (ends : Ending M T) (net : loopback.Ghosts M L R W)
     (seen : Seen R W) (response : M → List ℕ) : Type 0 where
   pub comes : (old new : M) (l : L) (deadline : Option ℕ) (c : Connection R W)
       → net.comes old l deadline c new
@@ -88,7 +86,8 @@ pub record IsAskedForBoard {M D L R W : Type 0} (ends : Ending M D) (net : loopb
   pub keeps : (old new : M) (c : Connection R W) (is_expected : Bool)
       → net.hangs_up old c is_expected new
       → Stream.contents (seen.stream c.writer) ≡ Some (response new)
-  pub ended : (old new : M) (files : Files D) → ends old files new → response new ≡ response old
+  pub ended : (old new : M) (database : Held T) (closed : Done) → ends old database closed new
+      → response new ≡ response old
 
 -- ---- files
 
@@ -159,12 +158,12 @@ worked_counts = codes "sections 5 points 5 staff 6\n"
 
 -- that line, once a database was made at a path that has the tables of the worked network before any
 -- command
-abbrev pub StoresWorked : {M D : Type 0} → (g : disk.Ghosts D) → Opening M D → Ending M D
-    → List ℕ → Result (String Global) Fault → M → M → Type 0
+abbrev pub StoresWorked : {M T : Type 0} → Ghosts T → Opening M T → Ending M T → List ℕ
+    → Result (String Global) Fault → M → M → Type 0
 StoresWorked {M} g makes ends path result old new = IfOk result (λ text.
     (string_bytes text ≡ worked_counts)
-    × Visits g makes ends path (λ (middle : M) before after (closed : Done) (later : M).
-    HasTables (state over_files after).now (tables_of worked_opening)) old new)
+    × Visits makes ends path (λ (middle : M) before after (closed : Done) (later : M).
+    HasTables (state g after).now (tables_of worked_opening)) old new)
 
 -- WHAT THEY ANSWER of that register, and of an input whose bytes may be known
 pub record AreAnswers (input : Option (List ℕ))

@@ -4,14 +4,12 @@ use Rattle.std.specs.Prelude.{if◌then◌else◌}
 use Rattle.std.specs.Prelude.{Result, Ok, Err, String, string_bytes}
 use Rattle.std.specs.declared.alloc.Global.{Global}
 use Rattle.sqlite.specs.Effect.{Database}
-use Rattle.sqlite.specs.Files.{over_files}
-use Rattle.sqlite.specs.Held.{state}
+use Rattle.sqlite.specs.Held.{Held, state}
 use Rattle.sqlite.specs.Order.{Row}
 use Rattle.sqlite.specs.State.{KeepsCommit, State}
 use Rattle.sqlite.specs.Store.{Ghosts}
 use Rattle.sqlite.specs.declared.transaction.Transaction.{Transaction}
 use Rattle.sqlite.specs.declared.types.Value.TheVariants.{Null, Text}
-use Rattle.sqlite_disk.specs.declared.Disk as disk
 use Rattle.clr_examples.specs.Worked.{BOSS, DALE, G, H, JONES, KIM, L1, L2, L3, OPS, REED, S1, S2}
 use Rattle.clr_examples.specs.Worked.{S3, S4, T1}
 use Rattle.clr_tables.specs.Tables.{Tables, number_value, tables_by, tables_of, version_one}
@@ -25,7 +23,7 @@ use Rattle.clr_load.specs.declared.fault.StoreFault.{StoreFault}
 use Rattle.clr_load.specs.declared.layout.Layout.TheVariants.{OfOne}
 use Rattle.clr_store.specs.Change.{is_same}
 use Rattle.clr_edge.specs.Database.{IsOfLine}
-use Rattle.clr_edge.specs.Visit.{Done, Ending, Opening, Over, Visits}
+use Rattle.clr_edge.specs.Visit.{Done, Ending, Opening, Visits}
 use Rattle.clr_edge.specs.declared.fault.Fault.{Fault}
 use Rattle.clr_commands.specs.Migrate.{version_line}
 use Rattle.clr_known.specs.Known.{jones_register}
@@ -128,15 +126,15 @@ abbrev pub HasOldJones : Database → Type 0
 HasOldJones db = HasOldTables db (tables_by version_one jones_register)
 
 -- each database that a machine opens has it
-abbrev pub KnowsOldJones : {M D : Type 0} → (g : disk.Ghosts D) → Opening M D → Type 0
-KnowsOldJones {M} g opens = (old new : M) (path : List ℕ) (c : Over g) → opens old path g c new
-    → HasOldJones (state over_files c).now
+abbrev pub KnowsOldJones : {M T : Type 0} → Ghosts T → Opening M T → Type 0
+KnowsOldJones {M} {T} g opens = (old new : M) (path : List ℕ) (c : Held T) → opens old path c new
+    → HasOldJones (state g c).now
 
 -- WHAT `migrate` DOES TO IT: it prints the version, and leaves the register in tables of version 2;
 -- or memory ran out, or the database failed
-abbrev pub MovesJones : {M D : Type 0} → (g : disk.Ghosts D) → Opening M D → Ending M D → List ℕ
+abbrev pub MovesJones : {M T : Type 0} → Ghosts T → Opening M T → Ending M T → List ℕ
     → Result (String Global) Fault → M → M → Type 0
 MovesJones {M} g opens ends path (Ok text) old new = (string_bytes text ≡ version_line)
-    × Visits g opens ends path (λ (middle : M) before after (closed : Done) (later : M).
-    HasTables (state over_files after).now (tables_of jones_register)) old new
+    × Visits opens ends path (λ (middle : M) before after (closed : Done) (later : M).
+    HasTables (state g after).now (tables_of jones_register)) old new
 MovesJones g opens ends path (Err fault) old new = IsOfLine fault

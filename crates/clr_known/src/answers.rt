@@ -85,6 +85,7 @@ fn move_of_jones<R: JonesMachine>(alloc: Global, machine: &mut R) -> Result<Stri
     let args = MigrateArgs {
         database: "jones.db",
         journal: None,
+        after: None,
     };
     migrate(alloc, machine, &args)
 }
@@ -111,7 +112,7 @@ fn made_of_files<'a, R: JonesMachine, O: Opens<'a>>(
     paths: &O,
 ) -> Result<String, Fault>
     requires { HasWorkedFiles (O.bytes_at paths.now) }
-    ensures { StoresWorked R.Medium.Disk R.makes R.ends (codes "new.db") result machine.old
+    ensures { StoresWorked R.Tables.Store R.makes R.ends (codes "new.db") result machine.old
         machine.new }
 {
     let files = Files {

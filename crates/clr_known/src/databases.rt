@@ -1,5 +1,5 @@
 //! A database whose register is known: that of JONES/1 with its first step done.
-ghost use Rattle.std.specs.Prelude.{◌≡◌, ◌++◌, ◌∷◌, [], false, IfErr, IfOk, Ok, OnOk};
+ghost use Rattle.std.specs.Prelude.{◌≡◌, ◌++◌, ◌∷◌, [], false, IfErr, IfOk, IfSome, None, Ok, OnOk};
 ghost use Rattle.sqlite.specs.Files.{over_files};
 ghost use Rattle.sqlite.specs.Held.{state};
 ghost use Rattle.sqlite.specs.State.{HasCleanDisk};
@@ -29,7 +29,7 @@ use clr_store::Store;
 use clr_stream::Counted;
 use clr_text::{TextFault, command_of};
 use sqlite::{Alter, Connection, FileStore, Options};
-use sqlite_disk::{Files, Memory};
+use sqlite_disk::{Disk, Files, Memory};
 use std::alloc::Global;
 
 pub const SECTIONS: &[u8] = b"section,source\nG,yes\nL1,no\nL2,no\nL3,no\nH,yes\n";
@@ -59,14 +59,14 @@ impl Databases for Known {
     ghost use Rattle.clr_edge.specs.Database.{HasRegister};
     ghost use Rattle.clr_known.specs.Known.{jones_register};
 
-    type Medium = Memory;
+    type Tables = FileStore<Memory>;
 
-    ghost opens = { λ old _ _ connection new.
+    ghost opens = { λ old _ connection new.
         (new ≡ old) × HasRegister over_files jones_register connection };
 
     ghost shuts = { λ old _ _ new. new ≡ old };
 
-    ghost ends = { λ old _ new. new ≡ old };
+    ghost ends = { λ old _ _ new. new ≡ old };
 
     fn stored(&mut self, path: &str) -> Result<Connection<FileStore<Memory>>, Fault>
         ensures opens { IfOk result (λ connection.
@@ -82,10 +82,13 @@ impl Databases for Known {
         }
     }
 
-    fn give_back(&mut self, files: Files<Memory>)
-        ensures { self.new ≡ self.old }
+    fn end(&mut self, place: &mut Option<Connection<FileStore<Memory>>>) -> Result<(), Fault>
+        ensures ends { IfSome place.old (λ _. (self.new ≡ self.old) × IfErr result IsOfLine) }
+        ensures none { place.old ≡ None → self.new ≡ self.old }
+        ensures taken { place.new ≡ None }
+        ensures fault { IfErr result IsOfLine }
     {
-        drop(files);
+        closed(place.take())
     }
 }
 
@@ -93,7 +96,7 @@ impl Databases for Known {
 impl Makes for Known {
     ghost use Rattle.std.specs.Prelude.{◌≡◌};
 
-    ghost makes = { λ old _ _ _ new. new ≡ old };
+    ghost makes = { λ old _ _ new. new ≡ old };
 
     fn database(&mut self, _path: &str) -> Result<Connection<FileStore<Memory>>, Fault>
         ensures makes { IfOk result (λ _. self.new ≡ self.old) }
@@ -116,6 +119,21 @@ pub(crate) fn empty_database(alloc: Global) -> Result<Connection<FileStore<Memor
     };
     match Connection::open_files(alloc, files, Options::new(1)) {
         Ok(connection) => Ok(connection),
+        Err((error, _)) => Err(of_line(Fault::from(StoreFault::from(error)))),
+    }
+}
+
+/// Closes a database, of which nothing is kept.
+pub(crate) fn closed<D: Disk + Drop>(
+    connection: Option<Connection<FileStore<D>>>,
+) -> Result<(), Fault>
+    ensures { IfErr result IsOfLine }
+{
+    let Some(connection) = connection else {
+        return Ok(());
+    };
+    match connection.close_files() {
+        Ok(_) => Ok(()),
         Err((error, _)) => Err(of_line(Fault::from(StoreFault::from(error)))),
     }
 }

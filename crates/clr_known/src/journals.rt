@@ -1,6 +1,6 @@
 //! The machines in memory have no journals: none is opened there, and none is begun.
-ghost use Rattle.std.specs.Prelude.{◌≡◌, IfErr, IfOk};
-ghost use Rattle.clr_edge.specs.Journals.{IsOfBeginning, IsOfOpening};
+ghost use Rattle.std.specs.Prelude.{◌≡◌, IfErr, IfOk, true};
+ghost use Rattle.clr_edge.specs.Journals.{IsNew, IsOfBeginning, IsOfOpening};
 
 use crate::machine::Known;
 use crate::version_one::OldKnown;
@@ -13,7 +13,7 @@ use sqlite_disk::Memory;
 
 /// Each journal fails to open.
 impl Journals for Known {
-    ghost use Rattle.std.specs.Prelude.{◌≡◌};
+    ghost use Rattle.std.specs.Prelude.{◌≡◌, true};
 
     type Log = OnDisk<Memory>;
 
@@ -31,6 +31,8 @@ impl Journals for Known {
 
     ghost has_time = { λ _ _. Unit {0} };
 
+    ghost is_clean = { λ _. true };
+
     fn journal(
         &mut self,
         _path: &str,
@@ -46,11 +48,13 @@ impl Journals for Known {
         Err(no_journal())
     }
 
-    fn begin_journal(&mut self, _path: &str, _first: &Place) -> Result<OnDisk<Memory>, Fault>
+    fn begin_journal(&mut self, _path: &str, first: &Place) -> Result<OnDisk<Memory>, Fault>
         ensures begins_journal { IfOk result (λ _. ⊥) }
+        ensures new { IfOk result (IsNew ⟦<OnDisk<Memory> as Journal>⟧ (λ _. true) first.now) }
         ensures spares_journal { IfErr result (λ _. self.new ≡ self.old) }
         ensures fault { IfErr result IsOfBeginning }
     {
+        let _first = first;
         Err(no_journal())
     }
 
@@ -65,7 +69,7 @@ impl Journals for Known {
 
 /// So it is with the machine whose tables are of version 1.
 impl Journals for OldKnown {
-    ghost use Rattle.std.specs.Prelude.{◌≡◌};
+    ghost use Rattle.std.specs.Prelude.{◌≡◌, true};
 
     type Log = OnDisk<Memory>;
 
@@ -83,6 +87,8 @@ impl Journals for OldKnown {
 
     ghost has_time = { λ _ _. Unit {0} };
 
+    ghost is_clean = { λ _. true };
+
     fn journal(
         &mut self,
         _path: &str,
@@ -98,11 +104,13 @@ impl Journals for OldKnown {
         Err(no_journal())
     }
 
-    fn begin_journal(&mut self, _path: &str, _first: &Place) -> Result<OnDisk<Memory>, Fault>
+    fn begin_journal(&mut self, _path: &str, first: &Place) -> Result<OnDisk<Memory>, Fault>
         ensures begins_journal { IfOk result (λ _. ⊥) }
+        ensures new { IfOk result (IsNew ⟦<OnDisk<Memory> as Journal>⟧ (λ _. true) first.now) }
         ensures spares_journal { IfErr result (λ _. self.new ≡ self.old) }
         ensures fault { IfErr result IsOfBeginning }
     {
+        let _first = first;
         Err(no_journal())
     }
 

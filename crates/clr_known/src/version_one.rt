@@ -1,5 +1,5 @@
 //! A machine whose database has the register of JONES/1 in tables of version 1, and their move.
-ghost use Rattle.std.specs.Prelude.{◌≡◌, codes, false, IfErr, IfOk};
+ghost use Rattle.std.specs.Prelude.{◌≡◌, codes, false, IfErr, IfOk, IfSome, None};
 ghost use Rattle.sqlite.specs.Files.{over_files};
 ghost use Rattle.sqlite.specs.Held.{state};
 ghost use Rattle.sqlite.specs.State.{HasCleanDisk};
@@ -7,7 +7,7 @@ ghost use Rattle.clr_edge.specs.Database.{IsOfLine};
 ghost use Rattle.clr_known.specs.Known.{IsAlwaysClean, IsVersionTwo};
 ghost use Rattle.clr_known.specs.OldTables.{HasOldJones, KnowsOldJones, MovesJones};
 
-use crate::databases::{empty_database, of_line};
+use crate::databases::{closed, empty_database, of_line};
 use crate::old_tables::make_old;
 use clr_args::asked::MigrateArgs;
 use clr_commands::migrate::migrate;
@@ -16,7 +16,7 @@ use clr_edge::fault::Fault;
 use clr_edge::journals::Journals;
 use clr_load::StoreFault;
 use sqlite::{Alter, Connection, FileStore};
-use sqlite_disk::{Files, Memory};
+use sqlite_disk::Memory;
 use std::alloc::Global;
 
 /// A machine in memory whose database is of version 1.
@@ -32,14 +32,14 @@ impl Databases for OldKnown {
     ghost use Rattle.sqlite.specs.Held.{state};
     ghost use Rattle.clr_known.specs.OldTables.{HasOldJones};
 
-    type Medium = Memory;
+    type Tables = FileStore<Memory>;
 
-    ghost opens = { λ old _ _ connection new.
+    ghost opens = { λ old _ connection new.
         (new ≡ old) × HasOldJones (state over_files connection).now };
 
     ghost shuts = { λ old _ _ new. new ≡ old };
 
-    ghost ends = { λ old _ new. new ≡ old };
+    ghost ends = { λ old _ _ new. new ≡ old };
 
     fn stored(&mut self, path: &str) -> Result<Connection<FileStore<Memory>>, Fault>
         ensures opens { IfOk result (λ connection.
@@ -55,19 +55,22 @@ impl Databases for OldKnown {
         }
     }
 
-    fn give_back(&mut self, files: Files<Memory>)
-        ensures { self.new ≡ self.old }
+    fn end(&mut self, place: &mut Option<Connection<FileStore<Memory>>>) -> Result<(), Fault>
+        ensures ends { IfSome place.old (λ _. (self.new ≡ self.old) × IfErr result IsOfLine) }
+        ensures none { place.old ≡ None → self.new ≡ self.old }
+        ensures taken { place.new ≡ None }
+        ensures fault { IfErr result IsOfLine }
     {
-        drop(files);
+        closed(place.take())
     }
 }
 
 /// A machine whose databases have the register of JONES/1 in tables of version 1, and whose disks are
 /// clean.
 pub trait OldMachine: Databases + Journals {
-    ghost knows: { KnowsOldJones Self.Medium.Disk Self.opens };
+    ghost knows: { KnowsOldJones Self.Tables.Store Self.opens };
 
-    ghost clean: { IsAlwaysClean Self.Medium.Disk };
+    ghost clean: { IsAlwaysClean Self.Tables.Store };
 }
 
 impl OldMachine for OldKnown {
@@ -80,13 +83,14 @@ impl OldMachine for OldKnown {
 
 /// The move of its tables.
 fn move_of_old<R: OldMachine>(alloc: Global, machine: &mut R) -> Result<String, Fault>
-    ensures moved { MovesJones R.Medium.Disk R.opens R.ends (codes "old.db") result machine.old
+    ensures moved { MovesJones R.Tables.Store R.opens R.ends (codes "old.db") result machine.old
         machine.new }
     ensures printed { IsVersionTwo result }
 {
     let args = MigrateArgs {
         database: "old.db",
         journal: None,
+        after: None,
     };
     migrate(alloc, machine, &args)
 }

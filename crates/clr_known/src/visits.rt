@@ -22,9 +22,9 @@ use std::alloc::Global;
 pub trait JonesMachine: Makes + Journals + Loopback {
     ghost response: { Self → List ℕ };
 
-    ghost knows: { KnowsJones Self.Medium.Disk Self.opens };
+    ghost knows: { KnowsJones Self.Tables.Store Self.opens };
 
-    ghost clean: { IsAlwaysClean Self.Medium.Disk };
+    ghost clean: { IsAlwaysClean Self.Tables.Store };
 
     ghost asked: { IsAskedForBoard Self.ends Self.Loopback
         (seen Self.Reader.remaining Self.Reader.failure_count Self.Writer.stream) response };
@@ -46,7 +46,7 @@ impl JonesMachine for Known {
           (ap (λ (bytes : List ℕ). Some bytes) came.1, ap (λ (bytes : List ℕ). Some bytes) came.2);
       misses = λ old new listener tries kind missed. missed;
       keeps = λ old new connection is_expected left. ap (λ (m : AnyKnown). Some m.response.items) (sym left);
-      ended = λ old new files back. ap (λ (m : AnyKnown). m.response.items) back;
+      ended = λ old new database closed back. ap (λ (m : AnyKnown). m.response.items) back;
     } };
 }
 

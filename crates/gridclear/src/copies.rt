@@ -4,7 +4,7 @@ ghost use Rattle.sqlite.specs.Files.{image_of};
 ghost use Rattle.sqlite_wal.specs.Files.{image_at};
 
 use crate::either::Either;
-use clr_disk::{Host, Place, System};
+use clr_disk::{Event, Host, Place, System};
 use sqlite::{FileFrom, Start};
 use sqlite_disk::{Disk, Files};
 use sqlite_std_file::OpenError;
@@ -170,6 +170,8 @@ where
         let (log, db) = (Either::First(log), Either::First(db));
         Ok(Files { log, db })
     }
+
+    fn show(&self, _event: Event) {}
 
     fn let_go(&mut self, file: Medium<S, C>) {
         match file {

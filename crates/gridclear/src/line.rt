@@ -49,7 +49,7 @@ pub trait Answers {
         ensures status { result ≤ 2 }
         ensures answer { IfOk (words self.old) (λ given. AnswersWords
             (steps (logs R.Journals R.Log.Journal R.Time.shows)
-            R.Medium.Disk R.makes R.opens R.shuts R.ends R.Loopback
+            R.Tables.Store R.makes R.opens R.shuts R.ends R.Loopback
             (seen R.Reader.remaining R.Reader.failure_count R.Writer.stream))
             (shows self.old) (map ⟦<String as AsStr>⟧.text given.items) result
             (moment machine.old (input self.old) (output self.old) (errors self.old))

@@ -22,20 +22,21 @@ use crate::input::StandardInput;
 use crate::line::{Answers, CommandLine};
 use clr_append::{Journal, OnDisk};
 use clr_chain::Clock as JournalClock;
-use clr_disk::{Behind, System, Timed, Watch, Watched};
+use clr_disk::{Behind, System, Timed, Watch, Watching};
 use clr_edge::database::{Databases, Makes};
 use clr_edge::journals::{Journals, Seconds};
 use clr_edge::loopback::Loopback;
 use clr_edge::machine::{DatabaseStart, JournalStart, Machine};
 use clr_edge::paths::{AtPath, Paths};
 use clr_stream::{Counted, CountedFlush, CountedRead, CountedWrite};
-use sqlite_disk::{Disk, Start};
+use sqlite::FileStore;
+use sqlite_disk::Start;
+use sqlite_trees::store::Store;
 use std::convert::AsStr;
 use std::io::Read;
 use std::net::TcpStream;
 use std::os::fd::AsFd;
 use std::process::ExitCode;
-use std::rt::Clock;
 use std::{env, io};
 
 /// One of the two handles of a connection.
@@ -97,6 +98,7 @@ fn program(rt: &HostRuntime) -> ExitCode
         Err(fault) => Err(fault),
     };
     let files: WithCopy<DatabaseStart, CopyStart, JournalStart, NextStart> = WithCopy::of_files(rt);
+    let files = Watching::new(files, &watch);
     let mut line = CommandLine {
         words: &words,
         paths: Paths::new(&files),
@@ -105,7 +107,7 @@ fn program(rt: &HostRuntime) -> ExitCode
         errors: Behind::new(Counted::new(rt.stderr()), &watch),
     };
     let system = WithCopy::new(rt, DatabaseStart, CopyStart, JournalStart, NextStart);
-    let mut machine = Machine::watched(rt.alloc(), system, &watch);
+    let mut machine = Machine::new(rt.alloc(), Watching::new(system, &watch));
     let status = answer_line(&mut machine, &mut line);
     exit_code(status)
 }
@@ -113,23 +115,22 @@ fn program(rt: &HostRuntime) -> ExitCode
 /// Answers the words of a process on a machine, whose system opens databases and listens, with the
 /// files that another value of that system opens. What is asked of the streams is said here, and what
 /// is asked of a machine in `answer`: at the host both together take too much memory.
-fn answer_line<'a, 'm, Y, K, I, W, E>(
-    machine: &mut Machine<'m, Y, K>,
+fn answer_line<'a, Y, I, W, E>(
+    machine: &mut Machine<Y>,
     line: &mut CommandLine<'a, Paths<'a, Y>, I, W, E>,
 ) -> u8
 where
     Y: System,
-    K: Clock,
     I: CountedRead + Drop,
     W: CountedFlush + Drop,
     E: CountedFlush + Drop,
     ensures status { result ≤ 2 }
     ensures answer { IfOk line.old.words.now (λ given. AnswersWords
-        (steps (logs ⟦<Machine<'m, Y, K> as Journals>⟧ ⟦<OnDisk<Y::JournalMedium> as Journal>⟧
+        (steps (logs ⟦<Machine<Y> as Journals>⟧ ⟦<OnDisk<Y::JournalMedium> as Journal>⟧
         ⟦<Seconds<Y::Clock> as JournalClock>⟧.shows)
-        ⟦<Watched<'m, Y::Medium, K> as Disk>⟧ ⟦<Machine<'m, Y, K> as Makes>⟧.makes
-        ⟦<Machine<'m, Y, K> as Databases>⟧.opens ⟦<Machine<'m, Y, K> as Databases>⟧.shuts
-        ⟦<Machine<'m, Y, K> as Databases>⟧.ends ⟦<Machine<'m, Y, K> as Loopback>⟧
+        ⟦<FileStore<Y::Medium> as Store>⟧ ⟦<Machine<Y> as Makes>⟧.makes
+        ⟦<Machine<Y> as Databases>⟧.opens ⟦<Machine<Y> as Databases>⟧.shuts
+        ⟦<Machine<Y> as Databases>⟧.ends ⟦<Machine<Y> as Loopback>⟧
         (seen ⟦<Handle<Y::Clock> as Read>⟧.remaining
         ⟦<Handle<Y::Clock> as CountedRead>⟧.failure_count
         ⟦<Handle<Y::Clock> as CountedWrite>⟧.stream))
@@ -151,14 +152,14 @@ where
 }
 
 /// Answers words on such a machine.
-fn answer<'m, Y: System, K: Clock, L: Answers>(machine: &mut Machine<'m, Y, K>, line: &mut L) -> u8
+fn answer<Y: System, L: Answers>(machine: &mut Machine<Y>, line: &mut L) -> u8
     ensures status { result ≤ 2 }
     ensures answer { IfOk (L.words line.old) (λ given. AnswersWords
-        (steps (logs ⟦<Machine<'m, Y, K> as Journals>⟧ ⟦<OnDisk<Y::JournalMedium> as Journal>⟧
+        (steps (logs ⟦<Machine<Y> as Journals>⟧ ⟦<OnDisk<Y::JournalMedium> as Journal>⟧
         ⟦<Seconds<Y::Clock> as JournalClock>⟧.shows)
-        ⟦<Watched<'m, Y::Medium, K> as Disk>⟧ ⟦<Machine<'m, Y, K> as Makes>⟧.makes
-        ⟦<Machine<'m, Y, K> as Databases>⟧.opens ⟦<Machine<'m, Y, K> as Databases>⟧.shuts
-        ⟦<Machine<'m, Y, K> as Databases>⟧.ends ⟦<Machine<'m, Y, K> as Loopback>⟧
+        ⟦<FileStore<Y::Medium> as Store>⟧ ⟦<Machine<Y> as Makes>⟧.makes
+        ⟦<Machine<Y> as Databases>⟧.opens ⟦<Machine<Y> as Databases>⟧.shuts
+        ⟦<Machine<Y> as Databases>⟧.ends ⟦<Machine<Y> as Loopback>⟧
         (seen ⟦<Handle<Y::Clock> as Read>⟧.remaining
         ⟦<Handle<Y::Clock> as CountedRead>⟧.failure_count
         ⟦<Handle<Y::Clock> as CountedWrite>⟧.stream))

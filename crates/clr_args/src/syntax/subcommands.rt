@@ -277,7 +277,7 @@ pub fn archive<'a>(alloc: Global) -> Result<Command<'a>, AllocError>
     .end()
 }
 
-/// `migrate DB [--journal FILE]`
+/// `migrate DB [--journal FILE] [--after NUMBER]`
 pub fn migrate<'a>(alloc: Global) -> Result<Command<'a>, AllocError>
     ensures { IfOk result (λ c. app_of c ≡ migrate) }
 {
@@ -292,6 +292,12 @@ pub fn migrate<'a>(alloc: Global) -> Result<Command<'a>, AllocError>
         "journal",
         "FILE",
         "Begins a journal for a register that has none, and moves no tables",
+    ))
+    .arg(option(
+        alloc,
+        "after",
+        "NUMBER",
+        "Begins FILE as a part for a register with a journal that ends at this number",
     ))
     .end()
 }

@@ -14,7 +14,7 @@ returns-in-Ok-clause-answer g c = inr (c.in-Ok.parsed, c.in-Ok.ensures, c.answer
 
 pub returns-in-Ok-clause-reported : goal.returns-in-Ok-clause-reported
 returns-in-Ok-clause-reported g c =
-    does (steps (logs g.R.Journals g.R.Log.Journal g.R.Time.Clock.shows) g.R.Medium.Disk g.R.Makes.makes g.R.Databases.opens g.R.Databases.shuts g.R.Databases.ends g.R.Loopback
+    does (steps (logs g.R.Journals g.R.Log.Journal g.R.Time.Clock.shows) g.R.Tables.Store g.R.Makes.makes g.R.Databases.opens g.R.Databases.shuts g.R.Databases.ends g.R.Loopback
     (seen g.R.Reader.Read.remaining g.R.Reader.CountedRead.failure_count g.R.Writer.CountedWrite.stream))
     (around (at_paths g.O.File.Read.remaining g.O.File.CountedRead.failure_count (g.O.Opens.bytes_at c.args.paths.now)) (g.O.Opens.owns c.args.paths.now) (g.O.Opens.spares c.args.paths.now) g.I.Read.remaining g.I.CountedRead.failure_count) c.in-Ok.parsed c.answer.result
     (moment c.args.rt.now c.args.input.now (g.W.CountedWrite.stream c.args.output.now) (g.E.CountedWrite.stream c.args.errors.now))
@@ -23,7 +23,7 @@ returns-in-Ok-clause-reported g c =
 
 pub returns-in-Ok-clause-words : goal.returns-in-Ok-clause-words
 returns-in-Ok-clause-words g c =
-    MayAnswer-does (steps (logs g.R.Journals g.R.Log.Journal g.R.Time.Clock.shows) g.R.Medium.Disk g.R.Makes.makes g.R.Databases.opens g.R.Databases.shuts g.R.Databases.ends g.R.Loopback
+    MayAnswer-does (steps (logs g.R.Journals g.R.Log.Journal g.R.Time.Clock.shows) g.R.Tables.Store g.R.Makes.makes g.R.Databases.opens g.R.Databases.shuts g.R.Databases.ends g.R.Loopback
     (seen g.R.Reader.Read.remaining g.R.Reader.CountedRead.failure_count g.R.Writer.CountedWrite.stream))
     (around (at_paths g.O.File.Read.remaining g.O.File.CountedRead.failure_count (g.O.Opens.bytes_at c.args.paths.now)) (g.O.Opens.owns c.args.paths.now) (g.O.Opens.spares c.args.paths.now) g.I.Read.remaining g.I.CountedRead.failure_count) (map g.S.AsStr.text c.args.words.now) c.in-Ok.parsed c.answer.result
     (moment c.args.rt.now c.args.input.now (g.W.CountedWrite.stream c.args.output.now) (g.E.CountedWrite.stream c.args.errors.now))

@@ -10,7 +10,7 @@ returns g c =
     let same : c.end.result ≡ c.archive_desk-archived.result.1 = cc in
     record {
       visit =
-          archived_at output output' g.R.Medium.Disk g.R.Databases.opens g.R.Databases.shuts g.R.Databases.ends c.args.args.now c.moment_of.result
+          archived_at output output' g.R.Tables.Store g.R.Databases.opens g.R.Databases.shuts g.R.Databases.ends c.args.args.now c.moment_of.result
           c.archive_desk-archived.result.0 c.close-closed.result c.first_fault.result c.args.rt.now c.unlogged_desk.new.rt c.close-closed.new.rt c.in_ok-desk.desk
           c.archive_desk-archived.result.1 c.end.result c.in_ok-desk.ensures.up c.moment_of.ensures c.archive_desk-archived.ensures same c.close-closed.ensures.ends
           c.close-closed.ensures.fault c.first_fault.ensures;
@@ -22,6 +22,6 @@ returns-in_err-desk g c =
     let output = g.W.CountedWrite.stream c.args.output.now in
     record {
       visit =
-          unarchived_at output output g.R.Medium.Disk g.R.Databases.opens g.R.Databases.shuts g.R.Databases.ends c.args.args.now _ c.args.rt.now c.unlogged_desk.new.rt _
+          unarchived_at output output g.R.Tables.Store g.R.Databases.opens g.R.Databases.shuts g.R.Databases.ends c.args.args.now _ c.args.rt.now c.unlogged_desk.new.rt _
           refl c.from_residual.ensures.1 c.in_err-desk.ensures.none;
     }

@@ -1,5 +1,4 @@
 use Rattle.std.proofs.Common.{refl}
-use Rattle.sqlite.specs.Files.{over_files}
 use Rattle.clr_keeping.specs.Beginning.{MakesRegisterAt}
 use Rattle.clr_keeping.specs.TakenUp.{logs}
 use Rattle.clr_edge.specs.Visit.{Alone, Comes, MakesRegister}
@@ -11,17 +10,17 @@ use Rattle.clr_commands.proofs.init.init.Goals as goal
 -- no register is to be made
 pub returns-in_ok-rows-in-None-clause-visit : goal.returns-in_ok-rows-in-None-clause-visit
 returns-in_ok-rows-in-None-clause-visit g c =
-    InitsAt-counted _ (λ path register. Comes g.R.Medium.Disk g.R.Makes.makes g.R.Databases.shuts g.R.Databases.ends path (Alone (MakesRegister over_files register)))
+    InitsAt-counted _ (λ path register. Comes g.R.Makes.makes g.R.Databases.shuts g.R.Databases.ends path (Alone (MakesRegister g.R.Tables.Store register)))
     (InitsWith (logs g.R.Journals g.R.Log.Journal g.R.Time.Clock.shows)
-    (λ path register first. Comes g.R.Medium.Disk g.R.Makes.makes g.R.Databases.shuts g.R.Databases.ends path (Alone (MakesRegisterAt over_files register first))))
+    (λ path register first. Comes g.R.Makes.makes g.R.Databases.shuts g.R.Databases.ends path (Alone (MakesRegisterAt g.R.Tables.Store register first))))
     c.args.args.now c.counts_of_rows.result c.args.rt.now c.args.rt.now c.in-None.is
     (AnswersFiles-rows _ _ _ _ _ c.in_ok-rows-in-None.rows c.in_ok-rows-in-None.ensures.rows (c.counts_of_rows.ensures.answer, refl))
 
 pub returns-in_err-rows-in-None-clause-visit : goal.returns-in_err-rows-in-None-clause-visit
 returns-in_err-rows-in-None-clause-visit g c =
-    InitsAt-counted _ (λ path register. Comes g.R.Medium.Disk g.R.Makes.makes g.R.Databases.shuts g.R.Databases.ends path (Alone (MakesRegister over_files register)))
+    InitsAt-counted _ (λ path register. Comes g.R.Makes.makes g.R.Databases.shuts g.R.Databases.ends path (Alone (MakesRegister g.R.Tables.Store register)))
     (InitsWith (logs g.R.Journals g.R.Log.Journal g.R.Time.Clock.shows)
-    (λ path register first. Comes g.R.Medium.Disk g.R.Makes.makes g.R.Databases.shuts g.R.Databases.ends path (Alone (MakesRegisterAt over_files register first))))
+    (λ path register first. Comes g.R.Makes.makes g.R.Databases.shuts g.R.Databases.ends path (Alone (MakesRegisterAt g.R.Tables.Store register first))))
     c.args.args.now c.from_residual.result c.args.rt.now c.args.rt.now c.in-None.is
     (AnswersFiles-fault _ _ _ _ _ _ c.in_err-rows-in-None.ensures.rows c.from_residual.ensures.1 refl)
 
@@ -31,7 +30,7 @@ returns-in_err-rows-in-None-clause-faults g c = passed _ _ c.from_residual.ensur
 -- or one is
 pub returns-in-Some-clause-visit : goal.returns-in-Some-clause-visit
 returns-in-Some-clause-visit g c =
-    InitsAt-stored _ (λ path register. Comes g.R.Medium.Disk g.R.Makes.makes g.R.Databases.shuts g.R.Databases.ends path (Alone (MakesRegister over_files register)))
+    InitsAt-stored _ (λ path register. Comes g.R.Makes.makes g.R.Databases.shuts g.R.Databases.ends path (Alone (MakesRegister g.R.Tables.Store register)))
     (InitsWith (logs g.R.Journals g.R.Log.Journal g.R.Time.Clock.shows)
-    (λ path register first. Comes g.R.Medium.Disk g.R.Makes.makes g.R.Databases.shuts g.R.Databases.ends path (Alone (MakesRegisterAt over_files register first))))
+    (λ path register first. Comes g.R.Makes.makes g.R.Databases.shuts g.R.Databases.ends path (Alone (MakesRegisterAt g.R.Tables.Store register first))))
     c.args.args.now c.init_stored.result c.args.rt.now c.init_stored.new.rt c.in-Some.stored c.in-Some.is c.init_stored.ensures.visit

@@ -1,5 +1,4 @@
 use Rattle.std.proofs.Common.{Err, Ok, inl, refl}
-use Rattle.sqlite.specs.Files.{over_files}
 use Rattle.clr_rules.specs.Register.{opening}
 use Rattle.clr_keeping.specs.Beginning.{IsOfBegun, MakesRegisterAt}
 use Rattle.clr_keeping.specs.TakenUp.{logs}
@@ -13,7 +12,7 @@ use Rattle.clr_commands.proofs.init.register_with_journal.Goals as goal
 pub returns-clause-visit : goal.returns-clause-visit
 returns-clause-visit g c =
     StoresWith-begun (logs g.R.Journals g.R.Log.Journal g.R.Time.Clock.shows)
-    (λ path register first. Comes g.R.Medium.Disk g.R.Makes.makes g.R.Databases.shuts g.R.Databases.ends path (Alone (MakesRegisterAt over_files register first)))
+    (λ path register first. Comes g.R.Makes.makes g.R.Databases.shuts g.R.Databases.ends path (Alone (MakesRegisterAt g.R.Tables.Store register first)))
     (contents_of c.args.texts.now) (lists_of c.args.rows) c.args.database.now c.args.journal.now _ c.args.rt.now c.begin_register.new.rt c.time-time.result
     c.seconds-moment.result (opening c.in_ok-network.network c.in_ok-network.staff) c.in_ok-first.first _ c.time-time.ensures c.seconds-moment.ensures
     (IsOpeningOf-built _ _ _ _ c.in_ok-network.ensures.built) c.in_ok-first.ensures (refl, c.in_ok-network.ensures.built.line_is) c.in_ok-begin_register.ensures.begun
@@ -22,7 +21,7 @@ returns-clause-visit g c =
 pub returns-in_err-begin_register-clause-visit : goal.returns-in_err-begin_register-clause-visit
 returns-in_err-begin_register-clause-visit g c =
     StoresWith-begun (logs g.R.Journals g.R.Log.Journal g.R.Time.Clock.shows)
-    (λ path register first. Comes g.R.Medium.Disk g.R.Makes.makes g.R.Databases.shuts g.R.Databases.ends path (Alone (MakesRegisterAt over_files register first)))
+    (λ path register first. Comes g.R.Makes.makes g.R.Databases.shuts g.R.Databases.ends path (Alone (MakesRegisterAt g.R.Tables.Store register first)))
     (contents_of c.args.texts.now) (lists_of c.args.rows) c.args.database.now c.args.journal.now _ c.args.rt.now c.begin_register.new.rt c.time-time.result
     c.seconds-moment.result (opening c.in_ok-network.network c.in_ok-network.staff) c.in_ok-first.first _ c.time-time.ensures c.seconds-moment.ensures
     (IsOpeningOf-built _ _ _ _ c.in_ok-network.ensures.built) c.in_ok-first.ensures

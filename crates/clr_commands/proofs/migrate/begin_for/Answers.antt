@@ -10,7 +10,7 @@ returns-clause-visit g c = (
   c.time-time.ensures,
   c.seconds-moment.result,
   c.seconds-moment.ensures,
-  begun_at (logs g.R.Journals g.R.Log.Journal g.R.Time.Clock.shows) g.R.Medium.Disk g.R.Databases.opens g.R.Databases.shuts g.R.Databases.ends c.seconds-moment.result
+  begun_at (logs g.R.Journals g.R.Log.Journal g.R.Time.Clock.shows) g.R.Tables.Store g.R.Databases.opens g.R.Databases.shuts g.R.Databases.ends c.seconds-moment.result
       c.args.path.now c.args.journal.now c.begin_over-report.result.0 c.first_fault.result c.close-closed.result c.args.rt.now c.unlogged_desk.new.rt c.begin_over-report.new.rt
       c.close-closed.new.rt c.in_ok-desk.desk c.begin_over-report.result.1 c.in_ok-desk.ensures.up c.begin_over-report.ensures.begun c.close-closed.ensures.ends
       c.close-closed.ensures.fault c.first_fault.ensures,
@@ -27,7 +27,7 @@ returns-in_err-desk-clause-visit g c = (
   c.time-time.ensures,
   c.seconds-moment.result,
   c.seconds-moment.ensures,
-  unbegun_at (logs g.R.Journals g.R.Log.Journal g.R.Time.Clock.shows) g.R.Medium.Disk g.R.Databases.opens g.R.Databases.shuts g.R.Databases.ends c.seconds-moment.result
+  unbegun_at (logs g.R.Journals g.R.Log.Journal g.R.Time.Clock.shows) g.R.Tables.Store g.R.Databases.opens g.R.Databases.shuts g.R.Databases.ends c.seconds-moment.result
       c.args.path.now c.args.journal.now _ c.args.rt.now c.unlogged_desk.new.rt _ c.from_residual.ensures.1 c.in_err-desk.ensures.none,
 )
 

@@ -13,7 +13,7 @@ pub returns-clause-visit : goal.returns-clause-visit
 returns-clause-visit g c =
     let same : c.end-2.result ≡ c.in_ok-desk.desk.store = cc in
     let register : c.book.result.now.register ≡ c.in_ok-desk.desk.book.register = ap (λ (b : Shelved). b.register) c.book.ensures in
-    visited g.R.Medium.Disk g.R.Databases.opens g.R.Databases.shuts g.R.Databases.ends c.args.args.now.database.now (λ fault. IsOfOrder fault) (λ (Q : Register) known. order_asked_for Q c.args.args.now ≡ known) c.order_of-printed.result c.args.rt.now c.open_desk.new.rt
+    visited g.R.Tables.Store g.R.Databases.opens g.R.Databases.shuts g.R.Databases.ends c.args.args.now.database.now (λ fault. IsOfOrder fault) (λ (Q : Register) known. order_asked_for Q c.args.args.now ≡ known) c.order_of-printed.result c.args.rt.now c.open_desk.new.rt
     c.close-closed.new.rt c.in_ok-desk.desk c.end-2.result c.close-closed.result c.in_ok-desk.ensures.up same c.close-closed.ensures.ends
     (subst (λ (Q : Register). GivesText IsMemory (order_asked_for Q c.args.args.now) c.order_of-printed.result) register c.order_of-printed.ensures.answer)
     c.order_of-printed.ensures.faults
@@ -24,7 +24,7 @@ returns-clause-faults g c = each_plain c.order_of-printed.result (λ fault. IsOf
 -- it was not taken up
 pub returns-in_err-desk-clause-visit : goal.returns-in_err-desk-clause-visit
 returns-in_err-desk-clause-visit g c =
-    unvisited g.R.Medium.Disk g.R.Databases.opens g.R.Databases.shuts g.R.Databases.ends c.args.args.now.database.now (λ fault. IsOfOrder fault) (λ (Q : Register) known. order_asked_for Q c.args.args.now ≡ known) _ c.args.rt.now c.open_desk.new.rt _ c.from_residual.ensures.1 c.in_err-desk.ensures.none
+    unvisited g.R.Tables.Store g.R.Databases.opens g.R.Databases.shuts g.R.Databases.ends c.args.args.now.database.now (λ fault. IsOfOrder fault) (λ (Q : Register) known. order_asked_for Q c.args.args.now ≡ known) _ c.args.rt.now c.open_desk.new.rt _ c.from_residual.ensures.1 c.in_err-desk.ensures.none
 
 pub returns-in_err-desk-clause-faults : goal.returns-in_err-desk-clause-faults
 returns-in_err-desk-clause-faults g c = passed _ _ c.from_residual.ensures.1 (taking_up_plain _ c.in_err-desk.ensures.fault)

@@ -1,5 +1,4 @@
 use Rattle.std.proofs.Common.{refl}
-use Rattle.sqlite.specs.Files.{over_files}
 use Rattle.clr_keeping.specs.Keeping.{logged_keeper, plain_keeper}
 use Rattle.clr_keeping.specs.TakenUp.{logs}
 use Rattle.clr_keeping.proofs.Keeping.{not_worked, worked}
@@ -14,11 +13,11 @@ returns-clause-visit g c =
     let input = g.I.Read.remaining c.args.input.now in
     let printed = c.run_opened-printed.result in
     let by = logs g.R.Journals g.R.Log.Journal g.R.Time.Clock.shows in
-    worked g.R.Medium.Disk g.R.Databases.opens g.R.Databases.shuts g.R.Databases.shuts g.R.Databases.ends c.args.args.now.database.now (Unit {0}) printed_after
+    worked g.R.Tables.Store g.R.Databases.opens g.R.Databases.shuts g.R.Databases.shuts g.R.Databases.ends c.args.args.now.database.now (Unit {0}) printed_after
     by (RunsAlone input) c.args.args.now.journal printed _
     c.args.rt.now c.take_up.new.rt c.take_up.new.rt c.let_go-closed.new.rt c.in_ok-opened.opened c.run_opened-printed.new.opened c.let_go-closed.result
-    c.in_ok-opened.ensures.up (done_alone c.take_up.new.rt (RunsDesk (plain_keeper over_files) input printed)
-    (RunsDesk (logged_keeper over_files by) input printed) c.in_ok-opened.opened c.run_opened-printed.new.opened c.run_opened-printed.ensures.ran)
+    c.in_ok-opened.ensures.up (done_alone c.take_up.new.rt (RunsDesk (plain_keeper g.R.Tables.Store) input printed)
+    (RunsDesk (logged_keeper g.R.Tables.Store by) input printed) c.in_ok-opened.opened c.run_opened-printed.new.opened c.run_opened-printed.ensures.ran)
     c.run_opened-printed.ensures.level c.let_go-closed.ensures.gone
     c.let_go-closed.ensures.fault c.printed_after.ensures
 
@@ -33,7 +32,7 @@ returns-clause-faults g c =
 -- it was not taken up, and the input is not read then
 pub returns-in_err-opened-clause-visit : goal.returns-in_err-opened-clause-visit
 returns-in_err-opened-clause-visit g c =
-    not_worked g.R.Medium.Disk g.R.Databases.opens g.R.Databases.shuts g.R.Databases.shuts g.R.Databases.ends c.args.args.now.database.now (Unit {0}) printed_after
+    not_worked g.R.Tables.Store g.R.Databases.opens g.R.Databases.shuts g.R.Databases.shuts g.R.Databases.ends c.args.args.now.database.now (Unit {0}) printed_after
     (logs g.R.Journals g.R.Log.Journal g.R.Time.Clock.shows) (RunsAlone (g.I.Read.remaining c.args.input.now)) c.args.args.now.journal _ c.args.rt.now c.take_up.new.rt _
     c.from_residual.ensures.1 (λ closed. refl) tt (λ shut. shut) c.in_err-opened.ensures.none
 

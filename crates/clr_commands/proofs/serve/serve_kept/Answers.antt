@@ -15,7 +15,7 @@ returns g c =
     let errors' = g.E.CountedWrite.stream c.serve_opened-served.new.errors in
     record {
       visit =
-          worked g.R.Medium.Disk g.R.Databases.opens g.R.Databases.shuts
+          worked g.R.Tables.Store g.R.Databases.opens g.R.Databases.shuts
           (λ old path fault new. g.R.Databases.shuts old path fault new × (output' ≡ output) × (errors' ≡ errors))
           g.R.Databases.ends c.args.args.now.database.now ((output' ≡ output) × (errors' ≡ errors)) first_fault (logs g.R.Journals g.R.Log.Journal g.R.Time.Clock.shows)
           (λ K keeper. ServesDesk g.R.Loopback (seen g.R.Reader.Read.remaining g.R.Reader.CountedRead.failure_count g.R.Writer.CountedWrite.stream)
@@ -32,7 +32,7 @@ returns-in_err-opened g c =
     let errors = g.E.CountedWrite.stream c.args.errors.now in
     record {
       visit =
-          not_worked g.R.Medium.Disk g.R.Databases.opens g.R.Databases.shuts
+          not_worked g.R.Tables.Store g.R.Databases.opens g.R.Databases.shuts
           (λ old path fault new. g.R.Databases.shuts old path fault new × (output ≡ output) × (errors ≡ errors))
           g.R.Databases.ends c.args.args.now.database.now ((output ≡ output) × (errors ≡ errors)) first_fault (logs g.R.Journals g.R.Log.Journal g.R.Time.Clock.shows)
           (λ K keeper. ServesDesk g.R.Loopback (seen g.R.Reader.Read.remaining g.R.Reader.CountedRead.failure_count g.R.Writer.CountedWrite.stream)

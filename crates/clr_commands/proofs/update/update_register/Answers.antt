@@ -10,7 +10,7 @@ update_desk-report-requires g c = c.in_ok-desk.ensures.up.taken_up.1.0.fit
 pub returns-clause-visit : goal.returns-clause-visit
 returns-clause-visit g c =
     let same : c.end.result ≡ c.update_desk-report.result.1 = cc in
-    updated_at g.R.Medium.Disk g.R.Databases.opens g.R.Databases.shuts g.R.Databases.ends c.args.path.now c.args.dry_run (as_update c.args.update)
+    updated_at g.R.Tables.Store g.R.Databases.opens g.R.Databases.shuts g.R.Databases.ends c.args.path.now c.args.dry_run (as_update c.args.update)
     c.update_desk-report.result.0 c.first_fault.result c.close-closed.result c.args.rt.now c.unlogged_desk.new.rt c.close-closed.new.rt c.in_ok-desk.desk c.update_desk-report.result.1 c.end.result
     c.in_ok-desk.ensures.up c.update_desk-report.ensures.reports c.update_desk-report.ensures.done same c.close-closed.ensures.ends c.close-closed.ensures.fault c.first_fault.ensures
 
@@ -21,7 +21,7 @@ returns-clause-faults g c =
 -- it was not taken up
 pub returns-in_err-desk-clause-visit : goal.returns-in_err-desk-clause-visit
 returns-in_err-desk-clause-visit g c =
-    not_updated_at g.R.Medium.Disk g.R.Databases.opens g.R.Databases.shuts g.R.Databases.ends c.args.path.now c.args.dry_run (as_update c.args.update)
+    not_updated_at g.R.Tables.Store g.R.Databases.opens g.R.Databases.shuts g.R.Databases.ends c.args.path.now c.args.dry_run (as_update c.args.update)
     _ c.args.rt.now c.unlogged_desk.new.rt _ c.from_residual.ensures.1 c.in_err-desk.ensures.none
 
 pub returns-in_err-desk-clause-faults : goal.returns-in_err-desk-clause-faults

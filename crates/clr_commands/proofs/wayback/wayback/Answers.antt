@@ -15,7 +15,7 @@ pub returns-clause-visit : goal.returns-clause-visit
 returns-clause-visit g c =
     let same : c.end.result ≡ c.in_ok-desk.desk.store = cc in
     let register : c.parted-book.result.0.register ≡ c.in_ok-desk.desk.book.register = ap (λ (b : Shelved). b.register) c.parted-book.ensures.book in
-    visited g.R.Medium.Disk g.R.Databases.opens g.R.Databases.shuts g.R.Databases.ends c.args.args.now.database.now (λ fault. IsOfWayBack fault) (IsWayBackOf c.args.args.now) c.wayback_of-printed.result c.args.rt.now c.open_desk.new.rt
+    visited g.R.Tables.Store g.R.Databases.opens g.R.Databases.shuts g.R.Databases.ends c.args.args.now.database.now (λ fault. IsOfWayBack fault) (IsWayBackOf c.args.args.now) c.wayback_of-printed.result c.args.rt.now c.open_desk.new.rt
     c.close-closed.new.rt c.in_ok-desk.desk c.end.result c.close-closed.result c.in_ok-desk.ensures.up same c.close-closed.ensures.ends
     (subst (λ (Q : Register). Prints IsMemory (IsWayBackOf c.args.args.now Q) c.wayback_of-printed.result) register
     (both_print (λ known. way_back_asked_for c.parted-book.result.0.register c.args.args.now ≡ known)
@@ -29,7 +29,7 @@ returns-clause-faults g c = each_plain c.wayback_of-printed.result (λ fault. Is
 -- it was not taken up
 pub returns-in_err-desk-clause-visit : goal.returns-in_err-desk-clause-visit
 returns-in_err-desk-clause-visit g c =
-    unvisited g.R.Medium.Disk g.R.Databases.opens g.R.Databases.shuts g.R.Databases.ends c.args.args.now.database.now (λ fault. IsOfWayBack fault) (IsWayBackOf c.args.args.now) _ c.args.rt.now c.open_desk.new.rt _ c.from_residual.ensures.1 c.in_err-desk.ensures.none
+    unvisited g.R.Tables.Store g.R.Databases.opens g.R.Databases.shuts g.R.Databases.ends c.args.args.now.database.now (λ fault. IsOfWayBack fault) (IsWayBackOf c.args.args.now) _ c.args.rt.now c.open_desk.new.rt _ c.from_residual.ensures.1 c.in_err-desk.ensures.none
 
 pub returns-in_err-desk-clause-faults : goal.returns-in_err-desk-clause-faults
 returns-in_err-desk-clause-faults g c = passed _ _ c.from_residual.ensures.1 (taking_up_plain _ c.in_err-desk.ensures.fault)

@@ -19,6 +19,7 @@ returns-clause-placed g c = inr (record {
   middle = c.let_journal_go.new.self;
   begins = c.in-Ok.ensures.begins_journal;
   gone = c.let_journal_go.ensures;
+  line = c.in-Ok.ensures.new;
   told = c.place_in-placed.result.0;
   did = (refl, rw (← c.end-2.ensures) c.place_in-placed.ensures.placed);
   result_is = c.begun_or.ensures;

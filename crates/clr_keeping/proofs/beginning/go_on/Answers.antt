@@ -16,7 +16,7 @@ returns-in-Ok-begun_or-clause-next g c =
     (number-of c.in-Ok.first c.begun_or.result _ c.in-Ok-begun_or.is)
     (begun-places g.S.Store _ c.args.next.now c.in-Ok.first c.begun_or.result c.let_journal_go.new.self c.begin_journal.new.self c.let_journal_go-2.new.self
     c.in-Ok-begin_journal.log c.end-store.result.0 c.move_in-placed.result.1 c.move_in-placed.result.0
-    c.in-Ok-begin_journal.ensures.begins_journal c.let_journal_go-2.ensures c.move_in-placed.ensures.placed c.begun_or.ensures)
+    c.in-Ok-begin_journal.ensures.begins_journal c.let_journal_go-2.ensures c.in-Ok-begin_journal.ensures.new c.move_in-placed.ensures.placed c.begun_or.ensures)
 
 -- or did not
 pub returns-clause-next : goal.returns-clause-next
@@ -30,4 +30,4 @@ returns-clause-next g c =
     c.in-Err-begun_or.is
     (begun-places g.S.Store _ c.args.next.now c.in-Ok.first c.begun_or.result c.let_journal_go.new.self c.begin_journal.new.self c.let_journal_go-2.new.self
     c.in-Ok-begin_journal.log c.end-store.result.0 c.move_in-placed.result.1 c.move_in-placed.result.0
-    c.in-Ok-begin_journal.ensures.begins_journal c.let_journal_go-2.ensures c.move_in-placed.ensures.placed c.begun_or.ensures)
+    c.in-Ok-begin_journal.ensures.begins_journal c.let_journal_go-2.ensures c.in-Ok-begin_journal.ensures.new c.move_in-placed.ensures.placed c.begun_or.ensures)

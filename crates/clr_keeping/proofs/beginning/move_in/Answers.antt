@@ -6,7 +6,7 @@ use Rattle.clr_store.specs.Contract.{AreEditedAt, MakesEditsAt}
 use Rattle.clr_tables.specs.Tables.{place_row}
 use Rattle.clr_keeping.specs.Beginning.{IsPlacedOrNot}
 use Rattle.clr_edge.specs.Database.{IsOfLine}
-use Rattle.clr_keeping.proofs.Begun.{IsOfLine-of_database}
+use Rattle.clr_keeping.proofs.Begun.{IsOfLine-of_database, placed-level}
 use Rattle.clr_keeping.proofs.beginning.move_in.Goals as goal
 
 -- the place was set, with no edit
@@ -15,9 +15,12 @@ returns-in-Ok-clause-placed g c =
     let before = state g.S.Store c.args.store in
     let after = state g.S.Store c.commit_at.new.self in
     let row = place_row c.args.first.now in
+    let made : HasCleanDisk after → MakesEditsAt before.now [] row after.now =
+    λ clean. subst (λ (edits : List Edit). MakesEditsAt before.now edits row after.now) c.new.ensures.items (c.in-Ok.ensures.made clean) in
     let placed : IsPlacedOrNot g.S.Store c.args.store c.args.first.now (Ok tt) c.commit_at.new.self = record {
-      made = λ clean. subst (λ (edits : List Edit). MakesEditsAt before.now edits row after.now) c.new.ensures.items (c.in-Ok.ensures.made clean);
+      made = made;
       saved = c.in-Ok.ensures.saved;
+      level = placed-level g.S.Store c.args.store c.args.first.now c.commit_at.new.self c.in-Ok.ensures.was_open made;
       none = λ clean is_open. tt;
       was_open = c.in-Ok.ensures.was_open;
       fault = tt;
@@ -34,6 +37,7 @@ returns-clause-placed g c =
     let placed : IsPlacedOrNot g.S.Store c.args.store c.args.first.now (Err c.from.result) c.commit_at.new.self = record {
       made = λ clean. tt;
       saved = λ clean. tt;
+      level = tt;
       none = c.in-Err.ensures.none;
       was_open = c.in-Err.ensures.was_open;
       fault = subst (λ fault. IsOfLine fault) (sym c.from.ensures) (IsOfLine-of_database c.in-Err.cause c.in-Err.ensures.fault);

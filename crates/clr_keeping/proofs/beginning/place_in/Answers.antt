@@ -1,7 +1,7 @@
 use Rattle.std.proofs.Common.{Ok, Err, subst, sym}
 use Rattle.clr_keeping.specs.Beginning.{IsPlacedOrNot}
 use Rattle.clr_edge.specs.Database.{IsOfLine}
-use Rattle.clr_keeping.proofs.Begun.{IsOfLine-of_database}
+use Rattle.clr_keeping.proofs.Begun.{IsOfLine-of_database, placed-level}
 use Rattle.clr_keeping.proofs.beginning.place_in.Goals as goal
 
 -- the place was set
@@ -10,6 +10,7 @@ returns-in-Ok-clause-placed g c =
     let placed : IsPlacedOrNot g.S.Store c.args.store c.args.first.now (Ok tt) c.begin_at.new.self = record {
       made = c.in-Ok.ensures.made;
       saved = c.in-Ok.ensures.saved;
+      level = placed-level g.S.Store c.args.store c.args.first.now c.begin_at.new.self c.in-Ok.ensures.was_open c.in-Ok.ensures.made;
       none = λ clean is_open. tt;
       was_open = c.in-Ok.ensures.was_open;
       fault = tt;
@@ -23,6 +24,7 @@ returns-in-Err-clause-placed g c =
     let placed : IsPlacedOrNot g.S.Store c.args.store c.args.first.now (Err c.from.result) c.begin_at.new.self = record {
       made = λ clean. tt;
       saved = λ clean. tt;
+      level = tt;
       none = c.in-Err.ensures.none;
       was_open = c.in-Err.ensures.was_open;
       fault = subst (λ fault. IsOfLine fault) (sym c.from.ensures) (IsOfLine-of_database c.in-Err.cause c.in-Err.ensures.fault);

@@ -2,7 +2,7 @@ use Rattle.std.proofs.Common.{subst, sym}
 use Rattle.clr_rules.specs.Register.{Register, opening}
 use Rattle.clr_keeping.specs.Beginning.{IsMadeAt}
 use Rattle.clr_edge.specs.Database.{IsOfLine}
-use Rattle.clr_keeping.proofs.Begun.{IsOfLine-of_database}
+use Rattle.clr_keeping.proofs.Begun.{IsOfLine-of_database, made-level}
 use Rattle.clr_edge.proofs.Databases.{IsAsBefore-settled}
 use Rattle.clr_keeping.proofs.beginning.register_made_at.Goals as goal
 
@@ -15,6 +15,7 @@ returns-in-Ok-clause-made g c =
       bare = c.in-Ok.ensures.bare;
       saved = λ clean. (c.in-Ok.ensures.made clean).0;
       tables = λ clean. ((c.in-Ok.ensures.made clean).1, (c.in-Ok.ensures.made clean).2);
+      level = made-level g.S.Store R c.args.first.now c.in-Ok.store (λ clean. ((c.in-Ok.ensures.made clean).1, (c.in-Ok.ensures.made clean).2));
       survives = c.in-Ok.ensures.crash_made;
     } in
     subst (λ after. IsMadeAt g.S.Store c.args.connection R c.args.first.now after) (sym c.end.ensures.connection) made

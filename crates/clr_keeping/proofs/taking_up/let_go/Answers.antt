@@ -5,9 +5,9 @@ use Rattle.clr_keeping.proofs.taking_up.let_go.Goals as goal
 -- its journal was let go first
 pub returns-in-Some-clause-gone : goal.returns-in-Some-clause-gone
 returns-in-Some-clause-gone g c =
-    gone_beside _ _ (logs g.R.Journals g.R.Log.Journal g.R.Time.Clock.shows) _ _ _ _ _ _ _ _ c.in-Some.is c.ended-connection.ensures c.let_journal_go.ensures c.close.ensures.ends
+    gone_beside _ (logs g.R.Journals g.R.Log.Journal g.R.Time.Clock.shows) _ _ _ _ _ _ _ _ c.in-Some.is c.ended-connection.ensures c.let_journal_go.ensures c.close.ensures.ends
 
 -- or it has none
 pub returns-in-None-clause-gone : goal.returns-in-None-clause-gone
 returns-in-None-clause-gone g c =
-    gone_alone _ _ (logs g.R.Journals g.R.Log.Journal g.R.Time.Clock.shows) _ _ _ _ _ _ c.in-None.is c.ended-connection.ensures c.close-in-None.ensures.ends
+    gone_alone _ (logs g.R.Journals g.R.Log.Journal g.R.Time.Clock.shows) _ _ _ _ _ _ c.in-None.is c.ended-connection.ensures c.close-in-None.ensures.ends

@@ -1,5 +1,4 @@
 use Rattle.std.proofs.Common.{◌≡◌, ◌∙◌, inr, subst, sym}
-use Rattle.sqlite.specs.Files.{over_files}
 use Rattle.clr_keeping.specs.Keeping.{IsNotUp, logged}
 use Rattle.clr_keeping.specs.TakenUp.{IsOfTakingUp, logs}
 use Rattle.clr_edge.proofs.Databases.{IfErr-passed}
@@ -17,11 +16,11 @@ returns-in-Ok-clause-up g c =
     record {
       before = up.before;
       middle = c.open_desk.new.rt;
-      opened = subst (λ (m : _). g.R.Databases.opens c.args.rt.now c.args.path.now g.R.Medium.Disk up.before m) (sym up.taken_up.0) up.opened;
+      opened = subst (λ (m : _). g.R.Databases.opens c.args.rt.now c.args.path.now up.before m) (sym up.taken_up.0) up.opened;
       mode = up.mode;
       good = given.kept.good up.good;
       uncounted = c.in-Ok.ensures.faults;
-      taken_up = takes_up over_files up.before was.store was.book.register up.taken_up.1
+      taken_up = takes_up g.R.Tables.Store up.before was.store was.book.register up.taken_up.1
           (logs g.R.Journals g.R.Log.Journal g.R.Time.Clock.shows) c.args.journal.now c.open_desk.new.rt c.logged.new.rt now.store now.book.register given;
     }
 
@@ -36,10 +35,10 @@ returns-in-Err-clause-none g c =
       closed = c.close-closed.result;
       middle = c.open_desk.new.rt;
       later = c.logged.new.rt;
-      opened = subst (λ (m : _). g.R.Databases.opens c.args.rt.now c.args.path.now g.R.Medium.Disk up.before m) (sym up.taken_up.0) up.opened;
+      opened = subst (λ (m : _). g.R.Databases.opens c.args.rt.now c.args.path.now up.before m) (sym up.taken_up.0) up.opened;
       mode = up.mode;
       does = (
-        not_up over_files up.before was.store was.book.register up.taken_up.1
+        not_up g.R.Tables.Store up.before was.store was.book.register up.taken_up.1
             (logs g.R.Journals g.R.Log.Journal g.R.Time.Clock.shows) c.args.journal.now c.open_desk.new.rt c.logged.new.rt c.in-Err.fault c.in-Err.connection
             c.in-Err.ensures.refused,
         c.close-closed.ensures.fault,
@@ -50,9 +49,9 @@ returns-in-Err-clause-none g c =
 -- the register was refused
 pub returns-in_err-desk-clause-none : goal.returns-in_err-desk-clause-none
 returns-in_err-desk-clause-none g c =
-    IfErr-passed _ _ (IsNotUp g.R.Medium.Disk g.R.Databases.opens g.R.Databases.shuts g.R.Databases.ends c.args.path.now
-    (logged over_files (logs g.R.Journals g.R.Log.Journal g.R.Time.Clock.shows) c.args.journal.now) c.args.rt.now c.open_desk.new.rt) c.from_residual.ensures.1
-    (refused_too g.R.Medium.Disk g.R.Databases.opens g.R.Databases.shuts g.R.Databases.ends c.args.path.now c.args.journal.now
+    IfErr-passed _ _ (IsNotUp g.R.Databases.opens g.R.Databases.shuts g.R.Databases.ends c.args.path.now
+    (logged g.R.Tables.Store (logs g.R.Journals g.R.Log.Journal g.R.Time.Clock.shows) c.args.journal.now) c.args.rt.now c.open_desk.new.rt) c.from_residual.ensures.1
+    (refused_too g.R.Tables.Store g.R.Databases.opens g.R.Databases.shuts g.R.Databases.ends c.args.path.now c.args.journal.now
     (logs g.R.Journals g.R.Log.Journal g.R.Time.Clock.shows) c.args.rt.now c.open_desk.new.rt _ c.in_err-desk.ensures.none)
 
 pub returns-in_err-desk-clause-fault : goal.returns-in_err-desk-clause-fault

@@ -1,5 +1,4 @@
 use Rattle.std.proofs.Common.{inl, inr, refl}
-use Rattle.sqlite.specs.Files.{over_files}
 use Rattle.clr_keeping.specs.Keeping.{IsNotUp, plain}
 use Rattle.clr_keeping.specs.TakenUp.{IsOfTakingUp}
 use Rattle.clr_edge.proofs.Databases.{IfErr-passed}
@@ -46,7 +45,7 @@ returns-in-Err-clause-fault g c = of_tables c.in-Err.ensures.told.fault c.in-Err
 -- the database was not opened
 pub returns-in_err-connection-clause-none : goal.returns-in_err-connection-clause-none
 returns-in_err-connection-clause-none g c =
-    IfErr-passed _ _ (IsNotUp g.R.Medium.Disk g.R.Databases.opens g.R.Databases.shuts g.R.Databases.ends c.args.path.now (plain over_files) c.args.rt.now c.stored.new.self)
+    IfErr-passed _ _ (IsNotUp g.R.Databases.opens g.R.Databases.shuts g.R.Databases.ends c.args.path.now (plain g.R.Tables.Store) c.args.rt.now c.stored.new.self)
     c.from_residual.ensures.1 (inl (c.in_err-connection.ensures.fault, c.in_err-connection.ensures.shuts))
 
 pub returns-in_err-connection-clause-fault : goal.returns-in_err-connection-clause-fault

@@ -1,5 +1,4 @@
 use Rattle.std.proofs.Common.{◌≡◌, ◌∙◌, inr, subst, sym}
-use Rattle.sqlite.specs.Files.{over_files}
 use Rattle.clr_book.specs.Book.{Shelved}
 use Rattle.clr_rules.specs.Good.{IsGood}
 use Rattle.clr_keeping.specs.Keeping.{IsNotUp, IsReadFrom, unlogged}
@@ -15,7 +14,7 @@ returns-in-Ok-clause-up g c =
     let up = c.in_ok-desk.ensures.up in
     let was = c.in_ok-desk.desk in
     let now = c.in-Ok.desk in
-    let read = from_on_stays over_files up.before was.store was.book.register up.taken_up.1 now.store c.in-Ok.ensures.read in
+    let read = from_on_stays g.R.Tables.Store up.before was.store was.book.register up.taken_up.1 now.store c.in-Ok.ensures.read in
     record {
       before = up.before;
       middle = up.middle;
@@ -26,8 +25,8 @@ returns-in-Ok-clause-up g c =
       taken_up = (
         up.taken_up.0,
         (
-          subst (λ (b : Shelved). IsReadFrom over_files up.before now.store b.register) (sym c.in-Ok.ensures.book) read,
-          place_on_stays over_files up.before was.store now.store up.taken_up.1.read c.in-Ok.ensures.read _ c.in-Ok.ensures.placed,
+          subst (λ (b : Shelved). IsReadFrom g.R.Tables.Store up.before now.store b.register) (sym c.in-Ok.ensures.book) read,
+          place_on_stays g.R.Tables.Store up.before was.store now.store up.taken_up.1.read c.in-Ok.ensures.read _ c.in-Ok.ensures.placed,
         ),
       );
     }
@@ -48,7 +47,7 @@ returns-in-Err-clause-none g c =
       does = (
         (
           up.taken_up.0,
-          misses_one over_files up.before was.store was.book.register up.taken_up.1 c.in-Err.connection c.in-Err.fault c.in-Err.ensures.read_too c.in-Err.ensures.missing,
+          misses_one g.R.Tables.Store up.before was.store was.book.register up.taken_up.1 c.in-Err.connection c.in-Err.fault c.in-Err.ensures.read_too c.in-Err.ensures.missing,
         ),
         c.close-closed.ensures.fault,
       );
@@ -56,14 +55,14 @@ returns-in-Err-clause-none g c =
     })
 
 pub returns-in-Err-clause-fault : goal.returns-in-Err-clause-fault
-returns-in-Err-clause-fault g c = of_missing over_files c.in_ok-desk.desk.store c.in-Err.fault c.in-Err.connection c.in-Err.ensures.missing
+returns-in-Err-clause-fault g c = of_missing g.R.Tables.Store c.in_ok-desk.desk.store c.in-Err.fault c.in-Err.connection c.in-Err.ensures.missing
 
 -- the register was refused
 pub returns-in_err-desk-clause-none : goal.returns-in_err-desk-clause-none
 returns-in_err-desk-clause-none g c =
-    IfErr-passed _ _ (IsNotUp g.R.Medium.Disk g.R.Databases.opens g.R.Databases.shuts g.R.Databases.ends c.args.path.now (unlogged over_files) c.args.rt.now c.open_desk.new.rt)
+    IfErr-passed _ _ (IsNotUp g.R.Databases.opens g.R.Databases.shuts g.R.Databases.ends c.args.path.now (unlogged g.R.Tables.Store) c.args.rt.now c.open_desk.new.rt)
     c.from_residual.ensures.1
-    (refused_alone g.R.Medium.Disk g.R.Databases.opens g.R.Databases.shuts g.R.Databases.ends c.args.path.now c.args.rt.now c.open_desk.new.rt _ c.in_err-desk.ensures.none)
+    (refused_alone g.R.Tables.Store g.R.Databases.opens g.R.Databases.shuts g.R.Databases.ends c.args.path.now c.args.rt.now c.open_desk.new.rt _ c.in_err-desk.ensures.none)
 
 pub returns-in_err-desk-clause-fault : goal.returns-in_err-desk-clause-fault
 returns-in_err-desk-clause-fault g c = IfErr-passed _ _ (λ fault. IsOfTakingUp fault) c.from_residual.ensures.1 c.in_err-desk.ensures.fault

@@ -8,7 +8,7 @@ returns g c = record {
   order_is = c.order_of_jones-order.ensures;
   way_back_is = c.way_back_of_jones-way_back.ensures;
   moved_is = c.move_of_jones-moved.ensures;
-  made_is = counted g.R.Medium.Disk g.R.Makes.makes g.R.Databases.ends (codes "new.db") c.made_of_files-made.result c.args.machine.now
+  made_is = counted g.R.Tables.Store g.R.Makes.makes g.R.Databases.ends (codes "new.db") c.made_of_files-made.result c.args.machine.now
       c.made_of_files-made.new.machine c.made_of_files-made.ensures;
   ran_is = c.run_of_jones-ran.ensures;
 }

@@ -5,4 +5,5 @@ pub returns : goal.returns
 returns c =
     let first = c.arg.ensures _ _ c.required.ensures.rule c.required.ensures.local c.new.ensures in
     let second = c.arg-2.ensures _ _ c.option.ensures.rule c.option.ensures.local first in
-    c.end.ensures _ second
+    let third = c.arg-3.ensures _ _ c.option-2.ensures.rule c.option-2.ensures.local second in
+    c.end.ensures _ third

@@ -7,7 +7,17 @@ use Rattle.clr_edge.proofs.journals.MachineJournals.begin_journal.Goals as goal
 -- the file at the path held nothing
 pub returns-in-Ok-clause-begins_journal : goal.returns-in-Ok-clause-begins_journal
 returns-in-Ok-clause-begins_journal g c =
-    begun_at _ _ _ _ _ _ _ _ _ c.in_ok-disk.disk c.in-Ok.journal c.in_ok-disk.ensures.had c.in-Ok.ensures.new c.in-Ok.ensures.text c.in-Ok.ensures.durable c.in-Ok.ensures.whole
+    begun_at _ _ _ _ _ _ _ _ _ c.in_ok-disk.disk c.in-Ok.journal c.in_ok-disk.ensures.had c.in-Ok.ensures.new
+    (record { can = c.in-Ok.ensures.can; text = c.in-Ok.ensures.text; durable = c.in-Ok.ensures.durable; whole = c.in-Ok.ensures.whole })
+
+-- it has this first line
+pub returns-in-Ok-clause-new : goal.returns-in-Ok-clause-new
+returns-in-Ok-clause-new g c = record {
+  can = c.in-Ok.ensures.can;
+  text = c.in-Ok.ensures.text;
+  durable = c.in-Ok.ensures.durable;
+  whole = c.in-Ok.ensures.whole;
+}
 
 -- or no journal was begun
 pub returns-in-Err-clause-spares_journal : goal.returns-in-Err-clause-spares_journal

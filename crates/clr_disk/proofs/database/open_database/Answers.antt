@@ -1,5 +1,5 @@
 use Rattle.std.proofs.Common.{inr}
-use Rattle.clr_disk.proofs.watched_database.open_watched.Goals as goal
+use Rattle.clr_disk.proofs.database.open_database.Goals as goal
 
 -- it was opened over the files at that path
 pub returns-in-Ok-clause-opened : goal.returns-in-Ok-clause-opened

@@ -1,4 +1,4 @@
-//! The database at a path, opened under a watch.
+//! The database at a path.
 ghost use Rattle.std.specs.Prelude.{◌≡◌, ◌⊎◌, IfErr, IfOk, IsTrue};
 ghost use Rattle.sqlite.specs.Files.{image_of};
 ghost use Rattle.sqlite.specs.Opening.{is_open_error};
@@ -6,37 +6,31 @@ ghost use Rattle.clr_disk.specs.Opened.{AreLetGo, IsNoFile, IsOpenedAt, IsOpened
 ghost use Rattle.clr_disk.specs.Opened.{IsUnharmed};
 
 use crate::system::System;
-use crate::watch::Watch;
-use crate::watched::Watched;
 use sqlite::{Connection, Error, ErrorCode, FileStore, Leftover, Options};
 use sqlite_disk::{Disk, Files};
 use sqlite_std_file::OpenError;
 use std::alloc::Global;
 use std::io::ErrorKind;
-use std::rt::Clock;
 
-/// A database in a file, whose reads a watch sees.
-pub type WatchedDatabase<'a, D, K> = Connection<FileStore<Watched<'a, D, K>>>;
+/// A database in its files.
+pub type Database<D> = Connection<FileStore<D>>;
 
 /// Opens the database at a path, as the kit's `Connection::open_from` does: one that is not there is
-/// made. A watch, if there is one, sees what is read of it. What the files held is found where the
-/// disk is clean.
-pub fn open_watched<'a, Y: System, K: Clock>(
+/// made. What the files held is found where the disk is clean.
+pub fn open_database<Y: System>(
     alloc: Global,
     system: &mut Y,
     path: &str,
-    watch: Option<&'a Watch<K>>,
-) -> Result<WatchedDatabase<'a, Y::Medium, K>, Error>
+) -> Result<Database<Y::Medium>, Error>
     ensures opened { IfOk result (λ connection.
         IsOpenedAt Y.has_files Y.Medium.Disk system.old path.now connection system.new) }
     ensures refused { IfErr result (λ error. IsShutAt Y.has_files Y.lacks_files Y.lets_go
-        Y.lacks_seed ⟦<Watched<'a, Y::Medium, K> as Disk>⟧ (λ it. it.disk)
-        system.old path.now error system.new) }
+        Y.lacks_seed Y.Medium.Disk system.old path.now error system.new) }
     ensures fault { IfErr result (λ error. IsTrue (is_open_error error)) }
 {
     let options = options(system)?;
     let files = files_at(system, path)?;
-    match over_watched(alloc, files, options, watch) {
+    match over_files(alloc, files, options) {
         Ok(connection) => Ok(connection),
         Err((error, left)) => {
             let_go(system, left.into_files());
@@ -46,13 +40,12 @@ pub fn open_watched<'a, Y: System, K: Clock>(
 }
 
 /// Lets the files of a database go.
-pub fn let_go<'a, Y: System, K: Clock>(system: &mut Y, files: Files<Watched<'a, Y::Medium, K>>)
-    ensures { AreLetGo Y.lets_go system.old files.entry.log.disk files.entry.db.disk
-        system.new }
+pub fn let_go<Y: System>(system: &mut Y, files: Files<Y::Medium>)
+    ensures { AreLetGo Y.lets_go system.old files.log files.db system.new }
 {
     let Files { log, db } = files;
-    system.let_go(log.end());
-    system.let_go(db.end());
+    system.let_go(log);
+    system.let_go(db);
 }
 
 /// How long the log grows before it is copied into the database file, in pages: 16.5 MB. A log of
@@ -104,24 +97,18 @@ fn code_of(error: OpenError) -> ErrorCode
     }
 }
 
-/// Opens the database in its files, whose reads the watch sees, or gives back what is left of them.
-fn over_watched<'a, D: Disk + Drop, K: Clock>(
+/// Opens the database in its files, or gives back what is left of them.
+fn over_files<D: Disk + Drop>(
     alloc: Global,
     files: Files<D>,
     options: Options,
-    watch: Option<&'a Watch<K>>,
-) -> Result<WatchedDatabase<'a, D, K>, (Error, Leftover<Watched<'a, D, K>>)>
+) -> Result<Database<D>, (Error, Leftover<D>)>
     requires log { IsTrue (D.Disk.is_usable files.log) }
     requires db { IsTrue (D.Disk.is_usable files.db) }
     ensures over { IfOk result (λ connection. IsOpenedOver (image_of D.Disk files) connection) }
-    ensures unharmed { IfErr result (λ back.
-        IsUnharmed (λ it. it.disk) files.log files.db back.1 back.0) }
+    ensures unharmed { IfErr result (λ back. IsUnharmed files back.1 back.0) }
     ensures fault { IfErr result (λ back. IsTrue (is_open_error back.0)) }
 {
-    let files = Files {
-        log: Watched::new(files.log, watch),
-        db: Watched::new(files.db, watch),
-    };
     match Connection::open_files(alloc, files, options) {
         Ok(connection) => Ok(connection),
         Err((error, left)) => Err((error, left)),
