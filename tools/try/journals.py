@@ -548,6 +548,15 @@ def forged(folder):
     chained({}, [carried(command, None, 26, 1795503841, {"number": 1, "refusal": "EARLIER", "reply": "refused"})])
     same("a refusal of other words: opened", opened(path, other)[0], 0)
     same("a refusal of other words: verify", run("verify", path, other, *FILES), (1, "", "fault: verify Reply 26\n"))
+    # so has a line in brief its own refusal, but where its command without the lists is EMPTY_ORDER
+    long_order, shown = {"number": 10, "refusal": "LONG_ORDER", "reply": "refused"}, {"reply": "shown"}
+    bare, path = {"at": 1795503841, "by": "OPS", "do": "switch", "steps": []}, copied(copy, folder / "brief.db")
+    for title, command, reply, is_taken in (
+            ("a switch", bare, long_order, True), ("no refusal", bare, shown, False), ("by another", bare | {"by": "JONES"}, long_order, False),
+            ("a step", bare | {"steps": ["OPEN S2"]}, long_order, False),
+            ("a repeat", {"at": 1795503841, "by": "REED", "clearance": "JONES/1", "do": "repeat", "step": 1, "text": ""}, long_order, False)):
+        chained({}, [carried(command, None, 26, 1795503841, reply)])
+        same(f"in brief, {title}: verify", run("verify", path, other, *FILES)[0], 0 if is_taken else 1)
     # a command that was withdrawn is none, and the next one takes its moment
     path = copied(copy, folder / "again.db")
     chain = Chain(first_in(lines[0]))
@@ -677,6 +686,34 @@ def migrated(folder):
         old.write_bytes(packed.read())
     same("of version 1", run("migrate", old, "--journal", folder / "two"), (1, "", "fault: store WrongVersion 1\n"))
     look("and no journal is begun", not (folder / "two").exists())
+
+
+def by_other_rules(folder):
+    """`migrate --after` begins a part for a register whose journal goes by other rules, and ends where the register is."""
+    commands = every()
+    path, old = with_journal(folder, commands[:24])
+    same("the register goes to the end of its journal", opened(path, old), (0, "", ""))
+    place, text, new = place_of(path), old.read_bytes(), folder / "new"
+    copy, held = copied(path, folder / "copy.db"), path.read_bytes()
+    same("it is there", place.number, json.loads(lines_in(text)[-1])["number"])
+    old.write_bytes(text.replace(b'"rules":1', b'"rules":2', 1))
+    same("a journal by other rules", opened(path, old), (1, "", "fault: journal OtherRules 2\n"))
+    same("no number is named", run("migrate", path, "--journal", new), (1, "", MISSING))
+    same("no journal is named", run("migrate", path, "--after", place.number), (1, "", MISSING))
+    for number in (place.number - 1, place.number + 1, f"0{place.number}", "last"):
+        same(f"after {number}", run("migrate", path, "--journal", new, "--after", number), (1, "", f"fault: journal Differs {place.number}\n"))
+    plain = register(folder / "plain.db", shift(3))
+    same("a register without a journal", run("migrate", plain, "--journal", new, "--after", 0), (1, "", OTHER))
+    look("and no part is begun", not new.exists())
+    same("over the old journal", run("migrate", path, "--journal", old, "--after", place.number), (1, "", "fault: journal HasBytes\n"))
+    same("a part is begun", run("migrate", path, "--journal", new, "--after", place.number), (0, f"next part after {place.number}\n", ""))
+    same("its first line is the register's place", new.read_bytes(), text_of([first_text(place)]))
+    same("the register is unchanged", (path.read_bytes() == held, place_of(path)), (True, place))
+    same("it goes on", run("run", "--db", path, "--journal", new, lines=commands[24:])[::2], (0, ""))
+    verified("by the new rules, from a copy", path, new, words=["--from", copy])
+    old.write_bytes(text)
+    same("the old journal is too short", opened(path, old), (1, "", "fault: journal TooShort\n"))
+    verified("both are one journal", path, old, new)
 
 
 def next_part(path, journal, new, number):
@@ -831,4 +868,4 @@ def commands(folder):
 
 
 if __name__ == "__main__":
-    main(of_run, in_brief, of_serve, log, own_form, gaps, shorter, flips, never_synced, torn_logs, forged, refused, begun, migrated, parts, next_parts_refused, commands)
+    main(of_run, in_brief, of_serve, log, own_form, gaps, shorter, flips, never_synced, torn_logs, forged, refused, begun, migrated, by_other_rules, parts, next_parts_refused, commands)

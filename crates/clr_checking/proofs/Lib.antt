@@ -9,3 +9,4 @@ pub mod Chained
 pub mod Flat
 pub mod Runs
 pub mod Checked
+pub mod BriefTaken

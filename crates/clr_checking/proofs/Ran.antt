@@ -20,7 +20,8 @@ use Rattle.clr_journal.specs.declared.reading.Turn.{Turn}
 use Rattle.clr_chain.specs.First.{first_turn_at}
 use Rattle.clr_chain.specs.Level.{place_after}
 use Rattle.clr_chain.specs.Sums.{sum_behind}
-use Rattle.clr_checking.specs.Checking.{AreAnswered, HasOtherSum, Meets, NoneHas, none, refused, gone, done, is_brief}
+use Rattle.clr_checking.specs.Checking.{AreAnswered, HasOtherSum, Meets, NoneHas, none, refused, gone, done}
+use Rattle.clr_checking.specs.Brief.{IsTaken}
 use Rattle.clr_checking.specs.CheckingOn.{IsAfter, IsMet, IsMissed, IsOpenAt, Ran}
 use Rattle.clr_verify.specs.Replay.{open_entries}
 use Rattle.clr_verify.specs.Replies.{IsReply}
@@ -248,7 +249,7 @@ takes_accepted began S R first place one missed count met entries here ran =
 
 -- one that was refused is passed over
 pub refused_answers : (began S R : Register) (first place : Place) (receipt : Receipt) (q : Command) (reply : Data) (count : ℕ) (met : Bool) (entries : List Entry)
-    → is_accepted reply ≡ false → (is_brief q.kind ≡ true) ⊎ IsReply reply (Answer.reply (answer S q))
+    → is_accepted reply ≡ false → IsTaken q reply (Answer.reply (answer S q))
     → Ran began first place R None None S count met entries → AreAnswered began (entries ++ carried receipt q reply ∷ []) S
 refused_answers began S R first place receipt q reply count met entries not own ran =
     let entry : Entry = carried receipt q reply in
@@ -256,7 +257,7 @@ refused_answers began S R first place receipt q reply count met entries not own 
     (answered_then (entry ∷ []) S refl ran.answered (refused S S receipt q reply [] not own (none S)))
 
 pub takes_refused : (began S R : Register) (first place : Place) (receipt : Receipt) (q : Command) (reply : Data) (count : ℕ) (met met' : Bool) (entries : List Entry)
-    → is_accepted reply ≡ false → (is_brief q.kind ≡ true) ⊎ IsReply reply (Answer.reply (answer S q))
+    → is_accepted reply ≡ false → IsTaken q reply (Answer.reply (answer S q))
     → (receipt.number ≡ place.number → place ≡ place_after first (entries ++ carried receipt q reply ∷ []))
     → (met' ≡ true → met ≡ false → (receipt.number ≡ place.number) × (tables_of R ≡ tables_of S))
     → (met ≡ true → met' ≡ true) → (met' ≡ false → receipt.number ≢ place.number)

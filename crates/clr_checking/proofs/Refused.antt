@@ -13,7 +13,8 @@ use Rattle.clr_journal.specs.declared.line.Carried.{Carried}
 use Rattle.clr_journal.specs.declared.reading.Turn.{Turn}
 use Rattle.clr_chain.specs.First.{first_turn_at}
 use Rattle.clr_chain.specs.Level.{place_after}
-use Rattle.clr_checking.specs.Checking.{AreAnswered, HasOtherSum, Meets, RefusesFrom, RefusesRun, is_brief}
+use Rattle.clr_checking.specs.Checking.{AreAnswered, HasOtherSum, Meets, RefusesFrom, RefusesRun}
+use Rattle.clr_checking.specs.Brief.{IsTaken, is_brief}
 use Rattle.clr_checking.specs.CheckingOn.{AnswersElse, ComparesElse, IsAfter, IsAt, IsMissed, IsOf, IsOfOpen, Ran, RanOver, RunsOn, Settles, Waits}
 use Rattle.clr_checking.specs.declared.checking.Checking.{Checking}
 use Rattle.clr_checking.specs.declared.fault.CheckFault.{CheckFault}
@@ -99,7 +100,7 @@ carried_else began R first place old one entries fault some accepted else over =
 
 -- that of a command that was refused
 refused_replies : (began S R : Register) (first place : Place) (one : Carried) (count : ℕ) (met : Bool) (entries : List Entry) (fault : CheckFault)
-    → is_brief one.command.kind ≡ false → AnswersElse S one fault → Ran began first place R None None S count met entries
+    → (fault ≡ Reply one.receipt.number → is_brief one.command (view one.reply) (Answer.reply (answer S one.command)) ≡ false) → AnswersElse S one fault → Ran began first place R None None S count met entries
     → RefusesRun began first (entries ++ line_of one ∷ []) place R fault
 refused_replies began S R first place one count met entries OtherRegister whole else ran = absurd else
 refused_replies began S R first place one count met entries (BadLine n) whole else ran = absurd else
@@ -112,7 +113,7 @@ refused_replies began S R first place one count met entries (Reply n) whole else
   all = refl;
   number_is = else.0;
   kept = refl;
-  whole = λ not. whole;
+  whole = λ not. whole (ap Reply else.0);
   register = S;
   answered = subst (λ (es : List Entry). AreAnswered began es S) (sym (ran.entries_are ∙ append-nil ran.done)) ran.answered;
   other = else.1;
@@ -123,7 +124,8 @@ refused_replies began S R first place one count met entries TooShort whole else 
 refused_replies began S R first place one count met entries NoMemory whole else ran = tt
 
 pub refused_else : (began R : Register) (first place : Place) (old : Checking) (one : Carried) (entries : List Entry) (fault : CheckFault) → old.last ≡ None → old.missed ≡ None
-    → is_brief one.command.kind ≡ false → AnswersElse old.desk.book.register one fault → RanOver began first place R old entries
+    → (fault ≡ Reply one.receipt.number → is_brief one.command (view one.reply) (Answer.reply (answer old.desk.book.register one.command)) ≡ false) → AnswersElse old.desk.book.register one fault
+    → RanOver began first place R old entries
     → RefusesRun began first (entries ++ line_of one ∷ []) place R fault
 refused_else began R first place old one entries fault closed settled whole else over =
     refused_replies began old.desk.book.register R first place one old.count old.is_met entries fault whole else
@@ -161,7 +163,7 @@ closed_else began R first place old mid left_open one entries fault some settled
 
 -- at the line of a command that was refused
 pub refused_tables : (began R : Register) (first place : Place) (old : Checking) (one : Carried) (entries : List Entry) (fault : CheckFault) → old.last ≡ None → old.missed ≡ None
-    → is_accepted (view one.reply) ≡ false → (is_brief one.command.kind ≡ true) ⊎ IsReply (view one.reply) (Answer.reply (answer old.desk.book.register one.command))
+    → is_accepted (view one.reply) ≡ false → IsTaken one.command (view one.reply) (Answer.reply (answer old.desk.book.register one.command))
     → (one.receipt.number ≡ old.place.number → old.place.sum ≡ old.walk.end.sum) → ComparesElse old one.receipt.number fault
     → IsAfter first place old.walk.end.sum (line_of one) entries → RanOver began first place R old entries
     → RefusesRun began first (entries ++ line_of one ∷ []) place R fault

@@ -9,7 +9,7 @@ use Rattle.clr_place.specs.declared.place.Place.{Place}
 use Rattle.clr_tables.specs.Tables.{tables_of}
 use Rattle.clr_journal.specs.Line.{Entry, carried, withdrawn, is_accepted}
 use Rattle.clr_journal.specs.declared.line.Carried.{Carried}
-use Rattle.clr_checking.specs.Checking.{is_brief}
+use Rattle.clr_checking.specs.Brief.{IsTaken}
 use Rattle.clr_checking.specs.CheckingOn.{IsAfter, IsMissed, IsOf, IsOpenAt, Ran, RanOver, RunsOn}
 use Rattle.clr_chain.specs.First.{first_turn_at}
 use Rattle.clr_checking.proofs.Places.{open_more}
@@ -79,7 +79,7 @@ accepted_on began R first place old new one entries closed settled some same fou
 
 pub refused_on : (began R : Register) (first place : Place) (old new : Checking) (one : Carried) (entries : List Entry) → old.last ≡ None → old.missed ≡ None
     → is_accepted (view one.reply) ≡ false
-    → (is_brief one.command.kind ≡ true) ⊎ IsReply (view one.reply) (Answer.reply (answer old.desk.book.register one.command))
+    → IsTaken one.command (view one.reply) (Answer.reply (answer old.desk.book.register one.command))
     → (one.receipt.number ≡ old.place.number → old.place.sum ≡ old.walk.end.sum) → old.from ≡ None → MetAt one.receipt.number old new.is_met
     → UnmetAt one.receipt.number old new.is_met → (old.is_met ≡ true → new.is_met ≡ true) → new ≡ record old { is_met = new.is_met }
     → IsAfter first place old.walk.end.sum (line_of one) entries → RanOver began first place R old entries

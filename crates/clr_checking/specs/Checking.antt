@@ -8,8 +8,6 @@ use Rattle.clr_rules.specs.Answer.{Answer, answer}
 use Rattle.clr_rules.specs.Register.{Register}
 use Rattle.clr_rules.specs.Run.{after}
 use Rattle.clr_rules.specs.declared.command.Command.{Command}
-use Rattle.clr_rules.specs.declared.command.Kind.{Kind}
-use Rattle.clr_rules.specs.declared.command.Kind.TheVariants as kinds
 use Rattle.clr_place.specs.declared.place.Place.{Place}
 use Rattle.clr_tables.specs.Tables.{tables_of}
 use Rattle.clr_text.specs.Replies.{reply_data}
@@ -24,21 +22,13 @@ use Rattle.clr_chain.specs.Link.{next_link}
 use Rattle.clr_chain.specs.declared.chain_end.ChainEnd.{ChainEnd}
 use Rattle.clr_verify.specs.Registers.{IsFirstDifference}
 use Rattle.clr_verify.specs.Replies.{IsReply}
+use Rattle.clr_checking.specs.Brief.{IsTaken, is_brief}
 use Rattle.clr_checking.specs.declared.fault.CheckFault.{CheckFault}
 use Rattle.clr_checking.specs.declared.fault.CheckFault.TheVariants.{BadLine, Differs, NoMemory}
 use Rattle.clr_checking.specs.declared.fault.CheckFault.TheVariants.{OtherRegister}
 use Rattle.clr_checking.specs.declared.fault.CheckFault.TheVariants.{Reply, Tables, TooShort}
 
 -- ---- the lines
-
--- a command whose lists or text may have been left out of its line: one that was refused, and is of
--- a kind that has them, with none
-abbrev pub is_brief : Kind → Bool
-is_brief (kinds.Order c [] []) = true
-is_brief (kinds.Restore c []) = true
-is_brief (kinds.Switch []) = true
-is_brief (kinds.Repeat c n []) = true
-is_brief kind = false
 
 -- ALL LINES OF THESE TEXTS hold their sums, after this first line
 pub record AreLines (first : Place) (texts : List (List ℕ)) (entries : List Entry) : Type 0 where
@@ -51,8 +41,7 @@ pub record AreLines (first : Place) (texts : List (List ℕ)) (entries : List En
 pub data AreAnswered : Register → List Entry → Register → Type 0 where
   none : (R : Register) → AreAnswered R [] R
   refused : (R S : Register) (receipt : Receipt) (q : Command) (reply : Data) (rest : List Entry)
-      → is_accepted reply ≡ false
-      → (is_brief q.kind ≡ true) ⊎ IsReply reply (Answer.reply (answer R q))
+      → is_accepted reply ≡ false → IsTaken q reply (Answer.reply (answer R q))
       → AreAnswered R rest S → AreAnswered R (carried receipt q reply ∷ rest) S
   gone : (R S : Register) (receipt : Receipt) (q : Command) (reply : Data) (n : ℕ)
       (rest : List Entry) → is_accepted reply ≡ true → AreAnswered R rest S
@@ -113,8 +102,8 @@ pub record Meets (began : Register) (first : Place) (entries : List Entry) (plac
   pub is : Is register
 
 -- A COMMAND HAS ANOTHER REPLY: the lines before it lead to a register that answers it otherwise than
--- its line says. It was accepted and is not withdrawn; or it was refused, and its line is not in
--- brief
+-- its line says. It was accepted and is not withdrawn; or it was refused, and its line is none that
+-- may be in brief
 pub record RepliesElse (began : Register) (entries : List Entry) (number : ℕ) : Type 0 where
   pub had : List Entry
   pub receipt : Receipt
@@ -124,8 +113,9 @@ pub record RepliesElse (began : Register) (entries : List Entry) (number : ℕ) 
   pub all : entries ≡ had ++ carried receipt q reply ∷ more
   pub number_is : number ≡ receipt.number
   pub kept : withdraws more ≡ false
-  pub whole : is_accepted reply ≡ false → is_brief q.kind ≡ false
   pub register : Register
+  pub whole : is_accepted reply ≡ false
+      → is_brief q reply (Answer.reply (answer register q)) ≡ false
   pub answered : AreAnswered began had register
   pub other : reply ≢ reply_data (Answer.reply (answer register q))
 

@@ -1,3 +1,4 @@
+pub mod Brief
 pub mod Checking
 pub mod CheckingOn
 pub mod Laws

@@ -13,22 +13,23 @@ ghost use Rattle.clr_journal.specs.Line.{Entry, carried, entry_of, is_accepted, 
 ghost use Rattle.clr_journal.specs.declared.reading.Turn.{Turn};
 ghost use Rattle.clr_chain.specs.First.{end_at, read_first};
 ghost use Rattle.clr_chain.specs.Walking.{part_of, step_of};
+ghost use Rattle.clr_checking.specs.Brief.{DecidesTaken, IsTaken, is_brief};
 ghost use Rattle.clr_checking.specs.Checking.{IsChecked, IsCheckedFrom, IsRefused, IsRefusedFrom};
 ghost use Rattle.clr_checking.specs.Checking.{NoneHas, Refuses, RefusesFrom, RefusesOfCopy};
-ghost use Rattle.clr_checking.specs.Checking.{RefusesRun, is_brief};
+ghost use Rattle.clr_checking.specs.Checking.{RefusesRun};
 ghost use Rattle.clr_checking.specs.CheckingOn.{AnswersElse, CheckedTo, CheckedToFrom, ComesFrom};
 ghost use Rattle.clr_checking.specs.CheckingOn.{ComparesElse, IsAfter, IsAt, IsReady, RanOver};
 ghost use Rattle.clr_checking.specs.CheckingOn.{RunsOn, Settles, Waits};
 ghost use Rattle.clr_verify.specs.Replies.{IsReply};
 
+use crate::brief::is_taken;
 use crate::fault::CheckFault;
 use clr_chain::{Step, Walk};
 use clr_desk::{Desk, DeskBook, Unkept};
 use clr_journal::{Carried, Line, is_accepted};
 use clr_place::Place;
-use clr_rules::{Command, Kind};
 use clr_verify::{compare, is_reply};
-use std::alloc::Global;
+use std::alloc::{AllocError, Global};
 
 /// How far a register was checked against its journal.
 #[derive(Drop)]
@@ -607,19 +608,36 @@ impl<'a> Checking<'a> {
     fn refuse(&self, alloc: Global, one: Carried) -> Result<u64, CheckFault>
         requires { IsGood self.now.desk.book.register }
         ensures fault { IfErr result (AnswersElse self.now.desk.book.register one) }
-        ensures whole { OnErr result (is_brief one.command.kind ≡ false) }
+        ensures whole { IfErr result (λ fault. fault ≡ CheckFault.Reply one.receipt.number
+            → is_brief one.command (view one.reply)
+            (Answer.reply (answer self.now.desk.book.register one.command)) ≡ false) }
         ensures number { IfOk result (λ number. number ≡ one.receipt.number) }
-        ensures reply { OnOk result ((is_brief one.command.kind ≡ true) ⊎ IsReply (view one.reply)
+        ensures taken { OnOk result (IsTaken one.command (view one.reply)
             (Answer.reply (answer self.now.desk.book.register one.command))) }
     {
-        if is_brief(&one.command) {
-            return Ok(one.receipt.number);
+        let number = one.receipt.number;
+        match self.is_due(alloc, &one) {
+            Ok(is) => {
+                if is {
+                    Ok(number)
+                } else {
+                    Err(CheckFault::Reply(number))
+                }
+            }
+            Err(_) => Err(CheckFault::NoMemory),
         }
-        let decision = self.desk.book().answer(&one.command)?;
-        if is_reply(alloc, &one.reply, &decision.reply)? {
-            Ok(one.receipt.number)
-        } else {
-            Err(CheckFault::Reply(one.receipt.number))
+    }
+
+    /// Whether a command that was refused has the reply due in its line, or the line may be in
+    /// brief.
+    fn is_due(&self, alloc: Global, one: &Carried) -> Result<bool, AllocError>
+        requires { IsGood self.now.desk.book.register }
+        ensures { IfOk result (DecidesTaken one.now.command (view one.now.reply)
+            (Answer.reply (answer self.now.desk.book.register one.now.command))) }
+    {
+        match self.desk.book().answer(&one.command) {
+            Ok(decision) => is_taken(alloc, &one.command, &one.reply, &decision.reply),
+            Err(error) => Err(error),
         }
     }
 
@@ -702,20 +720,5 @@ impl<'a> Checking<'a> {
                 Ok(())
             }
         }
-    }
-}
-
-/// Whether a refused command may have lost its lists or its text in its line.
-fn is_brief(command: &Command) -> bool
-    ensures { result ≡ is_brief command.now.kind }
-{
-    match &command.kind {
-        Kind::Order { points, steps, .. } => {
-            points.as_slice().is_empty() && steps.as_slice().is_empty()
-        }
-        Kind::Restore { steps, .. } => steps.as_slice().is_empty(),
-        Kind::Switch { steps } => steps.as_slice().is_empty(),
-        Kind::Repeat { text, .. } => text.as_str().is_empty(),
-        _ => false,
     }
 }

@@ -1,6 +1,7 @@
 //! A register that is checked against its journal, whose lines are run again one by one.
 #![tactic(auto)]
 
+mod brief;
 mod checking;
 mod fault;
 pub mod laws;

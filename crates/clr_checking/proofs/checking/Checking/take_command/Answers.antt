@@ -15,7 +15,7 @@ returns-clause-went c =
     let sure : c.is_expected.result ≡ true = search rules in
     on_both c.compare_at.result (λ now unmet began first place R entries is over.
     refused_on began R first place c.args.self.now c.compare_at.new.self c.args.one entries c.requires.closed c.requires.settled (sym c.is_accepted.ensures ∙ c.if-is_accepted.false)
-    c.in_ok-refused.ensures.reply (c.is_expected.ensures.sum sure) c.requires.begun
+    c.in_ok-refused.ensures.taken (c.is_expected.ensures.sum sure) c.requires.begun
     (subst (λ (n : ℕ). MetAt n c.args.self.now c.compare_at.new.self.is_met) c.in_ok-refused.ensures.number now)
     (subst (λ (n : ℕ). UnmetAt n c.args.self.now c.compare_at.new.self.is_met) c.in_ok-refused.ensures.number unmet)
     c.compare_at.ensures.stays c.compare_at.ensures.others is over)
@@ -26,7 +26,7 @@ returns-clause-refused c =
     let sure : c.is_expected.result ≡ true = search rules in
     if_err c.compare_at.result (λ fault else began first place R entries is over.
     refused_tables began R first place c.args.self.now c.args.one entries fault c.requires.closed c.requires.settled (sym c.is_accepted.ensures ∙ c.if-is_accepted.false)
-    c.in_ok-refused.ensures.reply (c.is_expected.ensures.sum sure)
+    c.in_ok-refused.ensures.taken (c.is_expected.ensures.sum sure)
     (subst (λ (n : ℕ). ComparesElse c.args.self.now n fault) c.in_ok-refused.ensures.number else) is over) c.compare_at.ensures.fault
 
 -- another sum at the register's place
