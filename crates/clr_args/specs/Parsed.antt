@@ -216,11 +216,13 @@ IsNoVerify rows = IsNoVerifyOver (first_of (codes "from") rows) (words_in rows (
 pub record AsksUpdate (rows : List Row) (args : UpdateArgs) : Type 0 where
   pub database : args.database.now ≡ word_in rows (codes "DB")
   pub files : AsksFiles rows args.files
+  pub journal : option_map (λ path. path.now) args.journal ≡ first_of (codes "journal") rows
   pub dry_run : args.dry_run ≡ flag_in (first_of (codes "dry-run") rows)
   pub without : map (λ word. word.now) args.without.items ≡ words_in rows (codes "without")
 
 pub record AsksArchive (rows : List Row) (args : ArchiveArgs) : Type 0 where
   pub database : args.database.now ≡ word_in rows (codes "DB")
+  pub journal : option_map (λ path. path.now) args.journal ≡ first_of (codes "journal") rows
   pub before : args.before ≡ moment_in (first_of (codes "before") rows)
 
 pub record AsksMigrate (rows : List Row) (args : MigrateArgs) : Type 0 where

@@ -141,14 +141,19 @@ plain_update =
     with_rule (with_files (with_rule (new_app (codes "update")) (required_rule (codes "DB"))))
     (required_rule (codes "STAFF"))
 
--- the same with `[--dry-run] [--without JUMPER]...`
+-- the same with `[--journal FILE] [--dry-run] [--without JUMPER]...`
 abbrev pub update : App
-update = with_rule (with_rule plain_update (flag_rule (codes "dry-run")))
+update =
+    with_rule (with_rule (with_rule plain_update (option_rule (codes "journal")))
+    (flag_rule (codes "dry-run")))
     (repeated_option_rule (codes "without"))
 
--- `archive DB --before MOMENT`
+-- `archive DB [--journal FILE] --before MOMENT`
 abbrev pub archive : App
-archive = with_rule (with_rule (new_app (codes "archive")) (required_rule (codes "DB"))) before_rule
+archive =
+    with_rule (with_rule (with_rule (new_app (codes "archive")) (required_rule (codes "DB")))
+    (option_rule (codes "journal")))
+    before_rule
 
 -- `migrate DB [--journal FILE] [--after NUMBER]`
 abbrev pub migrate : App

@@ -199,6 +199,8 @@ pub struct UpdateArgs<'a> {
     pub database: &'a str,
     /// The files that say what network and staff become.
     pub files: Files<'a>,
+    /// The path of its journal.
+    pub journal: Option<&'a str>,
     /// Whether nothing is written.
     pub dry_run: bool,
     /// The names of the jumpers that are taken out.
@@ -210,6 +212,8 @@ pub struct UpdateArgs<'a> {
 pub struct ArchiveArgs<'a> {
     /// The path of the database.
     pub database: &'a str,
+    /// The path of its journal.
+    pub journal: Option<&'a str>,
     /// The moment, in seconds since 1970-01-01T00:00:00Z.
     pub before: u64,
     ghost last: { before ≤ 4102444799 },

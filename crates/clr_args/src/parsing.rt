@@ -481,28 +481,32 @@ fn verify_from_args<'a>(
     })
 }
 
-/// What `update DB SECTIONS POINTS STAFF [--dry-run] [--without JUMPER]...` asks for.
+/// What `update DB SECTIONS POINTS STAFF [--journal FILE] [--dry-run] [--without JUMPER]...` asks
+/// for.
 fn update_args<'a>(alloc: Global, matches: &ArgMatches<'a>) -> Result<UpdateArgs<'a>, AllocError>
     ensures { IfOk result (AsksUpdate (rows_of (found_of matches.now))) }
 {
     let database = word_of(matches, "DB");
     let files = three_files(matches);
+    let journal = option_of(matches, "journal");
     let dry_run = flag_of(matches, "dry-run");
     let without = words_of(alloc, matches, "without")?;
     Ok(UpdateArgs {
         database,
         files,
+        journal,
         dry_run,
         without,
     })
 }
 
-/// What `archive DB --before MOMENT` asks for.
+/// What `archive DB [--journal FILE] --before MOMENT` asks for.
 fn archive_args<'a>(matches: &ArgMatches<'a>) -> ArchiveArgs<'a>
     ensures { AsksArchive (rows_of (found_of matches.now)) result }
 {
     ArchiveArgs {
         database: word_of(matches, "DB"),
+        journal: option_of(matches, "journal"),
         before: moment_of(matches),
     }
 }

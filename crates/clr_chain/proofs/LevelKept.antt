@@ -2,11 +2,9 @@
 use Rattle.std.proofs.Common.{◌≡◌, ◌∙◌, Bool, true, false, ◌&&◌, not, cond, List, [], ◌∷◌, ◌++◌, map, Option, None, Some, refl, ap, ap₂, sym, subst, append_assoc, append-nil}
 use Rattle.std.proofs.lemmas.List.{append_cancel_left, map-append}
 use Rattle.serde_json.specs.Data.{Data}
-use Rattle.clr_rules.specs.Answer.{Answer, answer}
+use Rattle.clr_deeds.specs.Deeds.{Deed, after_deed, after_deeds}
 use Rattle.clr_rules.specs.Register.{Register}
-use Rattle.clr_rules.specs.Run.{after, after_all, replies}
-use Rattle.clr_rules.specs.declared.command.Command.{Command}
-use Rattle.clr_text.specs.Replies.{reply_data}
+use Rattle.clr_journal.specs.Answered.{deed_replies, deed_reply}
 use Rattle.clr_journal.proofs.JournalsRead.{commands_grow, lines_grow}
 use Rattle.clr_journal.specs.Journals.{carried_out, in_turn, onto_some, own_pair, withdraws}
 use Rattle.clr_journal.specs.Line.{Entry, carried, withdrawn, is_accepted}
@@ -26,7 +24,7 @@ own_same (withdrawn n) xs ys h = refl
 own_same (carried receipt q reply) xs ys h =
     ap (λ (b : Bool). cond (is_accepted reply && not b) (Some (q, reply)) None) (same_withdraws xs ys h)
 
-onto_pairs : (o : Option (Command × Data)) (xs ys : List (Command × Data)) → onto_some o (xs ++ ys) ≡ onto_some o xs ++ ys
+onto_pairs : (o : Option (Deed × Data)) (xs ys : List (Deed × Data)) → onto_some o (xs ++ ys) ≡ onto_some o xs ++ ys
 onto_pairs None xs ys = refl
 onto_pairs (Some pair) xs ys = refl
 
@@ -34,64 +32,58 @@ pub carried_out-append : (xs ys : List Entry) → withdraws ys ≡ false → car
 unfolding carried_out
 carried_out-append [] ys h = refl
 carried_out-append (one ∷ xs) ys h =
-    ap (λ (o : Option (Command × Data)). onto_some o (carried_out (xs ++ ys))) (own_same one xs ys h)
+    ap (λ (o : Option (Deed × Data)). onto_some o (carried_out (xs ++ ys))) (own_same one xs ys h)
     ∙ ap (onto_some (own_pair one xs)) (carried_out-append xs ys h)
     ∙ onto_pairs (own_pair one xs) (carried_out xs) (carried_out ys)
 
 -- ---- runs one after the other
 
-after_all-append : (R : Register) (xs ys : List Command) → after_all R (xs ++ ys) ≡ after_all (after_all R xs) ys
-unfolding after_all
-after_all-append R [] ys = refl
-after_all-append R (q ∷ xs) ys = after_all-append (after R q) xs ys
+after_deeds-append : (R : Register) (xs ys : List Deed) → after_deeds R (xs ++ ys) ≡ after_deeds (after_deeds R xs) ys
+unfolding after_deeds
+after_deeds-append R [] ys = refl
+after_deeds-append R (q ∷ xs) ys = after_deeds-append (after_deed R q) xs ys
 
-replies-append : (R : Register) (xs ys : List Command) → replies R (xs ++ ys) ≡ replies R xs ++ replies (after_all R xs) ys
-unfolding after_all replies
-replies-append R [] ys = refl
-replies-append R (q ∷ xs) ys = ap (λ rest. Answer.reply (answer R q) ∷ rest) (replies-append (after R q) xs ys)
+answers-append : (R : Register) (xs ys : List Deed) → deed_replies R (xs ++ ys) ≡ deed_replies R xs ++ deed_replies (after_deeds R xs) ys
+unfolding after_deeds deed_replies
+answers-append R [] ys = refl
+answers-append R (q ∷ xs) ys = ap (λ rest. deed_reply R q ∷ rest) (answers-append (after_deed R q) xs ys)
 
-abbrev asked : List (Command × Data) → List Command
+abbrev asked : List (Deed × Data) → List Deed
 asked pairs = map (λ pair. pair.0) pairs
 
-abbrev told : List (Command × Data) → List Data
+abbrev told : List (Deed × Data) → List Data
 told pairs = map (λ pair. pair.1) pairs
 
-abbrev answers : Register → List Command → List Data
-answers R commands = map reply_data (replies R commands)
-
-answers-append : (R : Register) (xs ys : List Command) → answers R (xs ++ ys) ≡ answers R xs ++ answers (after_all R xs) ys
-answers-append R xs ys = ap (map reply_data) (replies-append R xs ys) ∙ map-append reply_data (replies R xs) (replies (after_all R xs) ys)
-
-joined : (first R S : Register) (a b : List (Command × Data)) → IsRunOf first a R → IsRunOf R b S → IsRunOf first (a ++ b) S
+joined : (first R S : Register) (a b : List (Deed × Data)) → IsRunOf first a R → IsRunOf R b S → IsRunOf first (a ++ b) S
 joined first R S a b one two =
     let commands : asked (a ++ b) ≡ asked a ++ asked b = map-append (λ pair. pair.0) a b in
-    let come : after_all first (asked a) ≡ R = sym one.register in
+    let come : after_deeds first (asked a) ≡ R = sym one.register in
     record {
-      register = two.register ∙ ap (λ T. after_all T (asked b)) one.register ∙ sym (after_all-append first (asked a) (asked b)) ∙ ap (after_all first) (sym commands);
-      replied = map-append (λ pair. pair.1) a b ∙ ap₂ (λ xs ys. xs ++ ys) one.replied (two.replied ∙ ap (λ T. answers T (asked b)) one.register)
-          ∙ sym (answers-append first (asked a) (asked b)) ∙ ap (answers first) (sym commands);
+      register = two.register ∙ ap (λ T. after_deeds T (asked b)) one.register ∙ sym (after_deeds-append first (asked a) (asked b)) ∙ ap (after_deeds first) (sym commands);
+      replied = map-append (λ pair. pair.1) a b ∙ ap₂ (λ xs ys. xs ++ ys) one.replied (two.replied ∙ ap (λ T. deed_replies T (asked b)) one.register)
+          ∙ sym (answers-append first (asked a) (asked b)) ∙ ap (deed_replies first) (sym commands);
     }
 
-parted : (first R S : Register) (a b : List (Command × Data)) → IsRunOf first a R → IsRunOf first (a ++ b) S → IsRunOf R b S
+parted : (first R S : Register) (a b : List (Deed × Data)) → IsRunOf first a R → IsRunOf first (a ++ b) S → IsRunOf R b S
 parted first R S a b one both =
     let commands : asked (a ++ b) ≡ asked a ++ asked b = map-append (λ pair. pair.0) a b in
-    let come : after_all first (asked a) ≡ R = sym one.register in
-    let all : answers first (asked (a ++ b)) ≡ told a ++ answers R (asked b) =
-    ap (answers first) commands ∙ answers-append first (asked a) (asked b) ∙ ap₂ (λ xs T. xs ++ answers T (asked b)) (sym one.replied) come in
+    let come : after_deeds first (asked a) ≡ R = sym one.register in
+    let all : deed_replies first (asked (a ++ b)) ≡ told a ++ deed_replies R (asked b) =
+    ap (deed_replies first) commands ∙ answers-append first (asked a) (asked b) ∙ ap₂ (λ xs T. xs ++ deed_replies T (asked b)) (sym one.replied) come in
     let split : told (a ++ b) ≡ told a ++ told b = map-append (λ pair. pair.1) a b in
     record {
-      register = both.register ∙ ap (after_all first) commands ∙ after_all-append first (asked a) (asked b) ∙ ap (λ T. after_all T (asked b)) come;
-      replied = append_cancel_left (told a) (told b) (answers R (asked b)) (sym split ∙ both.replied ∙ all);
+      register = both.register ∙ ap (after_deeds first) commands ∙ after_deeds-append first (asked a) (asked b) ∙ ap (λ T. after_deeds T (asked b)) come;
+      replied = append_cancel_left (told a) (told b) (deed_replies R (asked b)) (sym split ∙ both.replied ∙ all);
     }
 
-one_more : (R : Register) (q : Command) → IsRunOf R ((q, reply_data (Answer.reply (answer R q))) ∷ []) (after R q)
-unfolding after_all replies
+one_more : (R : Register) (q : Deed) → IsRunOf R ((q, deed_reply R q) ∷ []) (after_deed R q)
+unfolding after_deeds deed_replies
 one_more R q = record { register = refl; replied = refl }
 
 -- ---- the laws
 
 pub new_journals : NewJournalsAreLevel
-unfolding carried_out after_all replies in_turn
+unfolding carried_out after_deeds deed_replies in_turn
 new_journals R start = record {
   had = [];
   more = [];
@@ -126,7 +118,7 @@ nothing_more : (had idle : List Entry) → withdraws idle ≡ false → carried_
 nothing_more had idle kept none =
     carried_out-append had idle kept ∙ ap (λ more. carried_out had ++ more) none ∙ append-nil (carried_out had)
 
-accepted_one : (b : Bool) (pair : Command × Data) → b ≡ true → cond b (pair ∷ []) [] ≡ pair ∷ []
+accepted_one : (b : Bool) (pair : Deed × Data) → b ≡ true → cond b (pair ∷ []) [] ≡ pair ∷ []
 accepted_one true pair h = refl
 accepted_one false pair h = absurd_list h
   where
@@ -135,7 +127,7 @@ accepted_one false pair h = absurd_list h
 
 pub steps_keep : StepsKeepLevel
 steps_keep first R start place entries level idle rest receipt q is none accepted kept =
-    let reply : Data = reply_data (Answer.reply (answer R q)) in
+    let reply : Data = deed_reply R q in
     let entry : Entry = line_at R receipt q in
     let idle_kept : withdraws idle ≡ false = front_kept idle (entry ∷ rest) (subst (λ more. withdraws more ≡ false) is level.kept) in
     let pairs : carried_out ((level.had ++ idle) ++ entry ∷ []) ≡ carried_out level.had ++ (q, reply) ∷ [] =
@@ -148,7 +140,7 @@ steps_keep first R start place entries level idle rest receipt q is none accepte
       turns = level.turns;
       is_at = refl;
       kept = kept;
-      run = subst (λ all. IsRunOf first all (after R q)) (sym pairs) (joined first R (after R q) (carried_out level.had) ((q, reply) ∷ []) level.run (one_more R q));
+      run = subst (λ all. IsRunOf first all (after_deed R q)) (sym pairs) (joined first R (after_deed R q) (carried_out level.had) ((q, reply) ∷ []) level.run (one_more R q));
     }
 
 pub lost_tails : LostTailsAreMadeGood

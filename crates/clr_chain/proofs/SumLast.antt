@@ -7,6 +7,7 @@ use Rattle.std.specs.Prelude.{slice_index}
 use Rattle.json.specs.Print.{escape_byte, quoted}
 use Rattle.serde_json.specs.Data.{Data, Members, member, no_members, string}
 use Rattle.serde_json.specs.Written.{comma_if, compact_text, members_text}
+use Rattle.clr_deeds.specs.Deeds.{command}
 use Rattle.clr_rules.specs.declared.command.Command.{Command}
 use Rattle.clr_text.specs.CommandText.{command_data}
 use Rattle.clr_text.specs.Json.{optional_data, whole_data}
@@ -40,7 +41,7 @@ carried_members receipt q reply =
 pub open_line : Receipt → Command → Data → List ℕ
 open_line receipt q reply = 123 ∷ members_then [] false (carried_members receipt q reply)
 
-pub line_is_closed : (receipt : Receipt) (q : Command) (reply : Data) → line_text (carried receipt q reply) ≡ open_line receipt q reply ++ 125 ∷ []
+pub line_is_closed : (receipt : Receipt) (q : Command) (reply : Data) → line_text (carried receipt (command q) reply) ≡ open_line receipt q reply ++ 125 ∷ []
 unfolding open_line
 line_is_closed receipt q reply = ap (λ t. 123 ∷ t) (end_last (125 ∷ []) false (carried_members receipt q reply))
 
@@ -51,13 +52,13 @@ sum_text : (sum : List ℕ) → sum_member sum ≡ codes ",\"sum\":" ++ (quoted 
 unfolding escape_byte
 sum_text sum = refl
 
-link_is_closed : (receipt : Receipt) (q : Command) (reply : Data) (sum : List ℕ) → link_text (carried receipt q reply) sum ≡ open_line receipt q reply ++ sum_member sum
+link_is_closed : (receipt : Receipt) (q : Command) (reply : Data) (sum : List ℕ) → link_text (carried receipt (command q) reply) sum ≡ open_line receipt q reply ++ sum_member sum
 unfolding link_text open_line
 link_is_closed receipt q reply sum = ap (λ t. 123 ∷ t) (end_last (sum_member sum) false (carried_members receipt q reply))
 
 -- these bytes after it are the text with the sum
 pub sum_is_last : (receipt : Receipt) (q : Command) (reply : Data) (sum : List ℕ)
-    → open_line receipt q reply ++ codes ",\"sum\":" ++ quoted sum ++ codes "}" ≡ link_text (carried receipt q reply) sum
+    → open_line receipt q reply ++ codes ",\"sum\":" ++ quoted sum ++ codes "}" ≡ link_text (carried receipt (command q) reply) sum
 sum_is_last receipt q reply sum =
     let front = open_line receipt q reply in
     append_assoc (front ++ codes ",\"sum\":") (quoted sum) (codes "}") ∙ append_assoc front (codes ",\"sum\":") (quoted sum ++ codes "}")

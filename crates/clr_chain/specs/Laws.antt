@@ -5,10 +5,8 @@ use Rattle.std.specs.List.{list_any}
 use Rattle.std.specs.Str.{is_utf8}
 use Rattle.clr_append.specs.Lines.{ended_lines, is_line_feed, text_of, with_feed}
 use Rattle.clr_rules.specs.Register.{Register}
-use Rattle.clr_rules.specs.Answer.{Answer, answer}
-use Rattle.clr_rules.specs.Run.{after}
-use Rattle.clr_rules.specs.declared.command.Command.{Command}
-use Rattle.clr_text.specs.Replies.{reply_data}
+use Rattle.clr_deeds.specs.Deeds.{Deed, after_deed}
+use Rattle.clr_journal.specs.Answered.{deed_reply}
 use Rattle.clr_journal.specs.Journals.{carried_out, is_next, withdraws}
 use Rattle.clr_journal.specs.Laws.{can_be_written, turn_behind}
 use Rattle.clr_journal.specs.Line.{Entry, carried, is_accepted, line_text}
@@ -85,15 +83,15 @@ WalksReadOn = (end : ChainEnd) (texts : List (List ℕ)) → walk end texts
 
 -- ---- level
 
--- the line of a command that this register answers
-abbrev pub line_at : Register → Receipt → Command → Entry
-line_at R receipt q = carried receipt q (reply_data (Answer.reply (answer R q)))
+-- the line of a deed that this register answers
+abbrev pub line_at : Register → Receipt → Deed → Entry
+line_at R receipt deed = carried receipt deed (deed_reply R deed)
 
 -- A NEW JOURNAL IS LEVEL with the register that it begins with, at its first line
 abbrev pub NewJournalsAreLevel : Type 0
 NewJournalsAreLevel = (R : Register) (start : Place) → IsLevel R start [] start R
 
--- A LINE MORE KEEPS LEVEL, whatever it says, but for one that withdraws the register's own command
+-- A LINE MORE KEEPS LEVEL, whatever it says, but for one that withdraws the register's own deed
 abbrev pub LinesKeepLevel : Type 0
 LinesKeepLevel = (first R : Register) (start place : Place) (entries : List Entry) (entry : Entry)
     (level : IsLevel first start entries place R)
@@ -101,17 +99,17 @@ LinesKeepLevel = (first R : Register) (start place : Place) (entries : List Entr
     → withdraws (IsLevel.more level ++ entry ∷ []) ≡ false
     → IsLevel first start (entries ++ entry ∷ []) place R
 
--- A COMMAND CARRIED OUT KEEPS LEVEL, with its place: it is the next that was accepted and not
+-- A DEED CARRIED OUT KEEPS LEVEL, with its place: it is the next that was accepted and not
 -- withdrawn, whether its line is new or was there
 abbrev pub StepsKeepLevel : Type 0
 StepsKeepLevel = (first R : Register) (start place : Place) (entries : List Entry)
     (level : IsLevel first start entries place R)
-    → (idle rest : List Entry) (receipt : Receipt) (q : Command)
-    → IsLevel.more level ≡ idle ++ line_at R receipt q ∷ rest
-    → carried_out idle ≡ [] → is_accepted (reply_data (Answer.reply (answer R q))) ≡ true
+    → (idle rest : List Entry) (receipt : Receipt) (deed : Deed)
+    → IsLevel.more level ≡ idle ++ line_at R receipt deed ∷ rest
+    → carried_out idle ≡ [] → is_accepted (deed_reply R deed) ≡ true
     → withdraws rest ≡ false
     → IsLevel first start entries
-    (place_after start (IsLevel.had level ++ idle ++ line_at R receipt q ∷ [])) (after R q)
+    (place_after start (IsLevel.had level ++ idle ++ line_at R receipt deed ∷ [])) (after_deed R deed)
 
 -- A LOST TAIL IS MADE GOOD: where all lines of a journal are those of a run, the lines after the
 -- register's place are those of a run from it, to the same register and with the same replies

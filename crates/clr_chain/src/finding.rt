@@ -3,6 +3,7 @@ ghost use Rattle.std.specs.Prelude.{◌≡◌, IfOk, IfSome, IfNone, map, true, 
 ghost use Rattle.std.specs.List.{list_any};
 ghost use Rattle.serde_json.specs.View.{view};
 ghost use Rattle.clr_append.specs.Lines.{ended_lines, unfinished};
+ghost use Rattle.clr_deeds.specs.Deeds.{deed_of};
 ghost use Rattle.clr_journal.specs.Journals.{carried_out, withdraws};
 ghost use Rattle.clr_journal.specs.Line.{entry_of};
 ghost use Rattle.clr_chain.specs.Chain.{links_of, read_on};
@@ -50,10 +51,10 @@ pub struct Ahead {
 }
 
 impl Ahead {
-    /// The commands to carry out: those that were accepted and not withdrawn, in order.
+    /// The deeds to carry out: those that were accepted and not withdrawn, in order.
     pub fn commands<'a>(&'a self, alloc: Global) -> Result<Vec<&'a Carried>, AllocError>
         ensures { IfOk result (λ found.
-            map (λ one. (one.now.command, view one.now.reply)) found.items
+            map (λ one. (deed_of one.now.deed, view one.now.reply)) found.items
             ≡ carried_out (map entry_of self.now.lines.items)) }
     {
         carried_out(alloc, &self.lines)

@@ -35,7 +35,7 @@ pub fn same_sum_same_journal()
     ensures { SameSumSameJournal }
 {}
 
-/// Level is there when a journal is new, and is kept by each line, and by each command that is
+/// Level is there when a journal is new, and is kept by each line, and by each deed that is
 /// carried out with its place.
 pub fn level_is_kept()
     ensures new { NewJournalsAreLevel }

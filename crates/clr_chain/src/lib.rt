@@ -30,7 +30,7 @@ pub use finding::{Ahead, Found, found_in};
 pub use first::{other_rules_in, print_first, read_first};
 pub use looking::{Looked, look};
 pub use opening::{OpenedChain, open_chain};
-pub use print::{Link, print_carried, print_withdrawn};
+pub use print::{Link, print_archived, print_carried, print_updated, print_withdrawn};
 pub use stepping::step;
 pub use sums::first_sum;
 pub use walk::{Step, Walk};

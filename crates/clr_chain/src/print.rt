@@ -1,14 +1,16 @@
 //! A line is written.
 ghost use Rattle.std.specs.Prelude.{◌≡◌, IfOk, string_bytes};
+ghost use Rattle.clr_deeds.specs.Deeds.{archive, command as asked, update};
 ghost use Rattle.clr_text.specs.Replies.{reply_data};
-ghost use Rattle.clr_journal.specs.Line.{carried, withdrawn};
+ghost use Rattle.clr_update.specs.Shown.{as_changes};
+ghost use Rattle.clr_journal.specs.Line.{carried, done, withdrawn};
 ghost use Rattle.clr_chain.specs.Link.{link_text};
 ghost use Rattle.clr_chain.specs.Sums.{sum_after};
 
 use crate::sums::sum_of;
-use crate::values::withdrawn_link;
-use clr_journal::Receipt;
-use clr_rules::{Command, Reply, Text};
+use crate::values::{archived_link, updated_link, withdrawn_link};
+use clr_journal::{Changes, Receipt};
+use clr_rules::{Command, Moment, Reply, Text};
 use serde_json::Value;
 use std::alloc::{AllocError, Global};
 
@@ -30,9 +32,9 @@ pub fn print_carried(
     reply: &Reply,
 ) -> Result<Link, AllocError>
     ensures text { IfOk result (λ link. string_bytes link.text
-        ≡ link_text (carried receipt.now command.now (reply_data reply.now)) link.sum) }
+        ≡ link_text (carried receipt.now (asked command.now) (reply_data reply.now)) link.sum) }
     ensures sum { IfOk result (λ link. link.sum
-        ≡ sum_after before.now (carried receipt.now command.now (reply_data reply.now))) }
+        ≡ sum_after before.now (carried receipt.now (asked command.now) (reply_data reply.now))) }
 {
     let mut text = clr_journal::print_carried(alloc, receipt, command, reply)?;
     let sum = sum_of(alloc, before.as_str().as_bytes(), text.as_bytes())?;
@@ -45,7 +47,47 @@ pub fn print_carried(
     Ok(Link { text, sum })
 }
 
-/// The line that withdraws the command of a number, after a sum.
+/// The line of an update with these changes, after a sum. A login of the receipt is not written.
+#[tactic(auto, unfolding(crate::specs::Sums::sum_after, crate::specs::Link::link_text))]
+pub fn print_updated(
+    alloc: Global,
+    before: &Text,
+    receipt: &Receipt,
+    changes: &Changes,
+) -> Result<Link, AllocError>
+    ensures text { IfOk result (λ link. string_bytes link.text
+        ≡ link_text (carried receipt.now (update (as_changes changes.now)) done) link.sum) }
+    ensures sum { IfOk result (λ link. link.sum
+        ≡ sum_after before.now (carried receipt.now (update (as_changes changes.now)) done)) }
+{
+    let line = clr_journal::print_updated(alloc, receipt, changes)?;
+    let sum = sum_of(alloc, before.as_str().as_bytes(), line.as_bytes())?;
+    let value = updated_link(alloc, receipt, changes, sum.as_str())?;
+    let text = value.to_string(alloc)?;
+    Ok(Link { text, sum })
+}
+
+/// The line of an archive, after a sum. A login of the receipt is not written.
+#[tactic(auto, unfolding(crate::specs::Sums::sum_after, crate::specs::Link::link_text))]
+pub fn print_archived(
+    alloc: Global,
+    before: &Text,
+    receipt: &Receipt,
+    moment: Moment,
+) -> Result<Link, AllocError>
+    ensures text { IfOk result (λ link. string_bytes link.text
+        ≡ link_text (carried receipt.now (archive moment) done) link.sum) }
+    ensures sum { IfOk result (λ link. link.sum
+        ≡ sum_after before.now (carried receipt.now (archive moment) done)) }
+{
+    let line = clr_journal::print_archived(alloc, receipt, moment)?;
+    let sum = sum_of(alloc, before.as_str().as_bytes(), line.as_bytes())?;
+    let value = archived_link(alloc, receipt, moment, sum.as_str())?;
+    let text = value.to_string(alloc)?;
+    Ok(Link { text, sum })
+}
+
+/// The line that withdraws the deed of a number, after a sum.
 #[tactic(auto, unfolding(crate::specs::Sums::sum_after, crate::specs::Link::link_text))]
 pub fn print_withdrawn(alloc: Global, before: &Text, number: u64) -> Result<Link, AllocError>
     ensures text { IfOk result (λ link. string_bytes link.text

@@ -3,18 +3,22 @@ ghost use Rattle.std.specs.Prelude.{◌≡◌, IfOk, bytes_eq, false};
 ghost use Rattle.serde_json.specs.View.{view};
 ghost use Rattle.serde_json.specs.Written.{has_float};
 ghost use Rattle.serde_json.specs.Data.{string};
+ghost use Rattle.clr_deeds.specs.Deeds.{archive, command as asked, deed_of, update};
 ghost use Rattle.clr_text.specs.Json.{optional_data};
-ghost use Rattle.clr_journal.specs.Line.{carried, entry_data, entry_of, line_text, withdrawn};
+ghost use Rattle.clr_update.specs.Shown.{as_changes};
+ghost use Rattle.clr_journal.specs.Line.{archive_data, carried, done, entry_data, entry_of};
+ghost use Rattle.clr_journal.specs.Line.{line_text, withdrawn};
 ghost use Rattle.clr_chain.specs.Link.{has_fraction, is_own, link_data, link_text};
 
 use crate::floats::has_float;
-use clr_journal::{Carried, Line, Receipt};
-use clr_rules::{Command, Text};
+use clr_delta::changes_value;
+use clr_journal::{Carried, Changes, Deed, Line, Receipt};
+use clr_rules::{Command, Moment, Text};
 use clr_text::command_value;
 use serde_json::{Value, json};
 use std::alloc::{AllocError, Global};
 
-/// The value of a line with its sum, whose reply is this value.
+/// The value of a command's line with its sum, whose reply is this value.
 fn carried_link(
     alloc: Global,
     receipt: &Receipt,
@@ -23,7 +27,7 @@ fn carried_link(
     sum: &str,
 ) -> Result<Value, AllocError>
     ensures { IfOk result (λ value. view value
-        ≡ link_data (carried receipt.now command.now (view reply)) sum.now) }
+        ≡ link_data (carried receipt.now (asked command.now) (view reply)) sum.now) }
 {
     let sum = Value::try_from_str(alloc, sum)?;
     let login = login_value(alloc, &receipt.login)?;
@@ -38,7 +42,54 @@ fn carried_link(
     })
 }
 
-/// The value of a line that withdraws the command of a number, with its sum.
+/// The value of an update's line with its sum.
+pub(crate) fn updated_link(
+    alloc: Global,
+    receipt: &Receipt,
+    changes: &Changes,
+    sum: &str,
+) -> Result<Value, AllocError>
+    ensures { IfOk result (λ value. view value
+        ≡ link_data (carried receipt.now (update (as_changes changes.now)) done) sum.now) }
+{
+    let sum = Value::try_from_str(alloc, sum)?;
+    let updated = changes_value(alloc, changes)?;
+    json!(in alloc; {
+        "number": receipt.number,
+        "received": receipt.received,
+        "sum": sum,
+        "updated": updated
+    })
+}
+
+/// The value of an archive's line with its sum.
+pub(crate) fn archived_link(
+    alloc: Global,
+    receipt: &Receipt,
+    before: Moment,
+    sum: &str,
+) -> Result<Value, AllocError>
+    ensures { IfOk result (λ value. view value
+        ≡ link_data (carried receipt.now (archive before) done) sum.now) }
+{
+    let sum = Value::try_from_str(alloc, sum)?;
+    let archived = before_value(alloc, before)?;
+    json!(in alloc; {
+        "archived": archived,
+        "number": receipt.number,
+        "received": receipt.received,
+        "sum": sum
+    })
+}
+
+/// What a line says of an archive.
+fn before_value(alloc: Global, before: Moment) -> Result<Value, AllocError>
+    ensures { IfOk result (λ value. view value ≡ archive_data before) }
+{
+    json!(in alloc; {"before": before.seconds()})
+}
+
+/// The value of a line that withdraws the deed of a number, with its sum.
 pub(crate) fn withdrawn_link(alloc: Global, number: u64, sum: &str) -> Result<Value, AllocError>
     ensures { IfOk result (λ value. view value ≡ link_data (withdrawn number) sum.now) }
 {
@@ -66,20 +117,65 @@ fn line_value(alloc: Global, line: &Line) -> Result<Value, AllocError>
     }
 }
 
-/// The value of a command and its reply, without a sum.
+/// The value of a deed and its reply, without a sum.
 fn carried_value(alloc: Global, line: &Carried) -> Result<Value, AllocError>
     ensures { IfOk result (λ value. view value
-        ≡ entry_data (carried line.now.receipt line.now.command (view line.now.reply))) }
+        ≡ entry_data (carried line.now.receipt (deed_of line.now.deed) (view line.now.reply))) }
 {
-    let reply = line.reply.clone()?;
-    let login = login_value(alloc, &line.receipt.login)?;
-    let command = command_value(alloc, &line.command)?;
+    match &line.deed {
+        Deed::Command(command) => {
+            let reply = line.reply.clone()?;
+            command_line(alloc, &line.receipt, command, reply)
+        }
+        Deed::Update(changes) => update_line(alloc, &line.receipt, changes),
+        Deed::Archive(before) => archive_line(alloc, &line.receipt, *before),
+    }
+}
+
+/// The value of a command's line without a sum, whose reply is this value.
+fn command_line(
+    alloc: Global,
+    receipt: &Receipt,
+    command: &Command,
+    reply: Value,
+) -> Result<Value, AllocError>
+    ensures { IfOk result (λ value. view value
+        ≡ entry_data (carried receipt.now (asked command.now) (view reply))) }
+{
+    let login = login_value(alloc, &receipt.login)?;
+    let command = command_value(alloc, command)?;
     json!(in alloc; {
         "command": command,
         "login": login,
-        "number": line.receipt.number,
-        "received": line.receipt.received,
+        "number": receipt.number,
+        "received": receipt.received,
         "reply": reply
+    })
+}
+
+/// The value of an update's line without a sum.
+fn update_line(alloc: Global, receipt: &Receipt, changes: &Changes) -> Result<Value, AllocError>
+    ensures { IfOk result (λ value. view value
+        ≡ entry_data (carried receipt.now (update (as_changes changes.now)) done)) }
+{
+    let updated = changes_value(alloc, changes)?;
+    json!(in alloc; {
+        "number": receipt.number,
+        "received": receipt.received,
+        "updated": updated
+    })
+}
+
+/// The value of an archive's line without a sum.
+fn archive_line(alloc: Global, receipt: &Receipt, before: Moment) -> Result<Value, AllocError>
+    ensures { IfOk result (λ value. view value
+        ≡ entry_data (carried receipt.now (archive before) done)) }
+{
+    let archived = before_value(alloc, before)?;
+    json!(in alloc; {
+        "archived": archived,
+        "number": receipt.number,
+        "received": receipt.received
     })
 }
 
@@ -88,11 +184,23 @@ fn link_value(alloc: Global, line: &Line, sum: &str) -> Result<Value, AllocError
     ensures { IfOk result (λ value. view value ≡ link_data (entry_of line.now) sum.now) }
 {
     match line {
-        Line::Carried(carried) => {
-            let reply = carried.reply.clone()?;
-            carried_link(alloc, &carried.receipt, &carried.command, reply, sum)
-        }
+        Line::Carried(carried) => deed_link(alloc, carried, sum),
         Line::Withdrawn(number) => withdrawn_link(alloc, *number, sum),
+    }
+}
+
+/// The value of a deed and its reply, with a sum.
+fn deed_link(alloc: Global, line: &Carried, sum: &str) -> Result<Value, AllocError>
+    ensures { IfOk result (λ value. view value ≡ link_data
+        (carried line.now.receipt (deed_of line.now.deed) (view line.now.reply)) sum.now) }
+{
+    match &line.deed {
+        Deed::Command(command) => {
+            let reply = line.reply.clone()?;
+            carried_link(alloc, &line.receipt, command, reply, sum)
+        }
+        Deed::Update(changes) => updated_link(alloc, &line.receipt, changes, sum),
+        Deed::Archive(before) => archived_link(alloc, &line.receipt, *before, sum),
     }
 }
 

@@ -2,9 +2,9 @@
 use Rattle.std.proofs.Common.{◌≡◌, ◌∙◌, false, List, ◌++◌, map, ap}
 use Rattle.std.proofs.lemmas.List.{map-append}
 use Rattle.serde_json.specs.Data.{Data}
+use Rattle.clr_deeds.specs.Deeds.{Deed}
 use Rattle.clr_rules.specs.Register.{Register}
-use Rattle.clr_rules.specs.declared.command.Command.{Command}
-use Rattle.clr_journal.specs.Journals.{carried_out, commands_of, withdraws}
+use Rattle.clr_journal.specs.Journals.{carried_out, deeds_of, withdraws}
 use Rattle.clr_journal.specs.Line.{Entry}
 use Rattle.clr_chain.proofs.LevelKept.{carried_out-append}
 use Rattle.clr_checking.specs.Checking.{AreAnswered, none, refused, gone, done}
@@ -21,6 +21,6 @@ answered_then more T kept (gone R S receipt q reply n rest is are) next =
 answered_then more T kept (done R S receipt q reply rest is stays own are) next =
     done R T receipt q reply (rest ++ more) is (same_withdraws rest more kept ∙ stays) own (answered_then more T kept are next)
 
-pub commands_then : (xs ys : List Entry) → withdraws ys ≡ false → commands_of (xs ++ ys) ≡ commands_of xs ++ commands_of ys
+pub commands_then : (xs ys : List Entry) → withdraws ys ≡ false → deeds_of (xs ++ ys) ≡ deeds_of xs ++ deeds_of ys
 commands_then xs ys kept =
-    ap (map (λ (pair : Command × Data). pair.0)) (carried_out-append xs ys kept) ∙ map-append (λ (pair : Command × Data). pair.0) (carried_out xs) (carried_out ys)
+    ap (map (λ (pair : Deed × Data). pair.0)) (carried_out-append xs ys kept) ∙ map-append (λ (pair : Deed × Data). pair.0) (carried_out xs) (carried_out ys)

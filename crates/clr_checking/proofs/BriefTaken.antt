@@ -1,5 +1,5 @@
 -- A refused command is refused without its lists and its text too, for the same, or for having none.
-use Rattle.std.proofs.Common.{◌≡◌, ◌⊎◌, ◌∙◌, ◌≤◌, ◌&&◌, ℕ, Bool, true, false, not, List, [], ◌∷◌, ◌++◌, Option, None, Some, refl, ap, ap₂, sym, inl, inr, bytes_eq, codes}
+use Rattle.std.proofs.Common.{◌≡◌, ◌⊎◌, ◌∙◌, ℕ, Bool, true, false, not, List, [], ◌∷◌, ◌++◌, Option, None, Some, refl, ap, sym, inl, inr, bytes_eq, codes}
 use Rattle.std.proofs.lemmas.Bool.{and_from}
 use Rattle.clr_order.specs.Texts.{step_text}
 use Rattle.clr_rules.proofs.edits.Refusing.{refused_by_first_check}
@@ -9,13 +9,11 @@ use Rattle.clr_rules.specs.Commands.{Known}
 use Rattle.clr_rules.specs.Prelude.{is_active, is_running, present_steps, step_at, task}
 use Rattle.clr_rules.specs.Records.{is_released, is_requested}
 use Rattle.clr_rules.specs.Register.{Register}
-use Rattle.clr_rules.specs.declared.clearance_id.ClearanceId.{ClearanceId as Id}
 use Rattle.clr_rules.specs.declared.command.Command.{Command}
 use Rattle.clr_rules.specs.declared.command.Kind.{Kind}
 use Rattle.clr_rules.specs.declared.command.Kind.TheVariants as kinds
 use Rattle.clr_rules.specs.declared.refusal.Refusal.{Refusal}
 use Rattle.clr_rules.specs.declared.refusal.Refusal.TheVariants as refusals
-use Rattle.clr_rules.specs.declared.reply.Reply.{Reply}
 use Rattle.clr_rules.specs.declared.reply.Reply.TheVariants.{Refused}
 use Rattle.clr_rules.specs.declared.step_row.StepRow.{StepRow}
 use Rattle.clr_rules.specs.laws.Edits.{refusal_of}

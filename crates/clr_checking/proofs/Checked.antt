@@ -3,7 +3,7 @@ use Rattle.std.proofs.Common.{◌≡◌, ◌≢◌, ◌⊎◌, ◌∙◌, ℕ, t
 use Rattle.std.proofs.lemmas.Bool.{true≢false}
 use Rattle.clr_rules.specs.Register.{Register}
 use Rattle.clr_place.specs.declared.place.Place.{Place}
-use Rattle.clr_journal.specs.Journals.{commands_of, in_turn, turn_after, withdraws}
+use Rattle.clr_journal.specs.Journals.{deeds_of, in_turn, turn_after, withdraws}
 use Rattle.clr_journal.specs.Line.{Entry, carried, withdrawn}
 use Rattle.clr_journal.specs.declared.line.Carried.{Carried}
 use Rattle.clr_journal.specs.declared.reading.Turn.{Turn}
@@ -439,7 +439,7 @@ all_checked began R first place texts old new closed met close it =
       level = is_level began R first place it.entries turns flat (over.ran.met met);
       left = new.desk.book.register;
       answered = subst (λ (es : List Entry). AreAnswered began es new.desk.book.register) done over.ran.answered;
-      count_is = over.ran.count_is ∙ ap (λ (es : List Entry). length (commands_of es)) done;
+      count_is = over.ran.count_is ∙ ap (λ (es : List Entry). length (deeds_of es)) done;
     }
 
 pub all_checked_from : (copied R : Register) (at first place : Place) (texts : List (List ℕ)) (old new : Checking) → new.last ≡ None → new.is_met ≡ true → old.from ≡ None
@@ -467,7 +467,7 @@ all_checked_from copied R at first place texts old new closed met begun close it
           level = is_level copied R at place it.entries turns flat (over.ran.met met);
           left = new.desk.book.register;
           answered = subst (λ (es : List Entry). AreAnswered copied es new.desk.book.register) done over.ran.answered;
-          count_is = over.ran.count_is ∙ ap (λ (es : List Entry). length (commands_of es)) done;
+          count_is = over.ran.count_is ∙ ap (λ (es : List Entry). length (deeds_of es)) done;
         }
 
     by : ComesFrom copied at first place R old it.before it.entries → IsCheckedFrom copied at first texts place R new.count

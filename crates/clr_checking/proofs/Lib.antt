@@ -1,3 +1,4 @@
+pub mod Outcomes
 pub mod Results
 pub mod Places
 pub mod Answering
@@ -10,3 +11,4 @@ pub mod Flat
 pub mod Runs
 pub mod Checked
 pub mod BriefTaken
+pub mod Due

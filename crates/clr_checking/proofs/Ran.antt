@@ -4,14 +4,13 @@ use Rattle.std.proofs.lemmas.Bool.{true≢false}
 use Rattle.std.proofs.lemmas.Bool.Decides.{eqb_tells}
 use Rattle.serde_json.specs.Data.{Data}
 use Rattle.serde_json.specs.View.{view}
-use Rattle.clr_rules.specs.Answer.{Answer, answer}
+use Rattle.clr_deeds.specs.Deeds.{Deed, after_deed, deed_of}
+use Rattle.clr_journal.specs.Answered.{deed_reply}
 use Rattle.clr_rules.specs.Register.{Register}
-use Rattle.clr_rules.specs.Run.{after}
-use Rattle.clr_rules.specs.declared.command.Command.{Command}
 use Rattle.clr_place.specs.declared.place.Place.{Place}
 use Rattle.clr_tables.specs.Tables.{tables_of}
 use Rattle.clr_journal.proofs.JournalsRead.{commands_grow, withdrawn_is_left_out}
-use Rattle.clr_journal.specs.Journals.{carried_out, commands_of, turn_after, withdraws}
+use Rattle.clr_journal.specs.Journals.{carried_out, deeds_of, turn_after, withdraws}
 use Rattle.clr_journal.specs.Laws.{turn_behind}
 use Rattle.clr_journal.specs.Line.{Entry, carried, withdrawn, is_accepted}
 use Rattle.clr_journal.specs.declared.line.Carried.{Carried}
@@ -20,8 +19,8 @@ use Rattle.clr_journal.specs.declared.reading.Turn.{Turn}
 use Rattle.clr_chain.specs.First.{first_turn_at}
 use Rattle.clr_chain.specs.Level.{place_after}
 use Rattle.clr_chain.specs.Sums.{sum_behind}
+use Rattle.clr_checking.specs.Brief.{IsDeedTaken}
 use Rattle.clr_checking.specs.Checking.{AreAnswered, HasOtherSum, Meets, NoneHas, none, refused, gone, done}
-use Rattle.clr_checking.specs.Brief.{IsTaken}
 use Rattle.clr_checking.specs.CheckingOn.{IsAfter, IsMet, IsMissed, IsOpenAt, Ran}
 use Rattle.clr_verify.specs.Replay.{open_entries}
 use Rattle.clr_verify.specs.Replies.{IsReply}
@@ -97,27 +96,27 @@ missed_here first entries place number it = record {
 
 -- ---- how many commands were carried out
 
-many : (pairs : List (Command × Data)) → length (map (λ (pair : Command × Data). pair.0) pairs) ≡ length pairs
+many : (pairs : List (Deed × Data)) → length (map (λ (pair : Deed × Data). pair.0) pairs) ≡ length pairs
 many [] = refl
 many (pair ∷ pairs) = ap suc (many pairs)
 
-counted : (lines : List Entry) (receipt : Receipt) (q : Command) (reply : Data) → is_accepted reply ≡ true
-    → length (commands_of (lines ++ carried receipt q reply ∷ [])) ≡ length (commands_of lines) + 1
+counted : (lines : List Entry) (receipt : Receipt) (q : Deed) (reply : Data) → is_accepted reply ≡ true
+    → length (deeds_of (lines ++ carried receipt q reply ∷ [])) ≡ length (deeds_of lines) + 1
 counted lines receipt q reply accepted =
     let out : carried_out (lines ++ carried receipt q reply ∷ []) ≡ carried_out lines ++ (q, reply) ∷ [] =
     commands_grow lines receipt q reply ∙ ap (λ (b : Bool). carried_out lines ++ cond b ((q, reply) ∷ []) []) accepted in
     many (carried_out (lines ++ carried receipt q reply ∷ [])) ∙ ap length out ∙ length-append (carried_out lines) ((q, reply) ∷ [])
     ∙ ap (λ n. n + 1) (sym (many (carried_out lines)))
 
-not_counted : (lines : List Entry) (receipt : Receipt) (q : Command) (reply : Data) → is_accepted reply ≡ false
-    → commands_of (lines ++ carried receipt q reply ∷ []) ≡ commands_of lines
+not_counted : (lines : List Entry) (receipt : Receipt) (q : Deed) (reply : Data) → is_accepted reply ≡ false
+    → deeds_of (lines ++ carried receipt q reply ∷ []) ≡ deeds_of lines
 not_counted lines receipt q reply not =
-    ap (map (λ (pair : Command × Data). pair.0))
+    ap (map (λ (pair : Deed × Data). pair.0))
     (commands_grow lines receipt q reply ∙ ap (λ (b : Bool). carried_out lines ++ cond b ((q, reply) ∷ []) []) not ∙ append-nil (carried_out lines))
 
-gone_not_counted : (lines : List Entry) (receipt : Receipt) (q : Command) (reply : Data) (n : ℕ)
-    → commands_of (lines ++ carried receipt q reply ∷ withdrawn n ∷ []) ≡ commands_of lines
-gone_not_counted lines receipt q reply n = ap (map (λ (pair : Command × Data). pair.0)) (withdrawn_is_left_out lines receipt q reply n)
+gone_not_counted : (lines : List Entry) (receipt : Receipt) (q : Deed) (reply : Data) (n : ℕ)
+    → deeds_of (lines ++ carried receipt q reply ∷ withdrawn n ∷ []) ≡ deeds_of lines
+gone_not_counted lines receipt q reply n = ap (map (λ (pair : Deed × Data). pair.0)) (withdrawn_is_left_out lines receipt q reply n)
 
 -- ---- a line more
 
@@ -140,35 +139,35 @@ missed_after first place entries entry sum is number other = record {
 
 -- the open command is carried out
 pub closed_answers : (began S T R : Register) (first place : Place) (one : Carried) (count : ℕ) (met : Bool) (entries : List Entry)
-    → is_accepted (view one.reply) ≡ true → IsReply (view one.reply) (Answer.reply (answer S one.command)) → T ≡ after S one.command
-    → (ran : Ran began first place R (Some one) None S count met entries) → AreAnswered began (ran.done ++ carried one.receipt one.command (view one.reply) ∷ []) T
+    → is_accepted (view one.reply) ≡ true → IsReply (view one.reply) (deed_reply S (deed_of one.deed)) → T ≡ after_deed S (deed_of one.deed)
+    → (ran : Ran began first place R (Some one) None S count met entries) → AreAnswered began (ran.done ++ carried one.receipt (deed_of one.deed) (view one.reply) ∷ []) T
 closed_answers began S T R first place one count met entries accepted own after_is ran =
-    let entry : Entry = carried one.receipt one.command (view one.reply) in
+    let entry : Entry = carried one.receipt (deed_of one.deed) (view one.reply) in
     let line : AreAnswered S (entry ∷ []) T =
     subst (λ (X : Register). AreAnswered S (entry ∷ []) X) (sym after_is)
-    (done S (after S one.command) one.receipt one.command (view one.reply) [] accepted refl own (none (after S one.command))) in
+    (done S (after_deed S (deed_of one.deed)) one.receipt (deed_of one.deed) (view one.reply) [] accepted refl own (none (after_deed S (deed_of one.deed)))) in
     answered_then (entry ∷ []) T refl ran.answered line
 
 -- so the register's place is met, if it is there
 pub closed_meets : (began S T R : Register) (first place : Place) (one : Carried) (count : ℕ) (met : Bool) (entries : List Entry) (Is : Register → Type 0)
-    → is_accepted (view one.reply) ≡ true → IsReply (view one.reply) (Answer.reply (answer S one.command)) → T ≡ after S one.command
+    → is_accepted (view one.reply) ≡ true → IsReply (view one.reply) (deed_reply S (deed_of one.deed)) → T ≡ after_deed S (deed_of one.deed)
     → Ran began first place R (Some one) None S count met entries → one.receipt.number ≡ place.number → Is T → Meets began first entries place Is
 closed_meets began S T R first place one count met entries Is accepted own after_is ran here is =
     met_here began T first place entries Is (ran.open_at here)
     (subst (λ (es : List Entry). AreAnswered began es T) (sym ran.entries_are) (closed_answers began S T R first place one count met entries accepted own after_is ran)) is
 
 pub closes : (began S T R : Register) (first place : Place) (one : Carried) (count next : ℕ) (met met' : Bool) (entries : List Entry)
-    → is_accepted (view one.reply) ≡ true → IsReply (view one.reply) (Answer.reply (answer S one.command)) → T ≡ after S one.command → next ≡ count + 1
+    → is_accepted (view one.reply) ≡ true → IsReply (view one.reply) (deed_reply S (deed_of one.deed)) → T ≡ after_deed S (deed_of one.deed) → next ≡ count + 1
     → (met' ≡ true → met ≡ false → (one.receipt.number ≡ place.number) × (tables_of R ≡ tables_of T))
     → (met ≡ true → met' ≡ true) → (met' ≡ false → one.receipt.number ≢ place.number)
     → Ran began first place R (Some one) None S count met entries → Ran began first place R None None T next met' entries
 closes began S T R first place one count next met met' entries accepted own after_is next_is now stays other ran =
-    let entry : Entry = carried one.receipt one.command (view one.reply) in
+    let entry : Entry = carried one.receipt (deed_of one.deed) (view one.reply) in
     record {
       done = ran.done ++ entry ∷ [];
       entries_are = ran.entries_are ∙ sym (append-nil (ran.done ++ entry ∷ []));
       answered = closed_answers began S T R first place one count met entries accepted own after_is ran;
-      count_is = next_is ∙ ap (λ (n : ℕ). n + 1) ran.count_is ∙ sym (counted ran.done one.receipt one.command (view one.reply) accepted);
+      count_is = next_is ∙ ap (λ (n : ℕ). n + 1) ran.count_is ∙ sym (counted ran.done one.receipt (deed_of one.deed) (view one.reply) accepted);
       open_at = tt;
       met = met_by (IsMet began first entries place R) met met' ran.met (λ sure before_it.
           closed_meets began S T R first place one count met entries (Same R) accepted own after_is ran (now sure before_it).0 (now sure before_it).1);
@@ -178,17 +177,17 @@ closes began S T R first place one count next met met' entries accepted own afte
 -- the open command is withdrawn
 pub withdrawn_answers : (began S R : Register) (first place : Place) (one : Carried) (missed : Option ℕ) (count n : ℕ) (met : Bool) (entries : List Entry) → is_accepted (view one.reply) ≡ true
     → (ran : Ran began first place R (Some one) missed S count met entries)
-    → AreAnswered began (ran.done ++ carried one.receipt one.command (view one.reply) ∷ withdrawn n ∷ []) S
+    → AreAnswered began (ran.done ++ carried one.receipt (deed_of one.deed) (view one.reply) ∷ withdrawn n ∷ []) S
 withdrawn_answers began S R first place one missed count n met entries accepted ran =
-    answered_then (carried one.receipt one.command (view one.reply) ∷ withdrawn n ∷ []) S refl ran.answered
-    (gone S S one.receipt one.command (view one.reply) n [] accepted (none S))
+    answered_then (carried one.receipt (deed_of one.deed) (view one.reply) ∷ withdrawn n ∷ []) S refl ran.answered
+    (gone S S one.receipt (deed_of one.deed) (view one.reply) n [] accepted (none S))
 
 withdrawn_lines : (began S R : Register) (first place : Place) (one : Carried) (missed : Option ℕ) (count n : ℕ) (met : Bool) (entries : List Entry)
     → (ran : Ran began first place R (Some one) missed S count met entries)
-    → entries ++ withdrawn n ∷ [] ≡ ran.done ++ carried one.receipt one.command (view one.reply) ∷ withdrawn n ∷ []
+    → entries ++ withdrawn n ∷ [] ≡ ran.done ++ carried one.receipt (deed_of one.deed) (view one.reply) ∷ withdrawn n ∷ []
 withdrawn_lines began S R first place one missed count n met entries ran =
     ap (λ (es : List Entry). es ++ withdrawn n ∷ []) ran.entries_are
-    ∙ append_assoc ran.done (carried one.receipt one.command (view one.reply) ∷ []) (withdrawn n ∷ [])
+    ∙ append_assoc ran.done (carried one.receipt (deed_of one.deed) (view one.reply) ∷ []) (withdrawn n ∷ [])
 
 -- so the register's place is met, if it is there
 pub withdrawn_meets : (began S R : Register) (first place : Place) (one : Carried) (missed : Option ℕ) (count n : ℕ) (met : Bool) (entries : List Entry) (Is : Register → Type 0)
@@ -205,7 +204,7 @@ pub withdraws_one : (began S R : Register) (first place : Place) (one : Carried)
     → (met ≡ true → met' ≡ true) → (met' ≡ false → n ≢ place.number)
     → Ran began first place R (Some one) missed S count met entries → Ran began first place R None None S count met' (entries ++ withdrawn n ∷ [])
 withdraws_one began S R first place one missed count n met met' entries accepted last here same now stays other ran =
-    let entry : Entry = carried one.receipt one.command (view one.reply) in
+    let entry : Entry = carried one.receipt (deed_of one.deed) (view one.reply) in
     let lines : List Entry = entry ∷ withdrawn n ∷ [] in
     let number : n ≡ one.receipt.number =
     last ∙ ap (λ (es : List Entry). (place_after first es).number) ran.entries_are ∙ ap (λ (t : Turn). t.last) (turn_more (first_turn_at first) ran.done entry) in
@@ -213,7 +212,7 @@ withdraws_one began S R first place one missed count n met met' entries accepted
       done = ran.done ++ lines;
       entries_are = withdrawn_lines began S R first place one missed count n met entries ran ∙ sym (append-nil (ran.done ++ lines));
       answered = withdrawn_answers began S R first place one missed count n met entries accepted ran;
-      count_is = ran.count_is ∙ ap length (sym (gone_not_counted ran.done one.receipt one.command (view one.reply) n));
+      count_is = ran.count_is ∙ ap length (sym (gone_not_counted ran.done one.receipt (deed_of one.deed) (view one.reply) n));
       open_at = tt;
       met = λ sure. by sure (eqb_tells n place.number);
       unmet = λ unmet.
@@ -232,11 +231,11 @@ withdraws_one began S R first place one missed count n met met' entries accepted
 
 -- a command that was accepted is the open one
 pub takes_accepted : (began S R : Register) (first place : Place) (one : Carried) (missed : Option ℕ) (count : ℕ) (met : Bool) (entries : List Entry)
-    → IsOpenAt first place (entries ++ carried one.receipt one.command (view one.reply) ∷ []) (Some one) missed
+    → IsOpenAt first place (entries ++ carried one.receipt (deed_of one.deed) (view one.reply) ∷ []) (Some one) missed
     → Ran began first place R None None S count met entries
-    → Ran began first place R (Some one) missed S count met (entries ++ carried one.receipt one.command (view one.reply) ∷ [])
+    → Ran began first place R (Some one) missed S count met (entries ++ carried one.receipt (deed_of one.deed) (view one.reply) ∷ [])
 takes_accepted began S R first place one missed count met entries here ran =
-    let entry : Entry = carried one.receipt one.command (view one.reply) in
+    let entry : Entry = carried one.receipt (deed_of one.deed) (view one.reply) in
     record {
       done = ran.done;
       entries_are = ap (λ (es : List Entry). es ++ entry ∷ []) (ran.entries_are ∙ append-nil ran.done);
@@ -248,16 +247,16 @@ takes_accepted began S R first place one missed count met entries here ran =
     }
 
 -- one that was refused is passed over
-pub refused_answers : (began S R : Register) (first place : Place) (receipt : Receipt) (q : Command) (reply : Data) (count : ℕ) (met : Bool) (entries : List Entry)
-    → is_accepted reply ≡ false → IsTaken q reply (Answer.reply (answer S q))
+pub refused_answers : (began S R : Register) (first place : Place) (receipt : Receipt) (q : Deed) (reply : Data) (count : ℕ) (met : Bool) (entries : List Entry)
+    → is_accepted reply ≡ false → IsDeedTaken S q reply
     → Ran began first place R None None S count met entries → AreAnswered began (entries ++ carried receipt q reply ∷ []) S
 refused_answers began S R first place receipt q reply count met entries not own ran =
     let entry : Entry = carried receipt q reply in
     subst (λ (es : List Entry). AreAnswered began (es ++ entry ∷ []) S) (sym (ran.entries_are ∙ append-nil ran.done))
     (answered_then (entry ∷ []) S refl ran.answered (refused S S receipt q reply [] not own (none S)))
 
-pub takes_refused : (began S R : Register) (first place : Place) (receipt : Receipt) (q : Command) (reply : Data) (count : ℕ) (met met' : Bool) (entries : List Entry)
-    → is_accepted reply ≡ false → IsTaken q reply (Answer.reply (answer S q))
+pub takes_refused : (began S R : Register) (first place : Place) (receipt : Receipt) (q : Deed) (reply : Data) (count : ℕ) (met met' : Bool) (entries : List Entry)
+    → is_accepted reply ≡ false → IsDeedTaken S q reply
     → (receipt.number ≡ place.number → place ≡ place_after first (entries ++ carried receipt q reply ∷ []))
     → (met' ≡ true → met ≡ false → (receipt.number ≡ place.number) × (tables_of R ≡ tables_of S))
     → (met ≡ true → met' ≡ true) → (met' ≡ false → receipt.number ≢ place.number)

@@ -2,9 +2,9 @@
 use Rattle.std.proofs.Common.{◌≡◌, ◌≢◌, ◌⊎◌, ◌∙◌, ◌+◌, arith, ℕ, Bool, true, false, List, [], ◌∷◌, ◌++◌, Option, None, Some, IfSome, IsSome, refl, ap, sym, subst, inl, inr, append_assoc, append-nil}
 use Rattle.std.proofs.lemmas.Bool.{true≢false}
 use Rattle.serde_json.specs.View.{view}
-use Rattle.clr_rules.specs.Answer.{Answer, answer}
+use Rattle.clr_deeds.specs.Deeds.{after_deed, deed_of}
+use Rattle.clr_journal.specs.Answered.{deed_reply}
 use Rattle.clr_rules.specs.Register.{Register}
-use Rattle.clr_rules.specs.Run.{after}
 use Rattle.clr_place.specs.declared.place.Place.{Place}
 use Rattle.clr_journal.specs.Journals.{turn_after, withdraws}
 use Rattle.clr_journal.specs.Laws.{turn_behind}
@@ -13,8 +13,8 @@ use Rattle.clr_journal.specs.declared.line.Carried.{Carried}
 use Rattle.clr_journal.specs.declared.reading.Turn.{Turn}
 use Rattle.clr_chain.specs.First.{first_turn_at}
 use Rattle.clr_chain.specs.Level.{place_after}
+use Rattle.clr_checking.specs.Brief.{IsDeedTaken, is_brief_deed}
 use Rattle.clr_checking.specs.Checking.{AreAnswered, HasOtherSum, Meets, RefusesFrom, RefusesRun}
-use Rattle.clr_checking.specs.Brief.{IsTaken, is_brief}
 use Rattle.clr_checking.specs.CheckingOn.{AnswersElse, ComparesElse, IsAfter, IsAt, IsMissed, IsOf, IsOfOpen, Ran, RanOver, RunsOn, Settles, Waits}
 use Rattle.clr_checking.specs.declared.checking.Checking.{Checking}
 use Rattle.clr_checking.specs.declared.fault.CheckFault.{CheckFault}
@@ -37,14 +37,14 @@ module _ (began R : Register) (first place : Place) (entries : List Entry) (entr
   refuses_more (Reply n) is = record {
     had = is.had;
     receipt = is.receipt;
-    q = is.q;
+    deed = is.deed;
     reply = is.reply;
     more = is.more ++ entry ∷ [];
-    all = ap (λ (es : List Entry). es ++ entry ∷ []) is.all ∙ append_assoc is.had (carried is.receipt is.q is.reply ∷ is.more) (entry ∷ []);
+    all = ap (λ (es : List Entry). es ++ entry ∷ []) is.all ∙ append_assoc is.had (carried is.receipt is.deed is.reply ∷ is.more) (entry ∷ []);
     number_is = is.number_is;
     kept = kept_more is.more entry is.kept (λ none. stays);
-    whole = is.whole;
     register = is.register;
+    whole = is.whole;
     answered = is.answered;
     other = is.other;
   }
@@ -76,14 +76,14 @@ open_replies began S R first place one missed count met entries (BadLine n) acce
 open_replies began S R first place one missed count met entries (Reply n) accepted else ran = record {
   had = ran.done;
   receipt = one.receipt;
-  q = one.command;
+  deed = deed_of one.deed;
   reply = view one.reply;
   more = [];
   all = ran.entries_are;
   number_is = else.0;
   kept = refl;
-  whole = λ not. absurd (true≢false (sym accepted ∙ not));
   register = S;
+  whole = λ not. absurd (true≢false (sym accepted ∙ not));
   answered = ran.answered;
   other = else.1;
 }
@@ -100,21 +100,21 @@ carried_else began R first place old one entries fault some accepted else over =
 
 -- that of a command that was refused
 refused_replies : (began S R : Register) (first place : Place) (one : Carried) (count : ℕ) (met : Bool) (entries : List Entry) (fault : CheckFault)
-    → (fault ≡ Reply one.receipt.number → is_brief one.command (view one.reply) (Answer.reply (answer S one.command)) ≡ false) → AnswersElse S one fault → Ran began first place R None None S count met entries
+    → (fault ≡ Reply one.receipt.number → is_brief_deed S (deed_of one.deed) (view one.reply) ≡ false) → AnswersElse S one fault → Ran began first place R None None S count met entries
     → RefusesRun began first (entries ++ line_of one ∷ []) place R fault
 refused_replies began S R first place one count met entries OtherRegister whole else ran = absurd else
 refused_replies began S R first place one count met entries (BadLine n) whole else ran = absurd else
 refused_replies began S R first place one count met entries (Reply n) whole else ran = record {
   had = entries;
   receipt = one.receipt;
-  q = one.command;
+  deed = deed_of one.deed;
   reply = view one.reply;
   more = [];
   all = refl;
   number_is = else.0;
   kept = refl;
-  whole = λ not. whole (ap Reply else.0);
   register = S;
+  whole = λ not. whole (ap Reply else.0);
   answered = subst (λ (es : List Entry). AreAnswered began es S) (sym (ran.entries_are ∙ append-nil ran.done)) ran.answered;
   other = else.1;
 }
@@ -124,8 +124,7 @@ refused_replies began S R first place one count met entries TooShort whole else 
 refused_replies began S R first place one count met entries NoMemory whole else ran = tt
 
 pub refused_else : (began R : Register) (first place : Place) (old : Checking) (one : Carried) (entries : List Entry) (fault : CheckFault) → old.last ≡ None → old.missed ≡ None
-    → (fault ≡ Reply one.receipt.number → is_brief one.command (view one.reply) (Answer.reply (answer old.desk.book.register one.command)) ≡ false) → AnswersElse old.desk.book.register one fault
-    → RanOver began first place R old entries
+    → (fault ≡ Reply one.receipt.number → is_brief_deed old.desk.book.register (deed_of one.deed) (view one.reply) ≡ false) → AnswersElse old.desk.book.register one fault → RanOver began first place R old entries
     → RefusesRun began first (entries ++ line_of one ∷ []) place R fault
 refused_else began R first place old one entries fault closed settled whole else over =
     refused_replies began old.desk.book.register R first place one old.count old.is_met entries fault whole else
@@ -153,8 +152,8 @@ compares_else began R first place entries it number NoMemory of else meets = tt
 
 -- once the open command was carried out
 pub closed_else : (began R : Register) (first place : Place) (old mid : Checking) (left_open : Option Carried) (one : Carried) (entries : List Entry) (fault : CheckFault)
-    → old.last ≡ Some one → old.missed ≡ None → IsAccepted one → IsReply (view one.reply) (Answer.reply (answer old.desk.book.register one.command))
-    → mid.desk.book.register ≡ after old.desk.book.register one.command → mid ≡ record old { last = left_open; desk = mid.desk; count = mid.count }
+    → old.last ≡ Some one → old.missed ≡ None → IsAccepted one → IsReply (view one.reply) (deed_reply old.desk.book.register (deed_of one.deed))
+    → mid.desk.book.register ≡ after_deed old.desk.book.register (deed_of one.deed) → mid ≡ record old { last = left_open; desk = mid.desk; count = mid.count }
     → ComparesElse mid one.receipt.number fault → RanOver began first place R old entries → RefusesRun began first entries place R fault
 closed_else began R first place old mid left_open one entries fault some settled accepted own after_is mids else over =
     compares_else began R first place entries mid one.receipt.number fault (of_mid place R old mid left_open mids over.of) else (λ here found is.
@@ -163,7 +162,7 @@ closed_else began R first place old mid left_open one entries fault some settled
 
 -- at the line of a command that was refused
 pub refused_tables : (began R : Register) (first place : Place) (old : Checking) (one : Carried) (entries : List Entry) (fault : CheckFault) → old.last ≡ None → old.missed ≡ None
-    → is_accepted (view one.reply) ≡ false → IsTaken one.command (view one.reply) (Answer.reply (answer old.desk.book.register one.command))
+    → is_accepted (view one.reply) ≡ false → IsDeedTaken old.desk.book.register (deed_of one.deed) (view one.reply)
     → (one.receipt.number ≡ old.place.number → old.place.sum ≡ old.walk.end.sum) → ComparesElse old one.receipt.number fault
     → IsAfter first place old.walk.end.sum (line_of one) entries → RanOver began first place R old entries
     → RefusesRun began first (entries ++ line_of one ∷ []) place R fault
@@ -171,7 +170,7 @@ refused_tables began R first place old one entries fault closed settled not own 
     compares_else began R first place (entries ++ line_of one ∷ []) old one.receipt.number fault over.of else (λ here found given.
     met_here began old.desk.book.register first place (entries ++ line_of one ∷ []) (λ S. IsFirstDifference R S (Some found))
     (place_here first place entries (line_of one) old.walk.end.sum is (expected_of place R old one.receipt.number over.of expected) here)
-    (refused_answers began old.desk.book.register R first place one.receipt one.command (view one.reply) old.count old.is_met entries not own
+    (refused_answers began old.desk.book.register R first place one.receipt (deed_of one.deed) (view one.reply) old.count old.is_met entries not own
     (ran_as began old.desk.book.register R first place old.last None old.missed None old.count old.is_met entries closed settled over.ran)) given)
 
 -- at the line that withdraws the open command

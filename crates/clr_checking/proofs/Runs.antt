@@ -2,11 +2,9 @@
 use Rattle.std.proofs.Common.{◌≡◌, ◌==◌, ◌&&◌, ◌+◌, ℕ, Bool, true, false, not, cond, List, [], ◌∷◌, ◌++◌, None, Some, refl, ap, ap₂, sym, subst}
 use Rattle.std.proofs.lemmas.Bool.{and_from, and_parts, true≢false}
 use Rattle.serde_json.specs.Data.{Data}
-use Rattle.clr_rules.specs.Answer.{Answer, answer}
+use Rattle.clr_deeds.specs.Deeds.{Deed, after_deed, after_deeds}
+use Rattle.clr_journal.specs.Answered.{deed_replies, deed_reply}
 use Rattle.clr_rules.specs.Register.{Register}
-use Rattle.clr_rules.specs.Run.{after, after_all, replies}
-use Rattle.clr_rules.specs.declared.command.Command.{Command}
-use Rattle.clr_text.specs.Replies.{reply_data}
 use Rattle.clr_journal.specs.Journals.{carried_out, in_turn, is_next, onto_some, own_pair, turn_after, withdraws}
 use Rattle.clr_journal.specs.Laws.{turn_behind}
 use Rattle.clr_journal.specs.Line.{Entry, carried, withdrawn}
@@ -19,16 +17,16 @@ use Rattle.clr_checking.specs.CheckingOn.{IsMet}
 use Rattle.clr_checking.proofs.Flat.{Each, IsFlat}
 
 run_of_none : (R : Register) → IsRunOf R (carried_out []) R
-unfolding carried_out after_all replies
+unfolding carried_out after_deeds deed_replies
 run_of_none R = record { register = refl; replied = refl }
 
 passed_over : (R S : Register) (entry : Entry) (rest : List Entry) → own_pair entry rest ≡ None → IsRunOf R (carried_out rest) S → IsRunOf R (carried_out (entry ∷ rest)) S
 unfolding carried_out
 passed_over R S entry rest own run = subst (λ o. IsRunOf R (onto_some o (carried_out rest)) S) (sym own) run
 
-one_first : (R S : Register) (q : Command) (reply : Data) (entry : Entry) (rest : List Entry) → own_pair entry rest ≡ Some (q, reply) → reply ≡ reply_data (Answer.reply (answer R q))
-    → IsRunOf (after R q) (carried_out rest) S → IsRunOf R (carried_out (entry ∷ rest)) S
-unfolding carried_out after_all replies
+one_first : (R S : Register) (q : Deed) (reply : Data) (entry : Entry) (rest : List Entry) → own_pair entry rest ≡ Some (q, reply) → reply ≡ deed_reply R q
+    → IsRunOf (after_deed R q) (carried_out rest) S → IsRunOf R (carried_out (entry ∷ rest)) S
+unfolding carried_out after_deeds deed_replies
 one_first R S q reply entry rest own is run =
     subst (λ o. IsRunOf R (onto_some o (carried_out rest)) S) (sym own) (record { register = run.register; replied = ap₂ (λ (d : Data) (ds : List Data). d ∷ ds) is run.replied })
 

@@ -2,14 +2,14 @@
 use Rattle.std.proofs.Common.{◌≡◌, ◌≢◌, ◌⊎◌, ◌∙◌, ◌+◌, ℕ, Bool, true, false, List, [], ◌∷◌, ◌++◌, Option, None, Some, IfSome, IsSome, refl, ap, sym, subst, inl, inr}
 use Rattle.std.proofs.lemmas.Bool.{true≢false}
 use Rattle.serde_json.specs.View.{view}
-use Rattle.clr_rules.specs.Answer.{Answer, answer}
+use Rattle.clr_deeds.specs.Deeds.{after_deed, deed_of}
+use Rattle.clr_journal.specs.Answered.{deed_reply}
 use Rattle.clr_rules.specs.Register.{Register}
-use Rattle.clr_rules.specs.Run.{after}
 use Rattle.clr_place.specs.declared.place.Place.{Place}
 use Rattle.clr_tables.specs.Tables.{tables_of}
 use Rattle.clr_journal.specs.Line.{Entry, carried, withdrawn, is_accepted}
 use Rattle.clr_journal.specs.declared.line.Carried.{Carried}
-use Rattle.clr_checking.specs.Brief.{IsTaken}
+use Rattle.clr_checking.specs.Brief.{IsDeedTaken}
 use Rattle.clr_checking.specs.CheckingOn.{IsAfter, IsMissed, IsOf, IsOpenAt, Ran, RanOver, RunsOn}
 use Rattle.clr_chain.specs.First.{first_turn_at}
 use Rattle.clr_checking.proofs.Places.{open_more}
@@ -19,7 +19,7 @@ use Rattle.clr_checking.specs.declared.checking.Checking.{Checking}
 use Rattle.clr_checking.proofs.Ran.{closes, missed_after, none_open, not_before, place_here, ran_as, takes_accepted, takes_refused, withdraws_one}
 
 abbrev pub line_of : Carried → Entry
-line_of one = carried one.receipt one.command (view one.reply)
+line_of one = carried one.receipt (deed_of one.deed) (view one.reply)
 
 -- the tables are the same, at the number of the register's place
 abbrev pub MetAt : ℕ → Checking → Bool → Type 0
@@ -79,14 +79,14 @@ accepted_on began R first place old new one entries closed settled some same fou
 
 pub refused_on : (began R : Register) (first place : Place) (old new : Checking) (one : Carried) (entries : List Entry) → old.last ≡ None → old.missed ≡ None
     → is_accepted (view one.reply) ≡ false
-    → IsTaken one.command (view one.reply) (Answer.reply (answer old.desk.book.register one.command))
+    → IsDeedTaken old.desk.book.register (deed_of one.deed) (view one.reply)
     → (one.receipt.number ≡ old.place.number → old.place.sum ≡ old.walk.end.sum) → old.from ≡ None → MetAt one.receipt.number old new.is_met
     → UnmetAt one.receipt.number old new.is_met → (old.is_met ≡ true → new.is_met ≡ true) → new ≡ record old { is_met = new.is_met }
     → IsAfter first place old.walk.end.sum (line_of one) entries → RanOver began first place R old entries
     → RanOver began first place R new (entries ++ line_of one ∷ [])
 refused_on began R first place old new one entries closed settled not own expected begun now unmet stays same is over =
     let ran : Ran began first place R None None old.desk.book.register old.count new.is_met (entries ++ line_of one ∷ []) =
-    takes_refused began old.desk.book.register R first place one.receipt one.command (view one.reply) old.count old.is_met new.is_met entries not own
+    takes_refused began old.desk.book.register R first place one.receipt (deed_of one.deed) (view one.reply) old.count old.is_met new.is_met entries not own
     (place_here first place entries (line_of one) old.walk.end.sum is (expected_of place R old one.receipt.number over.of expected))
     (met_of place R old one.receipt.number new.is_met over.of now) stays (unmet_of place R old one.receipt.number new.is_met over.of begun unmet)
     (ran_as began old.desk.book.register R first place old.last None old.missed None old.count old.is_met entries closed settled over.ran) in
@@ -105,7 +105,7 @@ of_mid place R old mid left_open mids of = record {
 }
 
 pub closed_on : (began R : Register) (first place : Place) (old mid new : Checking) (left_open : Option Carried) (one : Carried) (entries : List Entry) → left_open ≡ None → old.last ≡ Some one → old.missed ≡ None → IfSome old.last IsAccepted
-    → IsReply (view one.reply) (Answer.reply (answer old.desk.book.register one.command)) → mid.desk.book.register ≡ after old.desk.book.register one.command
+    → IsReply (view one.reply) (deed_reply old.desk.book.register (deed_of one.deed)) → mid.desk.book.register ≡ after_deed old.desk.book.register (deed_of one.deed)
     → mid.count ≡ old.count + 1 → mid ≡ record old { last = left_open; desk = mid.desk; count = mid.count } → old.from ≡ None → MetAt one.receipt.number mid new.is_met
     → UnmetAt one.receipt.number mid new.is_met → (mid.is_met ≡ true → new.is_met ≡ true) → new ≡ record mid { is_met = new.is_met } → RanOver began first place R old entries → RanOver began first place R new entries
 closed_on began R first place old mid new left_open one entries left some settled accepted own after_is next_is mids begun now unmet stays same over =

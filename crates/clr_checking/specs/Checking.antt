@@ -1,17 +1,15 @@
 -- A REGISTER IS CHECKED AGAINST ITS JOURNAL: the lines are run again one by one over the register
 -- that the journal began with, or over that of a copy; and where they come to the place of the
 -- register, its tables are compared.
-use Rattle.std.specs.Prelude.{◌≡◌, ◌⊎◌, ℕ, Bool, true, false, List, [], ◌∷◌, ◌++◌, length, ⊤}
+use Rattle.std.specs.Prelude.{◌≡◌, ◌⊎◌, ℕ, true, false, List, [], ◌∷◌, ◌++◌, length, ⊤}
 use Rattle.std.specs.Prelude.{◌≢◌, None, Some}
 use Rattle.serde_json.specs.Data.{Data}
-use Rattle.clr_rules.specs.Answer.{Answer, answer}
+use Rattle.clr_deeds.specs.Deeds.{Deed, after_deed}
+use Rattle.clr_journal.specs.Answered.{deed_reply}
 use Rattle.clr_rules.specs.Register.{Register}
-use Rattle.clr_rules.specs.Run.{after}
-use Rattle.clr_rules.specs.declared.command.Command.{Command}
 use Rattle.clr_place.specs.declared.place.Place.{Place}
 use Rattle.clr_tables.specs.Tables.{tables_of}
-use Rattle.clr_text.specs.Replies.{reply_data}
-use Rattle.clr_journal.specs.Journals.{commands_of, next_place, withdraws}
+use Rattle.clr_journal.specs.Journals.{deeds_of, next_place, withdraws}
 use Rattle.clr_journal.specs.Line.{Entry, carried, withdrawn, is_accepted}
 use Rattle.clr_journal.specs.declared.line.Receipt.{Receipt}
 use Rattle.clr_journal.specs.declared.reading.Turn.{Turn}
@@ -22,7 +20,7 @@ use Rattle.clr_chain.specs.Link.{next_link}
 use Rattle.clr_chain.specs.declared.chain_end.ChainEnd.{ChainEnd}
 use Rattle.clr_verify.specs.Registers.{IsFirstDifference}
 use Rattle.clr_verify.specs.Replies.{IsReply}
-use Rattle.clr_checking.specs.Brief.{IsTaken, is_brief}
+use Rattle.clr_checking.specs.Brief.{IsDeedTaken, is_brief_deed}
 use Rattle.clr_checking.specs.declared.fault.CheckFault.{CheckFault}
 use Rattle.clr_checking.specs.declared.fault.CheckFault.TheVariants.{BadLine, Differs, NoMemory}
 use Rattle.clr_checking.specs.declared.fault.CheckFault.TheVariants.{OtherRegister}
@@ -40,16 +38,16 @@ pub record AreLines (first : Place) (texts : List (List ℕ)) (entries : List En
 -- from one register to another
 pub data AreAnswered : Register → List Entry → Register → Type 0 where
   none : (R : Register) → AreAnswered R [] R
-  refused : (R S : Register) (receipt : Receipt) (q : Command) (reply : Data) (rest : List Entry)
-      → is_accepted reply ≡ false → IsTaken q reply (Answer.reply (answer R q))
-      → AreAnswered R rest S → AreAnswered R (carried receipt q reply ∷ rest) S
-  gone : (R S : Register) (receipt : Receipt) (q : Command) (reply : Data) (n : ℕ)
+  refused : (R S : Register) (receipt : Receipt) (deed : Deed) (reply : Data) (rest : List Entry)
+      → is_accepted reply ≡ false → IsDeedTaken R deed reply
+      → AreAnswered R rest S → AreAnswered R (carried receipt deed reply ∷ rest) S
+  gone : (R S : Register) (receipt : Receipt) (deed : Deed) (reply : Data) (n : ℕ)
       (rest : List Entry) → is_accepted reply ≡ true → AreAnswered R rest S
-      → AreAnswered R (carried receipt q reply ∷ withdrawn n ∷ rest) S
-  done : (R S : Register) (receipt : Receipt) (q : Command) (reply : Data) (rest : List Entry)
+      → AreAnswered R (carried receipt deed reply ∷ withdrawn n ∷ rest) S
+  done : (R S : Register) (receipt : Receipt) (deed : Deed) (reply : Data) (rest : List Entry)
       → is_accepted reply ≡ true → withdraws rest ≡ false
-      → IsReply reply (Answer.reply (answer R q)) → AreAnswered (after R q) rest S
-      → AreAnswered R (carried receipt q reply ∷ rest) S
+      → IsReply reply (deed_reply R deed) → AreAnswered (after_deed R deed) rest S
+      → AreAnswered R (carried receipt deed reply ∷ rest) S
 
 -- ---- the yes
 
@@ -62,7 +60,7 @@ pub record IsLevelByTables (began : Register) (first : Place) (entries : List En
   pub tables : tables_of R ≡ tables_of register
 
 -- YES: all lines hold their sums, the register is level with them, and each reply is that of the
--- run. So many commands were carried out
+-- run. So many deeds were carried out
 pub record IsChecked (began : Register) (first : Place) (texts : List (List ℕ)) (place : Place)
     (R : Register) (count : ℕ) : Type 0 where
   pub entries : List Entry
@@ -70,7 +68,7 @@ pub record IsChecked (began : Register) (first : Place) (texts : List (List ℕ)
   pub level : IsLevelByTables began first entries place R
   pub left : Register
   pub answered : AreAnswered began entries left
-  pub count_is : count ≡ length (commands_of entries)
+  pub count_is : count ≡ length (deeds_of entries)
 
 -- FROM A COPY: the lines up to its place hold their sums, and the place is there; the rest is
 -- checked over the register of the copy. Of the lines before no reply is looked at
@@ -84,7 +82,7 @@ pub record IsCheckedFrom (copied : Register) (at : Place) (first : Place)
   pub level : IsLevelByTables copied at entries place R
   pub left : Register
   pub answered : AreAnswered copied entries left
-  pub count_is : count ≡ length (commands_of entries)
+  pub count_is : count ≡ length (deeds_of entries)
 
 -- ---- why not
 
@@ -101,23 +99,22 @@ pub record Meets (began : Register) (first : Place) (entries : List Entry) (plac
   pub answered : AreAnswered began had register
   pub is : Is register
 
--- A COMMAND HAS ANOTHER REPLY: the lines before it lead to a register that answers it otherwise than
+-- A DEED HAS ANOTHER REPLY: the lines before it lead to a register that answers it otherwise than
 -- its line says. It was accepted and is not withdrawn; or it was refused, and its line is none that
 -- may be in brief
 pub record RepliesElse (began : Register) (entries : List Entry) (number : ℕ) : Type 0 where
   pub had : List Entry
   pub receipt : Receipt
-  pub q : Command
+  pub deed : Deed
   pub reply : Data
   pub more : List Entry
-  pub all : entries ≡ had ++ carried receipt q reply ∷ more
+  pub all : entries ≡ had ++ carried receipt deed reply ∷ more
   pub number_is : number ≡ receipt.number
   pub kept : withdraws more ≡ false
   pub register : Register
-  pub whole : is_accepted reply ≡ false
-      → is_brief q reply (Answer.reply (answer register q)) ≡ false
+  pub whole : is_accepted reply ≡ false → is_brief_deed register deed reply ≡ false
   pub answered : AreAnswered began had register
-  pub other : reply ≢ reply_data (Answer.reply (answer register q))
+  pub other : reply ≢ deed_reply register deed
 
 -- AT THE NUMBER OF A PLACE THE SUM IS ANOTHER: after the last line that has it
 pub record HasOtherSum (first : Place) (entries : List Entry) (place : Place) (number : ℕ)
@@ -138,7 +135,7 @@ pub record IsWithdrawn (entries : List Entry) (number : ℕ) : Type 0 where
 -- NO LINE HAS THIS NUMBER
 abbrev pub NoneHas : ℕ → List Entry → Type 0
 NoneHas number [] = ⊤
-NoneHas number (carried receipt q reply ∷ rest) =
+NoneHas number (carried receipt deed reply ∷ rest) =
     (receipt.number ≢ number) × NoneHas number rest
 NoneHas number (withdrawn n ∷ rest) = (n ≢ number) × NoneHas number rest
 

@@ -2,13 +2,13 @@
 use Rattle.std.specs.Prelude.{◌≡◌, ◌≢◌, ◌⊎◌, ℕ, Bool, true, false, List, [], ◌∷◌, ◌++◌, IfSome}
 use Rattle.std.specs.Prelude.{◌+◌, IsSome, None, Option, Some, length, ⊤}
 use Rattle.serde_json.specs.View.{view}
-use Rattle.clr_rules.specs.Answer.{Answer, answer}
+use Rattle.clr_deeds.specs.Deeds.{deed_of}
+use Rattle.clr_journal.specs.Answered.{deed_reply}
 use Rattle.clr_rules.specs.Good.{IsGood}
 use Rattle.clr_rules.specs.Register.{Register}
 use Rattle.clr_place.specs.declared.place.Place.{Place}
 use Rattle.clr_tables.specs.Tables.{tables_of}
-use Rattle.clr_text.specs.Replies.{reply_data}
-use Rattle.clr_journal.specs.Journals.{commands_of, withdraws}
+use Rattle.clr_journal.specs.Journals.{deeds_of, withdraws}
 use Rattle.clr_journal.specs.Laws.{turn_behind}
 use Rattle.clr_journal.specs.Line.{Entry, carried, withdrawn}
 use Rattle.clr_journal.specs.declared.line.Carried.{Carried}
@@ -67,7 +67,7 @@ pub record Ran (began : Register) (first place : Place) (R : Register) (last : O
   pub done : List Entry
   pub entries_are : entries ≡ done ++ open_entries last
   pub answered : AreAnswered began done S
-  pub count_is : count ≡ length (commands_of done)
+  pub count_is : count ≡ length (deeds_of done)
   pub open_at : IsOpenAt first place entries last missed
   pub met : is_met ≡ true → IsMet began first entries place R
   pub unmet : is_met ≡ false → NoneHas place.number done
@@ -150,12 +150,12 @@ pub record CheckedToFrom (copied : Register) (at first place : Place) (R : Regis
 
 -- a command has the number after this one; a line that withdraws does so with the command of it
 abbrev pub IsOfLast : Entry → ℕ → Type 0
-IsOfLast (carried receipt q reply) number = receipt.number ≡ number + 1
+IsOfLast (carried receipt deed reply) number = receipt.number ≡ number + 1
 IsOfLast (withdrawn n) number = n ≡ number
 
 -- the lines before it, if there are any, leave its command open
 abbrev pub IsOfOpen : Entry → Place → List Entry → Type 0
-IsOfOpen (carried receipt q reply) first entries = ⊤
+IsOfOpen (carried receipt deed reply) first entries = ⊤
 IsOfOpen (withdrawn n) first [] = ⊤
 IsOfOpen (withdrawn n) first (entry ∷ entries) =
     (turn_behind (first_turn_at first) (entry ∷ entries)).is_open ≡ true
@@ -176,12 +176,12 @@ pub record IsAt (first place : Place) (number : ℕ) (sum : List ℕ) (entries :
 
 -- ---- why not
 
--- A REGISTER ANSWERS A COMMAND OTHERWISE than its line says
+-- A REGISTER ANSWERS A DEED OTHERWISE than its line says
 abbrev pub AnswersElse : Register → Carried → CheckFault → Type 0
 AnswersElse R one OtherRegister = ⊥
 AnswersElse R one (BadLine n) = ⊥
 AnswersElse R one (Reply n) = (n ≡ one.receipt.number)
-    × (view one.reply ≢ reply_data (Answer.reply (answer R one.command)))
+    × (view one.reply ≢ deed_reply R (deed_of one.deed))
 AnswersElse R one (Differs n) = ⊥
 AnswersElse R one (Tables found) = ⊥
 AnswersElse R one TooShort = ⊥

@@ -2,6 +2,7 @@
 -- brief is taken.
 use Rattle.std.specs.Prelude.{◌≡◌, ◌≤◌, ℕ, List, Some}
 use Rattle.serde_json.specs.Data.{Data, depth}
+use Rattle.clr_deeds.specs.Deeds.{Deed, command}
 use Rattle.clr_rules.specs.Answer.{Answer, answer}
 use Rattle.clr_rules.specs.Register.{Register}
 use Rattle.clr_rules.specs.declared.command.Command.{Command}
@@ -15,13 +16,13 @@ use Rattle.clr_chain.specs.Chain.{read_on}
 use Rattle.clr_chain.specs.Level.{IsRunOf}
 use Rattle.clr_chain.specs.Link.{next_link}
 use Rattle.clr_chain.specs.declared.chain_end.ChainEnd.{ChainEnd}
-use Rattle.clr_checking.specs.Brief.{IsTaken, in_brief}
+use Rattle.clr_checking.specs.Brief.{IsDeedTaken, in_brief}
 use Rattle.clr_checking.specs.Checking.{AreAnswered}
 
 -- NO REPLY OF A LINE THAT HOLDS ITS SUM NESTS DEEPER THAN 127
 abbrev pub NestsNoDeeper : Type 0
-NestsNoDeeper = (end : ChainEnd) (text : List ℕ) (receipt : Receipt) (q : Command) (reply : Data)
-    → next_link end text ≡ Some (carried receipt q reply) → depth reply ≤ 127
+NestsNoDeeper = (end : ChainEnd) (text : List ℕ) (receipt : Receipt) (deed : Deed) (reply : Data)
+    → next_link end text ≡ Some (carried receipt deed reply) → depth reply ≤ 127
 
 -- SO THE REPLIES ARE EXACTLY THOSE OF THE RUN, where they are found to be those of lines that hold
 -- their sums: what the lines say was carried out is a run, with these replies
@@ -34,4 +35,4 @@ RepliesAreExact = (R S : Register) (end : ChainEnd) (texts : List (List ℕ))
 abbrev pub BriefLinesAreTaken : Type 0
 BriefLinesAreTaken = (R : Register) (q : Command) (refusal : Refusal)
     → Answer.reply (answer R q) ≡ Refused refusal
-    → IsTaken (in_brief q) (reply_data (Refused refusal)) (Answer.reply (answer R (in_brief q)))
+    → IsDeedTaken R (command (in_brief q)) (reply_data (Refused refusal))

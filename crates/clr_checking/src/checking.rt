@@ -2,10 +2,10 @@
 ghost use Rattle.std.specs.Prelude.{◌≡◌, ◌≢◌, ◌⊎◌, ◌+◌, ◌∷◌, ◌++◌, [], ℕ, IfErr, IfOk, IsSome};
 ghost use Rattle.std.specs.Prelude.{IfSome, List, None, OnErr, OnOk, Some, false, true};
 ghost use Rattle.serde_json.specs.View.{view};
-ghost use Rattle.clr_rules.specs.Answer.{Answer, answer};
+ghost use Rattle.clr_deeds.specs.Deeds.{after_deed, deed_of};
+ghost use Rattle.clr_journal.specs.Answered.{deed_reply};
 ghost use Rattle.clr_rules.specs.Good.{IsGood};
 ghost use Rattle.clr_rules.specs.Register.{Register};
-ghost use Rattle.clr_rules.specs.Run.{after};
 ghost use Rattle.clr_place.specs.declared.place.Place.{Place as AnyPlace};
 ghost use Rattle.clr_tables.specs.Tables.{tables_of};
 ghost use Rattle.clr_journal.specs.Journals.{next_place, turn_after, withdraws};
@@ -13,7 +13,7 @@ ghost use Rattle.clr_journal.specs.Line.{Entry, carried, entry_of, is_accepted, 
 ghost use Rattle.clr_journal.specs.declared.reading.Turn.{Turn};
 ghost use Rattle.clr_chain.specs.First.{end_at, read_first};
 ghost use Rattle.clr_chain.specs.Walking.{part_of, step_of};
-ghost use Rattle.clr_checking.specs.Brief.{DecidesTaken, IsTaken, is_brief};
+ghost use Rattle.clr_checking.specs.Brief.{DecidesDeed, IsDeedTaken, is_brief_deed};
 ghost use Rattle.clr_checking.specs.Checking.{IsChecked, IsCheckedFrom, IsRefused, IsRefusedFrom};
 ghost use Rattle.clr_checking.specs.Checking.{NoneHas, Refuses, RefusesFrom, RefusesOfCopy};
 ghost use Rattle.clr_checking.specs.Checking.{RefusesRun};
@@ -22,13 +22,13 @@ ghost use Rattle.clr_checking.specs.CheckingOn.{ComparesElse, IsAfter, IsAt, IsR
 ghost use Rattle.clr_checking.specs.CheckingOn.{RunsOn, Settles, Waits};
 ghost use Rattle.clr_verify.specs.Replies.{IsReply};
 
-use crate::brief::is_taken;
+use crate::deeds::{carry_out, is_due};
 use crate::fault::CheckFault;
 use clr_chain::{Step, Walk};
 use clr_desk::{Desk, DeskBook, Unkept};
 use clr_journal::{Carried, Line, is_accepted};
 use clr_place::Place;
-use clr_verify::{compare, is_reply};
+use clr_verify::compare;
 use std::alloc::{AllocError, Global};
 
 /// How far a register was checked against its journal.
@@ -140,13 +140,44 @@ impl<'a> Checking<'a> {
             → (at.id ≡ first.id → Waits copied at first place R self.entry [])
             → RefusesFrom copied at first [] [] place R fault) }
     {
+        let mut checking = self;
+        match checking.meet_first(alloc) {
+            Ok(()) => Ok(checking),
+            Err(fault) => Err(fault),
+        }
+    }
+
+    /// The same of a checking that stays.
+    fn meet_first(&mut self, alloc: Global) -> Result<(), CheckFault>
+        requires ready { IsReady self.old }
+        requires settled { self.old.missed ≡ None }
+        ensures ready { OnOk result (IsReady self.new) }
+        ensures same_id { OnOk result (self.old.place.id ≡ self.old.walk.id) }
+        ensures went { OnOk result ((began : Register) (first place : AnyPlace) (R : Register)
+            → self.old.walk.id ≡ first.id → self.old.walk.end ≡ end_at first
+            → self.old.from ≡ None → RanOver began first place R self.old []
+            → CheckedTo began first place R self.new []) }
+        ensures went_from { OnOk result ((copied : Register) (at first place : AnyPlace)
+            (R : Register) → self.old.walk.id ≡ first.id → self.old.walk.end ≡ end_at first
+            → self.old.from ≡ Some at
+            → (at.id ≡ first.id → Waits copied at first place R self.old [])
+            → CheckedToFrom copied at first place R self.new []) }
+        ensures refused { IfErr result (λ fault. (began : Register) (first place : AnyPlace)
+            (R : Register) → self.old.walk.id ≡ first.id → self.old.walk.end ≡ end_at first
+            → self.old.from ≡ None → RanOver began first place R self.old []
+            → RefusesRun began first [] place R fault) }
+        ensures refused_from { IfErr result (λ fault. (copied : Register)
+            (at first place : AnyPlace) (R : Register) → self.old.walk.id ≡ first.id
+            → self.old.walk.end ≡ end_at first → self.old.from ≡ Some at
+            → self.old.place ≡ place
+            → (at.id ≡ first.id → Waits copied at first place R self.old [])
+            → RefusesFrom copied at first [] [] place R fault) }
+    {
         if !self.is_of_journal() {
             return Err(CheckFault::OtherRegister);
         }
-        let mut checking = self;
-        let number = checking.walk.end.turn.last;
-        checking.begin_at(alloc, number, false)?;
-        Ok(checking)
+        let number = self.walk.end.turn.last;
+        self.begin_at(alloc, number, false)
     }
 
     /// The next line, as it is without its line feed. After a fault no line is taken any more.
@@ -384,10 +415,10 @@ impl<'a> Checking<'a> {
         ensures refused { IfErr result (λ fault. (began : Register) (first place : AnyPlace)
             (R : Register) (entries : List Entry)
             → IsAfter first place self.old.walk.end.sum
-            (carried one.receipt one.command (view one.reply)) entries
+            (carried one.receipt (deed_of one.deed) (view one.reply)) entries
             → RanOver began first place R self.old entries
             → RefusesRun began first (entries
-            ++ carried one.receipt one.command (view one.reply) ∷ []) place R fault) }
+            ++ carried one.receipt (deed_of one.deed) (view one.reply) ∷ []) place R fault) }
         ensures ready { OnOk result (IsReady self.new) }
         ensures walk { self.new.walk ≡ self.old.walk }
         ensures from { self.new.from ≡ self.old.from }
@@ -397,10 +428,10 @@ impl<'a> Checking<'a> {
         ensures went { OnOk result ((began : Register) (first place : AnyPlace) (R : Register)
             (entries : List Entry)
             → IsAfter first place self.old.walk.end.sum
-            (carried one.receipt one.command (view one.reply)) entries
+            (carried one.receipt (deed_of one.deed) (view one.reply)) entries
             → RanOver began first place R self.old entries
             → RanOver began first place R self.new (entries
-            ++ carried one.receipt one.command (view one.reply) ∷ [])) }
+            ++ carried one.receipt (deed_of one.deed) (view one.reply) ∷ [])) }
     {
         let number = one.receipt.number;
         if is_accepted(&one.reply) {
@@ -569,15 +600,15 @@ impl<'a> Checking<'a> {
         }
     }
 
-    /// Carries out a command, and looks at its reply.
+    /// Carries out a deed, and looks at its reply.
     fn carry_out(&mut self, alloc: Global, one: Carried) -> Result<(), CheckFault>
         requires { IsGood self.old.desk.book.register }
         ensures fault { IfErr result (AnswersElse self.old.desk.book.register one) }
         ensures good { OnOk result (IsGood self.new.desk.book.register) }
         ensures register { OnOk result (self.new.desk.book.register
-            ≡ after self.old.desk.book.register one.command) }
+            ≡ after_deed self.old.desk.book.register (deed_of one.deed)) }
         ensures reply { OnOk result (IsReply (view one.reply)
-            (Answer.reply (answer self.old.desk.book.register one.command))) }
+            (deed_reply self.old.desk.book.register (deed_of one.deed))) }
         ensures count { OnOk result (self.new.count ≡ self.old.count + 1) }
         ensures others { self.new ≡ record self.old {
           desk = self.new.desk;
@@ -586,34 +617,31 @@ impl<'a> Checking<'a> {
     {
         let Carried {
             receipt,
-            command,
+            deed,
             reply,
         } = one;
-        let Ok(own) = self.desk.one(command) else {
-            return Err(CheckFault::NoMemory);
-        };
         let Some(count) = self.count.checked_add(1) else {
             return Err(CheckFault::NoMemory);
         };
         self.count = count;
-        if is_reply(alloc, &reply, &own)? {
+        if carry_out(alloc, &mut self.desk, deed, &reply)? {
             Ok(())
         } else {
             Err(CheckFault::Reply(receipt.number))
         }
     }
 
-    /// Looks at the reply of a command that was refused, unless its line may be in brief; and says
-    /// its number.
+    /// Looks at the reply of a deed that was refused, unless its line may be in brief; and says its
+    /// number.
     fn refuse(&self, alloc: Global, one: Carried) -> Result<u64, CheckFault>
         requires { IsGood self.now.desk.book.register }
         ensures fault { IfErr result (AnswersElse self.now.desk.book.register one) }
         ensures whole { IfErr result (λ fault. fault ≡ CheckFault.Reply one.receipt.number
-            → is_brief one.command (view one.reply)
-            (Answer.reply (answer self.now.desk.book.register one.command)) ≡ false) }
+            → is_brief_deed self.now.desk.book.register (deed_of one.deed) (view one.reply)
+            ≡ false) }
         ensures number { IfOk result (λ number. number ≡ one.receipt.number) }
-        ensures taken { OnOk result (IsTaken one.command (view one.reply)
-            (Answer.reply (answer self.now.desk.book.register one.command))) }
+        ensures taken { OnOk result
+            (IsDeedTaken self.now.desk.book.register (deed_of one.deed) (view one.reply)) }
     {
         let number = one.receipt.number;
         match self.is_due(alloc, &one) {
@@ -628,17 +656,20 @@ impl<'a> Checking<'a> {
         }
     }
 
-    /// Whether a command that was refused has the reply due in its line, or the line may be in
-    /// brief.
+    /// Whether a deed that was refused has the reply due in its line, or the line may be in brief.
     fn is_due(&self, alloc: Global, one: &Carried) -> Result<bool, AllocError>
         requires { IsGood self.now.desk.book.register }
-        ensures { IfOk result (DecidesTaken one.now.command (view one.now.reply)
-            (Answer.reply (answer self.now.desk.book.register one.now.command))) }
+        ensures { IfOk result (DecidesDeed self.now.desk.book.register (deed_of one.now.deed)
+            (view one.now.reply)) }
     {
-        match self.desk.book().answer(&one.command) {
-            Ok(decision) => is_taken(alloc, &one.command, &one.reply, &decision.reply),
-            Err(error) => Err(error),
-        }
+        is_due(alloc, self.own_book(), &one.deed, &one.reply)
+    }
+
+    /// The book of the run.
+    fn own_book(&self) -> &DeskBook
+        ensures { result.now ≡ self.now.desk.book }
+    {
+        self.desk.book()
     }
 
     /// Where the number is that of the copy's place, the lines come to it, if the sum is its own.
@@ -713,7 +744,7 @@ impl<'a> Checking<'a> {
         if number != self.place.number || self.from.is_some() {
             return Ok(());
         }
-        match compare(alloc, self.book, self.desk.book())? {
+        match compare(alloc, self.book, self.own_book())? {
             Some(found) => Err(CheckFault::Tables(found)),
             None => {
                 self.is_met = true;

@@ -3,6 +3,7 @@
 
 mod brief;
 mod checking;
+mod deeds;
 mod fault;
 pub mod laws;
 

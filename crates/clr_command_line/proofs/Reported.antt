@@ -1,7 +1,6 @@
 -- What is reported is what every command line keeps to.
 use Rattle.std.proofs.Common.{◌≡◌, ◌⊎◌, ◌∙◌, ℕ, List, Result, Ok, Err, ap, arith, inl, inr, refl, subst, sym}
 use Rattle.std.specs.Prelude.{◌≢◌, IfErr, IfSome, IsSomeAnd, Option, Some, None, String}
-use Rattle.std.specs.Borrow.{Bor}
 use Rattle.std.specs.declared.alloc.Global.{Global}
 use Rattle.std.specs.declared.io.ErrorKind.{ErrorKind}
 use Rattle.std.specs.declared.io.ErrorKind.TheVariants.{OutOfMemory}
@@ -26,7 +25,7 @@ use Rattle.clr_commands.proofs.Written.{Writes, serve_written}
 use Rattle.clr_stream.specs.Streams.{Stream}
 use Rattle.clr_command_line.specs.Around.{Around, Steps}
 use Rattle.clr_command_line.specs.CommandLine.{AnswersNone, CarriesOut, DoesParsed, Moment}
-use Rattle.clr_command_line.specs.OwnFiles.{NamesOthers, NamesOwn, OwnsFile, OwnsJournal, OwnsMade, UnlessMemory}
+use Rattle.clr_command_line.specs.OwnFiles.{NamesOwn, OwnsFile, OwnsJournal, OwnsMade, UnlessMemory}
 use Rattle.clr_command_line.specs.Report.{HasServed, IsFaulted, IsReported, Reports, ReportsFault, ReportsRun, ReportsServed, ReportsText}
 
 -- a fault, at which nothing went to the output
@@ -156,7 +155,9 @@ own_other owns (asked.VerifyFrom args) fault (inr (inl (own, is))) e = cc (sym i
 own_other owns (asked.VerifyFrom args) fault (inr (inr (inl (own, is)))) e = cc (sym is ∙ e)
 own_other owns (asked.VerifyFrom args) fault (inr (inr (inr (inl (place, own))))) e = part_other owns args.database.now _ fault own e
 own_other owns (asked.VerifyFrom args) fault (inr (inr (inr (inr (place, own))))) e = part_other owns args.copy.now _ fault own e
-own_other owns (asked.Update args) fault (inr own) e = file_other owns args.database.now args.files fault own e
+own_other owns (asked.Update args) fault (inr (inl own)) e = file_other owns args.database.now args.files fault own e
+own_other owns (asked.Update args) fault (inr (inr (own, is))) e = cc (sym is ∙ e)
+own_other owns (asked.Archive args) fault (inr (own, is)) e = cc (sym is ∙ e)
 own_other owns (asked.NextPart args) fault (inr (inl (own, is))) e = cc (sym is ∙ e)
 own_other owns (asked.NextPart args) fault (inr (inr (own, is))) e = cc (sym is ∙ e)
 own_other owns (asked.Migrate args) fault (inr (own, is)) e = cc (sym is ∙ e)
@@ -211,7 +212,7 @@ module _ {M S L R W I J C : Type 0} (by : Steps M S L R W J C) (around : Around 
   carried_out (asked.Update args) status before after (answer, does, own, untouched, reports) = reported answer status _ _ _ _ own reports
   carried_out (asked.Archive args) status before after (archived, untouched, archives, reports) =
       reported_archive archived status _ _ _ _
-      (archive_written before.output after.output tables opens shuts ends args archived before.machine after.machine archives) reports
+      (archive_written before.output after.output logs tables opens shuts ends args archived before.machine after.machine archives) reports
   carried_out (asked.Migrate args) status before after (answer, does, own, untouched, reports) = reported answer status _ _ _ _ own reports
 
   pub does : (what : Parsed) (status : ℕ) (before after : Moment M I)

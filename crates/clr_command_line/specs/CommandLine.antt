@@ -111,11 +111,11 @@ module _ {M S L R W I J C : Type 0} (by : Steps M S L R W J C) (around : Around 
       (VerifiesFromAt files args (Comes opens shuts ends args.copy.now (ReadsPlaced tables))
       (Comes opens shuts ends args.database.now (ReadsPlaced tables))) status before after
   CarriesOut (asked.Update args) status before after = ComesTo
-      (UpdatesFiles files tables opens shuts ends args) status before after
+      (UpdatesFiles files logs tables opens shuts ends args) status before after
   CarriesOut (asked.Archive args) status before after =
       (archived : Done) × (after.input ≡ before.input)
-      × ArchivesAt tables opens shuts ends args before.output after.output archived before.machine
-      after.machine
+      × ArchivesAt logs tables opens shuts ends args before.output after.output archived
+      before.machine after.machine
       × ReportsServed archived status before.errors after.errors
   CarriesOut (asked.Migrate args) status before after = ComesTo
       (MigratesAt logs tables opens shuts ends args) status before after

@@ -1,5 +1,5 @@
 -- The files that a command line names beside a database, and which of them are the database's own.
-use Rattle.std.specs.Prelude.{◌≡◌, ◌⊎◌, ℕ, All, IfSome, IsSomeAnd, List, Option, None, Some, map}
+use Rattle.std.specs.Prelude.{◌≡◌, ◌⊎◌, ℕ, All, IfSome, IsSomeAnd, List, Option, map}
 use Rattle.std.specs.Prelude.{slice_get}
 use Rattle.std.specs.Borrow.{Bor}
 use Rattle.clr_args.specs.declared.asked.Asked.{Asked}
@@ -10,6 +10,7 @@ use Rattle.clr_args.specs.declared.asked.RunArgs.{RunArgs}
 use Rattle.clr_args.specs.declared.asked.RunArgs.TheVariants as run
 use Rattle.clr_args.specs.declared.asked.ServeArgs.{ServeArgs}
 use Rattle.clr_args.specs.declared.asked.StoredArgs.{StoredArgs}
+use Rattle.clr_args.specs.declared.asked.UpdateArgs.{UpdateArgs}
 use Rattle.clr_args.specs.declared.asked.VerifyArgs.{VerifyArgs}
 use Rattle.clr_args.specs.declared.asked.VerifyFromArgs.{VerifyFromArgs}
 use Rattle.clr_edge.specs.declared.fault.Fault.{Fault}
@@ -37,6 +38,10 @@ module _ (spares : List ℕ → List ℕ → Type 0) where
 
   abbrev pub SparesMade : StoredArgs → Files → Type 0
   SparesMade args files = SparesFiles args.database.now files
+      × SparesOne args.database.now args.journal
+
+  abbrev pub SparesUpdated : UpdateArgs → Type 0
+  SparesUpdated args = SparesFiles args.database.now args.files
       × SparesOne args.database.now args.journal
 
   abbrev pub SparesParts : List ℕ → List (List ℕ) → Type 0
@@ -68,7 +73,8 @@ module _ (spares : List ℕ → List ℕ → Type 0) where
   NamesOthers (asked.Serve args) = SparesServed args
   NamesOthers (asked.Verify args) = SparesVerified args
   NamesOthers (asked.VerifyFrom args) = SparesVerifiedFrom args
-  NamesOthers (asked.Update args) = SparesFiles args.database.now args.files
+  NamesOthers (asked.Update args) = SparesUpdated args
+  NamesOthers (asked.Archive args) = SparesOne args.database.now args.journal
   NamesOthers (asked.NextPart args) = SparesNext args
   NamesOthers (asked.Migrate args) = SparesOne args.database.now args.journal
   NamesOthers what = Unit {0}
@@ -90,6 +96,10 @@ module _ (owns : List ℕ → List ℕ → Type 0) where
 
   abbrev pub OwnsMade : StoredArgs → Files → Fault → Type 0
   OwnsMade args files fault = OwnsFile args.database.now files fault
+      ⊎ OwnsOne args.database.now args.journal (Journal journal.SameFile) fault
+
+  abbrev pub OwnsUpdated : UpdateArgs → Fault → Type 0
+  OwnsUpdated args fault = OwnsFile args.database.now args.files fault
       ⊎ OwnsOne args.database.now args.journal (Journal journal.SameFile) fault
 
   abbrev pub OwnsPart : List ℕ → List (List ℕ) → Fault → Type 0
@@ -130,7 +140,9 @@ module _ (owns : List ℕ → List ℕ → Type 0) where
   NamesOwn (asked.Serve args) fault = OwnsServed args fault
   NamesOwn (asked.Verify args) fault = OwnsVerified args fault
   NamesOwn (asked.VerifyFrom args) fault = OwnsVerifiedFrom args fault
-  NamesOwn (asked.Update args) fault = OwnsFile args.database.now args.files fault
+  NamesOwn (asked.Update args) fault = OwnsUpdated args fault
+  NamesOwn (asked.Archive args) fault =
+      OwnsOne args.database.now args.journal (Journal journal.SameFile) fault
   NamesOwn (asked.NextPart args) fault = OwnsNext args fault
   NamesOwn (asked.Migrate args) fault =
       OwnsOne args.database.now args.journal (Journal journal.SameFile) fault

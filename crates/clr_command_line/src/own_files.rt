@@ -2,13 +2,15 @@
 ghost use Rattle.std.specs.Prelude.{◌≡◌, IfErr, OnOk, map};
 ghost use Rattle.clr_command_line.specs.OwnFiles.{NamesOthers, NamesOwn, OwnsFile, OwnsMade};
 ghost use Rattle.clr_command_line.specs.OwnFiles.{OwnsNext, OwnsOne, OwnsPart, OwnsServed};
-ghost use Rattle.clr_command_line.specs.OwnFiles.{OwnsVerified, OwnsVerifiedFrom, SparesFiles};
-ghost use Rattle.clr_command_line.specs.OwnFiles.{SparesMade, SparesNext, SparesOne, SparesParts};
-ghost use Rattle.clr_command_line.specs.OwnFiles.{SparesServed, SparesVerified};
-ghost use Rattle.clr_command_line.specs.OwnFiles.{SparesVerifiedFrom, UnlessMemory};
+ghost use Rattle.clr_command_line.specs.OwnFiles.{OwnsUpdated, OwnsVerified, OwnsVerifiedFrom};
+ghost use Rattle.clr_command_line.specs.OwnFiles.{SparesFiles, SparesMade, SparesNext, SparesOne};
+ghost use Rattle.clr_command_line.specs.OwnFiles.{SparesParts, SparesServed, SparesUpdated};
+ghost use Rattle.clr_command_line.specs.OwnFiles.{SparesVerified, SparesVerifiedFrom};
+ghost use Rattle.clr_command_line.specs.OwnFiles.{UnlessMemory};
 
 use clr_args::asked::{
-    Asked, Files, NextPartArgs, RunArgs, ServeArgs, StoredArgs, VerifyArgs, VerifyFromArgs,
+    Asked, Files, NextPartArgs, RunArgs, ServeArgs, StoredArgs, UpdateArgs, VerifyArgs,
+    VerifyFromArgs,
 };
 use clr_edge::fault::{Fault, ImportFile, JournalFault};
 use clr_edge::paths::Opens;
@@ -33,15 +35,10 @@ pub(crate) fn expect_others<'a, O: Opens<'a>>(
         Asked::Serve(args) => expect_served(alloc, paths, args),
         Asked::Verify(args) => expect_verified(alloc, paths, args),
         Asked::VerifyFrom(args) => expect_verified_from(alloc, paths, args),
-        Asked::Update(args) => expect_files(alloc, paths, args.database, &args.files),
+        Asked::Update(args) => expect_updated(alloc, paths, args),
+        Asked::Archive(args) => expect_journal_of(alloc, paths, args.database, args.journal),
         Asked::NextPart(args) => expect_next(alloc, paths, args),
-        Asked::Migrate(args) => {
-            let stored = StoredArgs {
-                database: args.database,
-                journal: args.journal,
-            };
-            expect_journal(alloc, paths, &stored)
-        }
+        Asked::Migrate(args) => expect_journal_of(alloc, paths, args.database, args.journal),
         _ => Ok(()),
     }
 }
@@ -62,6 +59,35 @@ fn expect_journal<'a, O: Opens<'a>>(
         Some(journal) => expect_other(alloc, paths, args.database, journal, fault),
         None => Ok(()),
     }
+}
+
+/// The same of a database and a journal of it.
+fn expect_journal_of<'a, O: Opens<'a>>(
+    alloc: Global,
+    paths: &O,
+    database: &'a str,
+    journal: Option<&'a str>,
+) -> Result<(), Fault>
+    ensures others { OnOk result (SparesOne (O.spares paths.now) database.now
+        journal.entry) }
+    ensures own { IfErr result (UnlessMemory (OwnsOne (O.owns paths.now) database.now journal.entry
+        (Fault.Journal JournalFault.SameFile))) }
+{
+    let stored = StoredArgs { database, journal };
+    expect_journal(alloc, paths, &stored)
+}
+
+/// Refuses files of an update, or a journal, that are a file of the database.
+fn expect_updated<'a, O: Opens<'a>>(
+    alloc: Global,
+    paths: &O,
+    args: &UpdateArgs<'a>,
+) -> Result<(), Fault>
+    ensures others { OnOk result (SparesUpdated (O.spares paths.now) args.now) }
+    ensures own { IfErr result (UnlessMemory (OwnsUpdated (O.owns paths.now) args.now)) }
+{
+    expect_files(alloc, paths, args.database, &args.files)?;
+    expect_journal_of(alloc, paths, args.database, args.journal)
 }
 
 /// Refuses files to begin with, or a journal to begin, that are a file of the database to make.
@@ -125,11 +151,7 @@ fn expect_served<'a, O: Opens<'a>>(
         let fault = Fault::SameFile(ImportFile::Logins);
         expect_other(alloc, paths, args.database, logins, fault)?;
     }
-    let stored = StoredArgs {
-        database: args.database,
-        journal: args.journal,
-    };
-    expect_journal(alloc, paths, &stored)
+    expect_journal_of(alloc, paths, args.database, args.journal)
 }
 
 /// Refuses a journal or files to begin with that are a file of the database.
@@ -141,11 +163,7 @@ fn expect_verified<'a, O: Opens<'a>>(
     ensures others { OnOk result (SparesVerified (O.spares paths.now) args.now) }
     ensures own { IfErr result (UnlessMemory (OwnsVerified (O.owns paths.now) args.now)) }
 {
-    let stored = StoredArgs {
-        database: args.database,
-        journal: Some(args.journal),
-    };
-    expect_journal(alloc, paths, &stored)?;
+    expect_journal_of(alloc, paths, args.database, Some(args.journal))?;
     expect_parts(alloc, paths, args.database, args.parts.as_slice())?;
     expect_files(alloc, paths, args.database, &args.files)
 }

@@ -1,19 +1,29 @@
--- An archive over a register that was read from a database, and what went out of it.
-use Rattle.std.proofs.Common.{◌≡◌, ◌≢◌, ◌⊎◌, ◌∙◌, ap, inl, inr, refl, subst, sym, ℕ, List, Result, Ok, Err}
-use Rattle.std.specs.Prelude.{IfErr, IsErrAnd}
-use Rattle.sqlite.specs.Held.{Held}
+-- An archive over a register that was taken up from a database, and what went out of it.
+use Rattle.std.proofs.Common.{◌≡◌, ◌≢◌, ◌⊎◌, ◌∙◌, inl, inr, refl, subst, sym, ℕ, List, Ok, Err}
+use Rattle.std.specs.Borrow.{Bor}
+use Rattle.std.specs.Prelude.{IfErr, IsErrAnd, None, Option, Some}
+use Rattle.sqlite.specs.Held.{Held, state}
 use Rattle.sqlite_trees.specs.declared.store.Store.{Ghosts}
 use Rattle.clr_args.specs.declared.asked.ArchiveArgs.{ArchiveArgs}
+use Rattle.clr_desk.specs.declared.commit.Commit as commit
 use Rattle.clr_desk.specs.declared.desk.Desk.{Desk}
+use Rattle.clr_level.specs.declared.keeper.Keeper.{Keeper}
+use Rattle.clr_rules.specs.Good.{IsGood}
+use Rattle.clr_rules.specs.Register.{Register}
 use Rattle.clr_stream.specs.Streams.{HasFailed, Stream, WentOut}
 use Rattle.clr_edge.specs.Database.{IsOfLine}
-use Rattle.clr_keeping.specs.Keeping.{IsNotReadAlone, IsNotUp, IsUp, unlogged}
-use Rattle.clr_edge.specs.Visit.{Done, Ending, Ends, Opening, Shutting, first_fault}
+use Rattle.clr_edge.specs.Fault.{of_desk}
+use Rattle.clr_keeping.specs.Keeping.{IsLetGo, IsUpWith, Keeping, StaysLevel, StaysSound, Works, WorksIn, WorksWith, logged, logged_keeper, plain_keeper, unlogged}
+use Rattle.clr_keeping.specs.TakenUp.{Logs, store_place}
+use Rattle.clr_keeping.specs.declared.taking_up.Opened.TheVariants.{Logged, Plain}
+use Rattle.clr_keeping.proofs.Keeping.{worked}
+use Rattle.clr_edge.specs.Visit.{Comes, Done, Ending, Ends, Opening, Shutting, first_fault}
 use Rattle.clr_edge.specs.declared.fault.Fault.{Fault}
 use Rattle.clr_edge.specs.declared.fault.Fault.TheVariants.{Output}
-use Rattle.clr_commands.specs.Archive.{Archives, ArchivesAt, ArchivesOver, IsArchived}
+use Rattle.clr_commands.specs.Archive.{ArchivesAlone, ArchivesAt, IsArchived}
 use Rattle.clr_commands.specs.ArchiveText.{archive_text}
-use Rattle.clr_commands.proofs.Written.{line_other, not_alone_other}
+use Rattle.clr_commands.proofs.Faults.{of_desk_plain}
+use Rattle.clr_commands.proofs.Written.{line_other, not_alone_other, not_taken_other, other_as}
 
 -- what went out, by the result: a text, flushed; at a fault of the output, what it took; at any
 -- other nothing, or a text, flushed
@@ -22,91 +32,81 @@ HasWritten output output' (Ok value) = (text : List ℕ) × WentOut output outpu
 HasWritten output output' (Err fault) = ((fault ≡ Output) × HasFailed output output')
     ⊎ ((fault ≢ Output) × ((output' ≡ output) ⊎ ((text : List ℕ) × WentOut output output' text)))
 
+-- a register that was taken up with its journal is good
+pub up_good : {M J C S : Type 0} (g : Ghosts S) (opens : Opening M S) (path : List ℕ) (logs : Logs M J C) (journal : Option (Bor (List ℕ)))
+    (old new : M) (desk : Desk (Keeper (Held S) J C)) → IsUpWith g opens path logs journal old new (Logged desk) → IsGood desk.book.register
+up_good g opens path logs None old new desk up = absurd up
+up_good g opens path logs (Some journal) old new desk up = up.good
+
 module _ (output output' : Stream) where
-  module _ {S : Type 0} (g : Ghosts S) (args : ArchiveArgs) (before after : Held S) where
-    archived_written : (told closed : Done) → Archives g args output output' told before after → IfErr closed IsOfLine → HasWritten output output' (first_fault told closed)
-    archived_written (Ok value) (Ok ended) it line = elim it.archived [
-      | inl (went, taken, fine) ↦ (archive_text args.before it.register, went)
-      | inr (same, unsent) ↦ absurd unsent
-    ]
-    archived_written (Ok value) (Err fault) it line = elim it.archived [
-      | inl (went, taken, fine) ↦ inr (line_other fault line, inr (archive_text args.before it.register, went))
-      | inr (same, unsent) ↦ absurd unsent
-    ]
-    archived_written (Err fault) closed it line = elim it.archived [
-      | inl (went, taken, of_line) ↦ inr (line_other fault of_line, inr (archive_text args.before it.register, went))
-      | inr (same, inl (out, cut)) ↦ inl (out, cut.1)
-      | inr (same, inr (memory, quiet)) ↦ inr (λ e. cc (sym memory ∙ e), inl quiet)
-    ]
+  archived_written : {K : Type 0} (keeper : commit.Ghosts K) (before : ℕ) (R : Register) (told closed : Done) (read after : K)
+      → IsArchived keeper before output output' R told read after → IfErr closed IsOfLine → HasWritten output output' (first_fault told closed)
+  archived_written keeper before R (Ok value) (Ok ended) read after (inl (went, taken, fine)) line = (archive_text before R, went)
+  archived_written keeper before R (Ok value) (Err fault) read after (inl (went, taken, fine)) line = inr (line_other fault line, inr (archive_text before R, went))
+  archived_written keeper before R (Ok value) closed read after (inr (same, unsent)) line = absurd unsent
+  archived_written keeper before R (Err fault) closed read after (inl (went, taken, (cause, is, of))) line =
+      inr (other_as fault (of_desk cause) is (of_desk_plain cause).0, inr (archive_text before R, went))
+  archived_written keeper before R (Err fault) closed read after (inr (same, inl (out, cut))) line = inl (out, cut.1)
+  archived_written keeper before R (Err fault) closed read after (inr (same, inr (memory, quiet))) line = inr (λ e. cc (sym memory ∙ e), inl quiet)
 
-    over_written : (result closed : Done) → ArchivesOver g args output output' result before after closed → HasWritten output output' result
-    over_written result closed it = subst (HasWritten output output') (sym it.result_is) (of it.told it.did)
-      where
-        of : (told : Done) → (IsErrAnd told (λ fault. IsNotReadAlone g before fault after) × (output' ≡ output)) ⊎ Archives g args output output' told before after
-            → HasWritten output output' (first_fault told closed)
-        of (Ok value) (inl (refused, same)) = absurd refused
-        of (Err fault) (inl (refused, same)) = inr (not_alone_other g before after fault refused, inl same)
-        of told (inr done) = archived_written told closed done it.closing
+  over_written : {M T K : Type 0} (by : Keeping M T K) → ((old new : M) (before after : Held T) (fault : Fault) → by.refuses old new before fault after → fault ≢ Output)
+      → (moment : ℕ) (result : Done) (old new : M) (before after : Held T) (closed : Done)
+      → WorksIn by (output' ≡ output) (ArchivesAlone moment output output' K by.keeper) first_fault result old before after closed new
+      → HasWritten output output' result
+  over_written {K = K} by refused_other moment result old new before after closed did =
+      subst (λ (r : Done). HasWritten output output' r) (sym did.result_is) (of did.told did.works)
+    where
+      of : (told : Done) → (IsErrAnd told (λ fault. by.refuses old new before fault after) × (output' ≡ output))
+          ⊎ Works by (ArchivesAlone moment output output' K by.keeper told) old new before after
+          → HasWritten output output' (first_fault told closed)
+      of (Ok value) (inl (refused, same)) = absurd refused
+      of (Err fault) (inl (refused, same)) = inr (refused_other old new before after fault refused, inl same)
+      of told (inr it) = archived_written by.keeper moment it.taken.book.register told closed it.taken.store it.left.store it.did.1 did.closing
 
-  module _ {M S : Type 0} (g : Ghosts S) (opens : Opening M S) (shuts : Shutting M) (ends : Ending M S) (args : ArchiveArgs) where
+  kept_written : {M J C S : Type 0} (logs : Logs M J C) (g : Ghosts S) (opens : Opening M S) (shuts : Shutting M) (ends : Ending M S)
+      (journal : Option (Bor (List ℕ))) (path : List ℕ) (moment : ℕ) (result : Done) (old new : M)
+      → Comes opens (λ old path fault new. shuts old path fault new × (output' ≡ output)) ends path
+      (WorksWith logs g journal (output' ≡ output) (ArchivesAlone moment output output') first_fault) result old new
+      → HasWritten output output' result
+  kept_written logs g opens shuts ends journal path moment result old new (inl (fault, is, line, (shut, same))) =
+      subst (λ (r : Done). HasWritten output output' r) (sym is) (inr (line_other fault line, inl same))
+  kept_written logs g opens shuts ends None path moment result old new (inr visit) =
+      over_written (unlogged g) (λ old new before after fault not. not_alone_other g before after fault not.1)
+      moment result visit.middle visit.later visit.before visit.after visit.closed visit.does
+  kept_written logs g opens shuts ends (Some journal) path moment result old new (inr visit) =
+      over_written (logged g logs journal.now) (λ old new before after fault not. not_taken_other g logs journal.now old new before after fault not)
+      moment result visit.middle visit.later visit.before visit.after visit.closed visit.does
+
+  module _ {M J C S : Type 0} (logs : Logs M J C) (g : Ghosts S) (opens : Opening M S) (shuts : Shutting M) (ends : Ending M S) (args : ArchiveArgs) where
     -- what went out
-    pub archive_written : (result : Done) (old new : M) → ArchivesAt g opens shuts ends args output output' result old new → HasWritten output output' result
-    archive_written result old new (inl (fault, is, line, (shut, same))) =
-        subst (HasWritten output output') (sym is) (inr (line_other fault line, inl same))
-    archive_written result old new (inr visit) = over_written g args visit.before visit.after result visit.closed visit.does.1
+    pub archive_written : (result : Done) (old new : M) → ArchivesAt logs g opens shuts ends args output output' result old new → HasWritten output output' result
+    archive_written result old new did = kept_written logs g opens shuts ends args.journal args.database.now args.before result old new did
 
-    -- the register of the database at the path was archived
-    pub archived_at : (before : ℕ) (told closed result : Done) (old between new : M) (desk : Desk (Held S)) (store after : Held S)
-        → IsUp opens args.database.now (unlogged g) old between desk → before ≡ args.before
-        → IsArchived g before output output' desk.book.register told desk.store store → after ≡ store
+    abbrev shut_quiet : Shutting M
+    shut_quiet old path fault new = shuts old path fault new × (output' ≡ output)
+
+    -- the register of the database at the path was archived, without a journal
+    pub archived_alone : (before : ℕ) (told closed result : Done) (old between new : M) (desk : Desk (Held S)) (store after : Held S)
+        → IsUpWith g opens args.database.now logs args.journal old between (Plain desk) → before ≡ args.before
+        → IsArchived (plain_keeper g) before output output' desk.book.register told desk.store store → after ≡ store
         → Ends ends after closed between new → IfErr closed IsOfLine → result ≡ first_fault told closed
-        → ArchivesAt g opens shuts ends args output output' result old new
-    archived_at before told closed result old between new desk store after up moment archived same ended line is = inr (record {
-      before = up.before;
-      after = store;
-      closed = closed;
-      middle = up.middle;
-      later = between;
-      opened = up.opened;
-      mode = up.mode;
-      does = (
-        up.taken_up.0,
-        record {
-          told = told;
-          did = inr (record {
-            register = desk.book.register;
-            read = desk.store;
-            is_read = up.taken_up.1;
-            archived = subst (λ (n : ℕ). IsArchived g n output output' desk.book.register told desk.store store) moment archived;
-          });
-          closing = line;
-          result_is = is;
-        },
-      );
-      ended = subst (λ (h : Held S). Ends ends h closed between new) same ended;
-    })
+        → ArchivesAt logs g opens shuts ends args output output' result old new
+    archived_alone before told closed result old between new desk store after up moment archived same ended line is =
+        let left : Desk (Held S) = record { book = desk.book; store = store; faults = desk.faults } in
+        worked g opens shuts shut_quiet ends args.database.now (output' ≡ output) first_fault logs
+        (ArchivesAlone args.before output output') args.journal told result old between between new (Plain desk) (Plain left) closed up
+        (refl, subst (λ (n : ℕ). IsArchived (plain_keeper g) n output output' desk.book.register told desk.store store) moment archived)
+        tt (store, between, (refl, refl), subst (λ (h : Held S). Ends ends h closed between new) same ended) line is
 
-    -- or it was not read, and nothing went out
-    pub unarchived_at : (result : Done) (old new : M) (fault : Fault) → output' ≡ output → IsErrAnd result (λ cause. cause ≡ fault)
-        → IsNotUp opens shuts ends args.database.now (unlogged g) old new fault → ArchivesAt g opens shuts ends args output output' result old new
-    unarchived_at (Ok value) old new fault same is not = absurd is
-    unarchived_at (Err cause) old new fault same is (inl (line, shut)) = inl (fault, ap Err is, line, (shut, same))
-    unarchived_at (Err cause) old new fault same is (inr visit) = inr (record {
-      before = visit.before;
-      after = visit.after;
-      closed = visit.closed;
-      middle = visit.middle;
-      later = visit.later;
-      opened = visit.opened;
-      mode = visit.mode;
-      does = (
-        visit.does.0.0,
-        record {
-          told = Err fault;
-          did = inl (visit.does.0.1, same);
-          closing = visit.does.1;
-          result_is = ap Err is;
-        },
-      );
-      ended = visit.ended;
-    })
+    -- or with one, with which it stays level
+    pub archived_level : (before : ℕ) (told closed result : Done) (old between new : M) (desk left : Desk (Keeper (Held S) J C))
+        → IsUpWith g opens args.database.now logs args.journal old between (Logged desk) → before ≡ args.before
+        → IsArchived (logged_keeper g logs) before output output' desk.book.register told desk.store left.store
+        → StaysLevel (state g) store_place logs.log.text desk left → StaysSound logs.log.text logs.log.found logs.log.may_leave desk left
+        → IsLetGo ends logs (Logged left) closed between new → IfErr closed IsOfLine → result ≡ first_fault told closed
+        → ArchivesAt logs g opens shuts ends args output output' result old new
+    archived_level before told closed result old between new desk left up moment archived level sound gone line is =
+        worked g opens shuts shut_quiet ends args.database.now (output' ≡ output) first_fault logs
+        (ArchivesAlone args.before output output') args.journal told result old between between new (Logged desk) (Logged left) closed up
+        (refl, subst (λ (n : ℕ). IsArchived (logged_keeper g logs) n output output' desk.book.register told desk.store left.store) moment archived)
+        (level, sound) gone line is

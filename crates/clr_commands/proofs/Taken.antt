@@ -1,45 +1,72 @@
 -- What an archive sends and takes out, by what a desk and the output say of it.
-use Rattle.std.proofs.Common.{◌≡◌, Err, List, Ok, OnOk, Result, inl, inr, ℕ}
+use Rattle.std.proofs.Common.{◌≡◌, Err, List, Ok, OnOk, inl, inr, refl, subst, ℕ}
 use Rattle.std.specs.Prelude.{IfErr, IsErrAnd, IsTrue, OnErr}
-use Rattle.sqlite.specs.Held.{Held, state}
-use Rattle.sqlite.specs.State.{HasCleanDisk, Survives}
-use Rattle.sqlite_trees.specs.declared.store.Store.{Ghosts}
+use Rattle.sqlite.specs.State.{HasCleanDisk, State, Survives}
+use Rattle.sqlite.proofs.StateLemmas.{survives_weaker}
 use Rattle.clr_archive.specs.Archive.{archived}
+use Rattle.clr_deeds.specs.Deeds.{archive}
 use Rattle.clr_desk.specs.Archiving.{AreArchived}
+use Rattle.clr_desk.specs.Faults.{IsOfKeeper}
+use Rattle.clr_desk.specs.Placing.{Placing}
+use Rattle.clr_desk.specs.Taking.{Came}
+use Rattle.clr_desk.specs.declared.desk.Desk.{Desk}
 use Rattle.clr_desk.specs.declared.desk_fault.DeskFault.{DeskFault}
 use Rattle.clr_load.specs.Contract.{IsSaved}
 use Rattle.clr_load.specs.Stored.{HasTables}
+use Rattle.clr_level.specs.Crash.{KeepsTables}
+use Rattle.clr_level.specs.Placing.{StaysShown}
+use Rattle.clr_level.specs.Renewing.{AreDoneSafely, RenewsAt}
+use Rattle.clr_level.specs.declared.keeper.Keeper.{Keeper}
+use Rattle.clr_rules.specs.Good.{IsGood}
 use Rattle.clr_rules.specs.Register.{Register}
 use Rattle.clr_stream.specs.Streams.{IsCut, Stream}
 use Rattle.clr_tables.specs.Tables.{tables_of}
 use Rattle.clr_edge.specs.Visit.{Done}
 use Rattle.clr_edge.specs.declared.fault.Fault.TheVariants.{Memory, Output}
 use Rattle.clr_commands.specs.Archive.{IsUnsent, TakesOut}
+use Rattle.clr_commands.specs.Faults.{IsOfDesk, done_of}
 
--- what holds of a result of a kind
-pub of_ok : {T E : Type 0} (r : Result T E) (value : T) → r ≡ Ok value → (P : Type 0) → OnOk r P → P
-of_ok (Ok found) value is P holds = holds
-of_ok (Err error) value is P holds = absurd (cc is)
-
-pub of_err : {T E : Type 0} (r : Result T E) (error : E) → r ≡ Err error → (P : Type 0) → OnErr r P → P
-of_err (Ok found) error is P holds = absurd (cc is)
-of_err (Err found) error is P holds = holds
+-- what came of a call of a desk is no more
+pub done_of-fault : (fails : DeskFault → Type 0) (came : Came) → IfErr came (IsOfKeeper fails) → IfErr (done_of came) (IsOfDesk fails)
+done_of-fault fails (Ok value) of = tt
+done_of-fault fails (Err cause) of = (cause, refl, of)
 
 -- ---- what left the tables
 
-pub taken_by : {S : Type 0} (g : Ghosts S) (before : ℕ) (R : Register) (read after : Held S) (done : Result (Unit {0}) DeskFault) (told : Done)
-    → ((P : Type 0) → OnOk done P → OnOk told P) → ((P : Type 0) → OnErr done P → OnErr told P)
-    → (HasCleanDisk (state g after) → HasTables (state g read).now (tables_of R) → OnOk done (HasTables (state g after).now (tables_of (archived before R))))
-    → (HasCleanDisk (state g after) → OnOk done (IsSaved (state g after)))
-    → (HasCleanDisk (state g after) → IsTrue (state g after).is_open → OnErr done ((state g after).now ≡ (state g read).now))
-    → Survives (state g read) (state g after) (AreArchived (state g read).now before R)
-    → TakesOut g before R told read after
-taken_by g before R read after done told ok err taken saved none crash = record {
-  taken = λ clean has. ok _ (taken clean has);
-  saved = λ clean. ok _ (saved clean);
-  none = λ clean is_open. err _ (none clean is_open);
-  crash = crash;
-}
+pub taken_by : {K : Type 0} (kept : K → State) (before : ℕ) (R : Register) (read after : K) (came : Came)
+    → (HasCleanDisk (kept after) → HasTables (kept read).now (tables_of R) → OnOk came (HasTables (kept after).now (tables_of (archived before R))))
+    → (HasCleanDisk (kept after) → OnOk came (IsSaved (kept after)))
+    → (HasCleanDisk (kept after) → IsTrue (kept after).is_open → OnErr came ((kept after).now ≡ (kept read).now))
+    → Survives (kept read) (kept after) (AreArchived (kept read).now before R)
+    → TakesOut kept before R (done_of came) read after
+taken_by kept before R read after (Ok value) taken saved none crash = record { taken = taken; saved = saved; none = λ clean is_open. tt; crash = crash }
+taken_by kept before R read after (Err cause) taken saved none crash = record { taken = λ clean has. tt; saved = λ clean. tt; none = none; crash = crash }
+
+-- the same at a desk with a journal, which renews its register
+pub taken_with : {K J C : Type 0} (kept : K → State) (has_place : Placing) (fails : DeskFault → Type 0) (shows : C → ℕ → Type 0) (text found : J → List ℕ)
+    (may_leave : J → List ℕ → Type 0) (before : ℕ) (old new : Desk (Keeper K J C)) (came : Came) → IsGood old.book.register
+    → RenewsAt kept has_place fails shows text found may_leave old new (archive before) came
+    → TakesOut (λ (it : Keeper K J C). kept it.keeper) before old.book.register (done_of came) old.store new.store
+taken_with {K} {J} {C} kept has_place fails shows text found may_leave before old new came good renews =
+    taken_by (λ (it : Keeper K J C). kept it.keeper) before old.book.register old.store new.store came
+    (λ clean has. tables came renews.register renews.tables clean has) (λ clean. renews.saved clean tt)
+    (λ clean is_open. stays came renews.stays clean is_open)
+    (survives_weaker (kept old.store.keeper) (kept new.store.keeper)
+    (AreDoneSafely kept has_place text may_leave old.book.register old.store (archive before) new.store)
+    (AreArchived (kept old.store.keeper).now before old.book.register) (λ clean trees done has. (done.0 good has).0) renews.crash)
+  where
+    tables : (came : Came) → (IsGood old.book.register → OnOk came (new.book.register ≡ archived before old.book.register))
+        → OnOk came (KeepsTables (λ (it : Keeper K J C). kept it.keeper) old new)
+        → HasCleanDisk (kept new.store.keeper) → HasTables (kept old.store.keeper).now (tables_of old.book.register)
+        → OnOk came (HasTables (kept new.store.keeper).now (tables_of (archived before old.book.register)))
+    tables (Ok value) register keeps clean has =
+        subst (λ (Q : Register). HasTables (kept new.store.keeper).now (tables_of Q)) (register good) (keeps clean good has)
+    tables (Err cause) register keeps clean has = tt
+
+    stays : (came : Came) → OnErr came (StaysShown (kept old.store.keeper) (kept new.store.keeper)) → HasCleanDisk (kept new.store.keeper)
+        → IsTrue (kept new.store.keeper).is_open → OnErr came ((kept new.store.keeper).now ≡ (kept old.store.keeper).now)
+    stays (Ok value) shown clean is_open = tt
+    stays (Err cause) shown clean is_open = shown.now clean is_open
 
 -- ---- what did not go out whole
 

@@ -1,9 +1,11 @@
--- An update over a register that was read from a database: what is asked for, and what comes of it.
-use Rattle.std.proofs.Common.{◌≡◌, ◌≢◌, ◌⊎◌, ◌∙◌, ap, inl, inr, refl, subst, sym, ℕ, Bool, List, [], ◌∷◌, ◌++◌, Result, Ok, Err, OnOk, OnErr, IsTrue, append_assoc}
-use Rattle.std.specs.Prelude.{IfErr, IfOk, IsErrAnd, None}
+-- An update over a register that was taken up from a database: what is asked for, and what comes of it.
+use Rattle.std.proofs.Common.{◌≡◌, ◌≢◌, ◌∙◌, ap, inl, inr, refl, subst, sym, ℕ, Bool, List, [], ◌∷◌, ◌++◌, Result, Ok, Err, OnOk, OnErr, IsTrue, append_assoc, if◌then◌else◌}
+use Rattle.std.specs.Prelude.{IfErr, IfOk, IsErrAnd, None, String, string_bytes}
+use Rattle.std.specs.declared.alloc.Global.{Global}
 use Rattle.std.proofs.lemmas.List.{append-nil}
 use Rattle.sqlite.specs.Held.{Held, state}
-use Rattle.sqlite.specs.State.{HasCleanDisk, Survives}
+use Rattle.sqlite.specs.State.{HasCleanDisk, State, Survives}
+use Rattle.sqlite.proofs.StateLemmas.{survives_weaker}
 use Rattle.sqlite_trees.specs.declared.store.Store.{Ghosts}
 use Rattle.clr_net.specs.NameText.{read_name}
 use Rattle.clr_result.specs.Results.{◌>>=◌}
@@ -11,30 +13,54 @@ use Rattle.clr_rules.specs.Fit.{IsFit}
 use Rattle.clr_rules.specs.Good.{IsGood}
 use Rattle.clr_rules.specs.Register.{Register}
 use Rattle.clr_rules.specs.Staffed.{IsStaffed}
-use Rattle.clr_update.specs.Laws.{UpdatesKeepGood}
-use Rattle.clr_update.specs.Update.{IsRead, Update, after_update, in_the_way, unless_obstacle, updated}
+use Rattle.clr_update.specs.Changes.{Changes as ChangedRows, changes}
+use Rattle.clr_update.specs.Delta.{after_changes, can_be_made}
+use Rattle.clr_update.specs.DeltaLaws.{ChangesSayAll}
+use Rattle.clr_update.specs.Laws.{IsAccepted, UpdatesKeepGood}
+use Rattle.clr_update.specs.Shown.{as_changes}
+use Rattle.clr_update.specs.Update.{IsRead, Update as Changed, after_update, in_the_way, unless_obstacle, updated}
+use Rattle.clr_changes.specs.Lines.{change_lines}
+use Rattle.clr_changes.specs.Outcome.{IsOutcome}
 use Rattle.clr_changes.specs.Report.{IsReport}
+use Rattle.clr_changes.specs.declared.outcome.After.{After}
+use Rattle.clr_changes.specs.declared.outcome.Outcome.{Outcome}
+use Rattle.clr_changes.specs.declared.outcome.Outcome.TheVariants.{Accepted, InTheWay as Obstructed}
 use Rattle.clr_changes.specs.declared.report.Report.{Report}
 use Rattle.clr_changes.specs.declared.report.Report.TheVariants.{Changes, InTheWay}
+use Rattle.clr_deeds.specs.Deeds.{update}
 use Rattle.clr_tables.specs.Tables.{tables_of}
-use Rattle.clr_load.specs.Stored.{HasTables}
+use Rattle.clr_load.specs.Stored.{AreTables, HasTables}
+use Rattle.clr_load.specs.declared.fault.StoreFault.{StoreFault}
 use Rattle.clr_load.specs.declared.fault.StoreFault.TheVariants as store
-use Rattle.clr_desk.specs.Faults.{IsOfCommand}
+use Rattle.clr_journal.specs.Answered.{deed_reply, not_done}
+use Rattle.clr_journal.specs.Line.{done}
+use Rattle.clr_desk.specs.Faults.{FailsAsStore, IsOfCommand, IsOfKeeper}
+use Rattle.clr_desk.specs.Placing.{Placing}
+use Rattle.clr_desk.specs.Taking.{Came}
 use Rattle.clr_desk.specs.Updating.{AreUpdated, SavesIfAccepted}
 use Rattle.clr_desk.specs.declared.desk.Desk.{Desk}
 use Rattle.clr_desk.specs.declared.desk_fault.DeskFault.{DeskFault}
 use Rattle.clr_desk.specs.declared.desk_fault.DeskFault.TheVariants as desk
+use Rattle.clr_level.specs.Journaling.{FailsToo}
+use Rattle.clr_level.specs.Renewing.{AreDoneSafely, RenewsAt}
+use Rattle.clr_level.specs.declared.keeper.Keeper.{Keeper}
+use Rattle.clr_level.proofs.Crashes.{left_itself}
+use Rattle.clr_args.specs.declared.asked.UpdateArgs.{UpdateArgs}
 use Rattle.clr_edge.specs.Database.{IsOfLine}
-use Rattle.clr_edge.specs.Fault.{of_desk}
-use Rattle.clr_keeping.specs.Keeping.{IsNotUp, IsUp, unlogged}
+use Rattle.clr_edge.specs.Fault.{of_desk, of_store}
+use Rattle.clr_keeping.specs.Keeping.{IsLetGo, IsUpWith, StaysLevel, StaysSound}
+use Rattle.clr_keeping.specs.TakenUp.{Logs, store_place}
+use Rattle.clr_keeping.specs.declared.taking_up.Opened.TheVariants.{Logged, Plain}
+use Rattle.clr_keeping.proofs.Keeping.{worked}
 use Rattle.clr_edge.specs.Visit.{Done, Ending, Ends, Opening, Shutting, first_fault}
 use Rattle.clr_edge.specs.declared.fault.Fault.{Fault}
-use Rattle.clr_edge.specs.declared.fault.Fault.TheVariants.{Memory}
+use Rattle.clr_edge.specs.declared.fault.Fault.TheVariants.{Memory, Update}
+use Rattle.clr_update.specs.declared.obstacle.Obstacle.{Obstacle}
 use Rattle.clr_commands.specs.Faults.{IsOfSubcommand}
 use Rattle.clr_commands.specs.Fence.{argument}
 use Rattle.clr_commands.specs.Import.{FileRows}
-use Rattle.clr_commands.specs.Update.{IsDone, IsUpdated, RefusesUpdate, ReportsUpdate, Texts, UpdatesAt, names_said, text_reported, update_fault}
-use Rattle.clr_commands.proofs.Faults.{line_plain, obstacle_plain}
+use Rattle.clr_commands.specs.Update.{IsDone, IsRenewed, IsUpdated, RefusesUpdate, ReportsUpdate, Texts, UpdatesAlone, UpdatesAt, names_said, reported, text_reported, update_fault}
+use Rattle.clr_commands.proofs.Faults.{line_plain, obstacle_plain, of_desk_plain}
 use Rattle.clr_commands.proofs.PointsNamed.{names_after}
 
 -- ---- the names that words say, one by one from the left
@@ -64,102 +90,216 @@ refused-fault {U = U} rows words (Err cause) report fault is same refuses =
     subst (λ (f : Fault). f ≢ Memory → update_fault rows words ≡ Err f) (sym is) (subst (λ (it : Result U Fault). RefusesUpdate rows words it) same refuses)
 
 -- ---- what comes of it
-of_command : (cause : DeskFault) → IsOfCommand cause → IsOfLine (of_desk cause)
-of_command desk.NoMemory of = inl refl
-of_command desk.Journal of = absurd of
-of_command (desk.Store store.Sql) of = inr refl
-of_command (desk.Store (store.WrongVersion n)) of = absurd of
-of_command (desk.Store (store.BadRow table)) of = absurd of
-of_command (desk.Store store.OtherTables) of = absurd of
-of_command (desk.Store store.NoMemory) of = absurd of
 
-pub report_is : (R : Register) (u : Update) (report : Result Report DeskFault) → IfOk report (IsReport R u) → IfErr report IsOfCommand → ReportsUpdate R u (text_reported report)
-report_is R u (Ok (Changes lines)) is of = is
-report_is R u (Ok (InTheWay cause)) is of = inl (cause, refl, is)
-report_is R u (Err cause) is of = inr (of_command cause of)
+-- a fault of a desk is no obstacle
+store-no_update : (cause : StoreFault) (obstacle : Obstacle) → of_store cause ≢ Update obstacle
+store-no_update store.Sql obstacle e = cc e
+store-no_update (store.WrongVersion n) obstacle e = cc e
+store-no_update (store.BadRow table) obstacle e = cc e
+store-no_update store.OtherTables obstacle e = cc e
+store-no_update store.NoMemory obstacle e = cc e
 
-after_is : (R : Register) (u : Update) → in_the_way R u ≡ None → after_update R u ≡ updated R u
+desk-no_update : (cause : DeskFault) (obstacle : Obstacle) → of_desk cause ≢ Update obstacle
+desk-no_update desk.NoMemory obstacle e = cc e
+desk-no_update desk.Journal obstacle e = cc e
+desk-no_update (desk.Store cause) obstacle e = store-no_update cause obstacle e
+
+unrefused : (cause : DeskFault) (obstacle : Obstacle) (text : Texts) → text ≡ Err (of_desk cause) → text ≢ Err (Update obstacle)
+unrefused cause obstacle text is e = desk-no_update cause obstacle (cc (sym is ∙ e))
+
+-- what is said of it, or memory ran out
+pub report_told : (fails : DeskFault → Type 0) (R : Register) (u : Changed) (report : Report) → IsReport R u report → ReportsUpdate fails R u (text_reported (Ok report))
+report_told fails R u (Changes lines) is = is
+report_told fails R u (InTheWay cause) is = inl (cause, refl, is)
+
+pub memory_told : (fails : DeskFault → Type 0) (R : Register) (u : Changed) → ReportsUpdate fails R u (Err Memory)
+memory_told fails R u = inr (desk.NoMemory, refl, tt)
+
+-- where no keeper was called, its faults may be any
+no_keeper : (fails : DeskFault → Type 0) (cause : DeskFault) → IsOfKeeper (λ _. ⊥) cause → IsOfKeeper fails cause
+no_keeper fails (desk.Store store.Sql) of = absurd of
+no_keeper fails (desk.Store (store.WrongVersion n)) of = absurd of
+no_keeper fails (desk.Store (store.BadRow table)) of = absurd of
+no_keeper fails (desk.Store store.OtherTables) of = absurd of
+no_keeper fails (desk.Store store.NoMemory) of = absurd of
+no_keeper fails desk.Journal of = absurd of
+no_keeper fails desk.NoMemory of = tt
+
+pub tried_told : (fails : DeskFault → Type 0) (R Q : Register) (u : Changed) (report : Texts) → Q ≡ R → ReportsUpdate (λ _. ⊥) Q u report → ReportsUpdate fails R u report
+tried_told fails R Q u report same reports = subst (λ (X : Register). ReportsUpdate fails X u report) same (by report reports)
+  where
+    by : (report : Texts) → ReportsUpdate (λ _. ⊥) Q u report → ReportsUpdate fails Q u report
+    by (Ok text) reports = reports
+    by (Err fault) (inl way) = inl way
+    by (Err fault) (inr (cause, is, of)) = inr (cause, is, no_keeper fails cause of)
+
+pub report_is : (R : Register) (u : Changed) (report : Result Report DeskFault) → IfOk report (IsReport R u) → IfErr report IsOfCommand
+    → ReportsUpdate FailsAsStore R u (text_reported report)
+report_is R u (Ok report) is of = report_told FailsAsStore R u report is
+report_is R u (Err cause) is of = inr (cause, refl, of)
+
+after_is : (R : Register) (u : Changed) → in_the_way R u ≡ None → after_update R u ≡ updated R u
 after_is R u none = ap (λ o. unless_obstacle o R (updated R u)) none
 
-module _ {S : Type 0} (g : Ghosts S) (R : Register) (u : Update) (read after : Held S) where
-  pub updated_by : (report : Result Report DeskFault) → IsFit R → IsRead u → UpdatesKeepGood → IfOk report (IsReport R u)
+-- good and staffed again
+fit_after : (R : Register) (u : Changed) → IsRead u → UpdatesKeepGood → in_the_way R u ≡ None → IsFit R → IsFit (updated R u)
+fit_after R u read law none fit = (
+  subst (λ (Q : Register). IsGood Q) (after_is R u none) (law.good R u fit.0 read),
+  subst (λ (Q : Register). IsStaffed Q) (after_is R u none) (law.staffed R u fit.0 fit.1 read),
+)
+
+-- nothing was written
+pub not_updated : {K : Type 0} (kept : K → State) (R : Register) (u : Changed) (fault : Fault) (k : K) → IsUpdated kept R u (Err fault) k k
+not_updated kept R u fault k = record {
+  tables = λ clean has. tt;
+  saved = λ clean. tt;
+  fit = λ fit. tt;
+  refused = λ cause e. refl;
+  none = λ clean is_open. refl;
+  crash = left_itself (kept k) (AreUpdated (kept k).now R u);
+}
+
+module _ {S : Type 0} (g : Ghosts S) (R : Register) (u : Changed) (read after : Held S) where
+  pub updated_by : (report : Result Report DeskFault) → IsRead u → UpdatesKeepGood → IfOk report (IsReport R u)
       → (HasCleanDisk (state g after) → HasTables (state g read).now (tables_of R) → OnOk report (HasTables (state g after).now (tables_of (after_update R u))))
       → IfOk report (λ it. SavesIfAccepted g it read after)
       → (HasCleanDisk (state g after) → IsTrue (state g after).is_open → OnErr report ((state g after).now ≡ (state g read).now))
       → Survives (state g read) (state g after) (AreUpdated (state g read).now R u)
-      → IsUpdated g R u (text_reported report) read after
-  updated_by (Ok (Changes lines)) fit is_read law is tables saved none crash = record {
+      → IsUpdated (state g) R u (text_reported report) read after
+  updated_by (Ok (Changes lines)) is_read law is tables saved none crash = record {
     tables = λ clean has. subst (λ (Q : Register). HasTables (state g after).now (tables_of Q)) (after_is R u is.0) (tables clean has);
     saved = saved;
-    fit = (subst (λ (Q : Register). IsGood Q) (after_is R u is.0) (law.good R u fit.0 is_read), subst (λ (Q : Register). IsStaffed Q) (after_is R u is.0) (law.staffed R u fit.0 fit.1 is_read));
-    none = λ _ _. tt;
+    fit = fit_after R u is_read law is.0;
+    refused = λ cause e. absurd (cc e);
+    none = λ clean is_open. tt;
     crash = crash;
   }
-  updated_by (Ok (InTheWay cause)) fit is_read law is tables saved none crash = record {
-    tables = λ _ _. tt;
-    saved = λ _. tt;
-    fit = tt;
-    none = λ _ _. ap (λ (h : Held S). (state g h).now) saved;
+  updated_by (Ok (InTheWay cause)) is_read law is tables saved none crash = record {
+    tables = λ clean has. tt;
+    saved = λ clean. tt;
+    fit = λ fit. tt;
+    refused = λ obstacle e. saved;
+    none = λ clean is_open. ap (λ (h : Held S). (state g h).now) saved;
     crash = crash;
   }
-  updated_by (Err cause) fit is_read law is tables saved none crash = record {
-    tables = λ _ _. tt;
-    saved = λ _. tt;
-    fit = tt;
+  updated_by (Err cause) is_read law is tables saved none crash = record {
+    tables = λ clean has. tt;
+    saved = λ clean. tt;
+    fit = λ fit. tt;
+    refused = λ obstacle e. absurd (unrefused cause obstacle (Err (of_desk cause)) refl e);
     none = none;
     crash = crash;
   }
 
+-- ---- with a journal
+
+-- an update that nothing is in the way of is accepted, and these are its changes
+pub accepted_by : (R Q : Register) (u : Changed) (outcome : Outcome) (after : After) → Q ≡ R → outcome ≡ Accepted after → IsGood R → IsRead u
+    → IsOutcome Q u outcome → IsAccepted R u × (as_changes after.changes ≡ changes R (updated R u))
+accepted_by R Q u outcome after same is good read of =
+    let it : IsOutcome R u (Accepted after) = subst (IsOutcome R u) is (subst (λ (X : Register). IsOutcome X u outcome) same of) in
+    (record { good = good; read = read; free = it.0 }, it.1.changes)
+
+pub obstacle_told : (fails : DeskFault → Type 0) (R Q : Register) (u : Changed) (outcome : Outcome) (obstacle : Obstacle) → Q ≡ R → outcome ≡ Obstructed obstacle
+    → IsOutcome Q u outcome → ReportsUpdate fails R u (Err (Update obstacle))
+obstacle_told fails R Q u outcome obstacle same is of =
+    inl (obstacle, refl, subst (IsOutcome R u) is (subst (λ (X : Register). IsOutcome X u outcome) same of))
+
+-- changes that an update says are made
+pub can_be_done : (R : Register) (u : Changed) (of : ChangedRows) → ChangesSayAll → IsAccepted R u → of ≡ changes R (updated R u)
+    → deed_reply R (update of) ≡ done
+can_be_done R u of law accepted same =
+    ap (λ (b : Bool). if b then done else not_done) (ap (can_be_made R) same ∙ law.made R u accepted)
+
+module _ {K J C : Type 0} (kept : K → State) (has_place : Placing) (fails : DeskFault → Type 0) (shows : C → ℕ → Type 0) (text found : J → List ℕ)
+    (may_leave : J → List ℕ → Type 0) (u : Changed) (of : ChangedRows) (lines : String Global) (old new : Desk (Keeper K J C)) where
+  abbrev Q : Register
+  Q = old.book.register
+
+  abbrev below : Keeper K J C → State
+  below it = kept it.keeper
+
+  renewed_left : after_changes Q of ≡ updated Q u → in_the_way Q u ≡ None → IsGood Q
+      → Survives (below old.store) (below new.store) (AreDoneSafely kept has_place text may_leave Q old.store (update of) new.store)
+      → Survives (below old.store) (below new.store) (AreUpdated (below old.store).now Q u)
+  renewed_left is none good left =
+      survives_weaker (below old.store) (below new.store) (AreDoneSafely kept has_place text may_leave Q old.store (update of) new.store)
+      (AreUpdated (below old.store).now Q u)
+      (λ clean trees done has. (none, subst (λ (X : Register). AreTables trees (tables_of X)) is (done.0 good has).0)) left
+
+  renewed_as : (came : Came) → IsAccepted Q u → after_changes Q of ≡ updated Q u → of ≡ changes Q (updated Q u) → UpdatesKeepGood
+      → string_bytes lines ≡ change_lines of → RenewsAt kept has_place fails shows text found may_leave old new (update of) came
+      → IsRenewed kept fails old new u (reported lines came)
+  renewed_as (Ok value) accepted is same law said renews = record {
+    reports = (accepted.free, said ∙ ap change_lines same);
+    is_done = record {
+      tables = λ clean has. subst (λ (X : Register). HasTables (below new.store).now (tables_of X)) (renews.register accepted.good ∙ is) (renews.tables clean accepted.good has);
+      saved = λ clean. renews.saved clean tt;
+      fit = fit_after Q u accepted.read law accepted.free;
+      refused = λ cause e. absurd (cc e);
+      none = λ clean is_open. tt;
+      crash = renewed_left is accepted.free accepted.good renews.crash;
+    };
+  }
+  renewed_as (Err cause) accepted is same law said renews = record {
+    reports = inr (cause, refl, renews.fault);
+    is_done = record {
+      tables = λ clean has. tt;
+      saved = λ clean. tt;
+      fit = λ fit. tt;
+      refused = λ obstacle e. absurd (unrefused cause obstacle (Err (of_desk cause)) refl e);
+      none = λ clean is_open. renews.stays.now clean is_open;
+      crash = renewed_left is accepted.free accepted.good renews.crash;
+    };
+  }
+
+  pub renewed_with : (came : Came) → UpdatesKeepGood → ChangesSayAll → IsAccepted Q u → of ≡ changes Q (updated Q u)
+      → string_bytes lines ≡ change_lines of → RenewsAt kept has_place fails shows text found may_leave old new (update of) came
+      → IsRenewed kept fails old new u (reported lines came)
+  renewed_with came law says accepted same said renews =
+      renewed_as came accepted (ap (after_changes Q) same ∙ says.same Q u accepted) same law said renews
+
+-- nothing was done, and why
+pub unrenewed : {K J C : Type 0} (kept : K → State) (fails : DeskFault → Type 0) (old : Desk (Keeper K J C)) (u : Changed) (fault : Fault)
+    → ReportsUpdate (FailsToo fails) old.book.register u (Err fault) → IsRenewed kept fails old old u (Err fault)
+unrenewed {K} {J} {C} kept fails old u fault reports = record {
+  reports = reports;
+  is_done = not_updated (λ (it : Keeper K J C). kept it.keeper) old.book.register u fault old.store;
+}
+
+pub levels_alike : {K J C : Type 0} (kept : K → State) (has_place : Placing) (text : J → List ℕ) (d : Desk (Keeper K J C)) → StaysLevel kept has_place text d d
+levels_alike kept has_place text d first start good level = level
+
 -- ---- over a database
-pub answer_plain : (R : Register) (u : Update) (report : Texts) (closed : Done) (result : Texts) → ReportsUpdate R u report → IfErr closed IsOfLine → result ≡ first_fault report closed
-    → IfErr result IsOfSubcommand
-answer_plain R u report closed result reports line is = subst (λ (it : Texts). IfErr it IsOfSubcommand) (sym is) (by report closed reports line)
+pub answer_plain : (fails : DeskFault → Type 0) (R : Register) (u : Changed) (report : Texts) (closed : Done) (result : Texts) → ReportsUpdate fails R u report
+    → IfErr closed IsOfLine → result ≡ first_fault report closed → IfErr result IsOfSubcommand
+answer_plain fails R u report closed result reports line is = subst (λ (it : Texts). IfErr it IsOfSubcommand) (sym is) (by report closed reports line)
   where
-    by : (report : Texts) (closed : Done) → ReportsUpdate R u report → IfErr closed IsOfLine → IfErr (first_fault report closed) IsOfSubcommand
+    by : (report : Texts) (closed : Done) → ReportsUpdate fails R u report → IfErr closed IsOfLine → IfErr (first_fault report closed) IsOfSubcommand
     by (Ok text) (Ok value) reports line = tt
     by (Ok text) (Err fault) reports line = line_plain fault line
     by (Err fault) closed (inl (cause, is, way)) line = obstacle_plain fault cause is
-    by (Err fault) closed (inr of) line = line_plain fault of
+    by (Err fault) closed (inr (cause, is, of)) line = subst (λ (f : Fault). IsOfSubcommand f) (sym is) (of_desk_plain cause)
 
-module _ {M S : Type 0} (g : Ghosts S) (opens : Opening M S) (shuts : Shutting M) (ends : Ending M S) (path : List ℕ) (dry_run : Bool) (u : Update) where
+module _ {M J C S : Type 0} (logs : Logs M J C) (g : Ghosts S) (opens : Opening M S) (shuts : Shutting M) (ends : Ending M S) (args : UpdateArgs) (u : Changed) where
   -- the register of the database at the path was updated, or something was in the way
-  pub updated_at : (report result : Texts) (closed : Done) (old between new : M) (desk : Desk (Held S)) (store after : Held S)
-      → IsUp opens path (unlogged g) old between desk → ReportsUpdate desk.book.register u report
-      → IsDone g dry_run desk.book.register u report desk.store store → after ≡ store → Ends ends after closed between new → IfErr closed IsOfLine
-      → result ≡ first_fault report closed → UpdatesAt g opens shuts ends path dry_run u result old new
-  updated_at report result closed old between new desk store after up reports done same ended line is = inr (record {
-    before = up.before;
-    after = store;
-    closed = closed;
-    middle = up.middle;
-    later = between;
-    opened = up.opened;
-    mode = up.mode;
-    does = (
-      up.taken_up.0,
-      record {
-        report = report;
-        did = inr (record { register = desk.book.register; read = desk.store; is_read = up.taken_up.1; reports = reports; is_done = done });
-        closing = line;
-        result_is = is;
-      },
-    );
-    ended = subst (λ (h : Held S). Ends ends h closed between new) same ended;
-  })
+  pub updated_alone : (report result : Texts) (closed : Done) (old between new : M) (desk : Desk (Held S)) (store after : Held S)
+      → IsUpWith g opens args.database.now logs args.journal old between (Plain desk) → ReportsUpdate FailsAsStore desk.book.register u report
+      → IsDone (state g) args.dry_run desk.book.register u report desk.store store → after ≡ store → Ends ends after closed between new → IfErr closed IsOfLine
+      → result ≡ first_fault report closed → UpdatesAt logs g opens shuts ends args u result old new
+  updated_alone report result closed old between new desk store after up reports is_done same ended line is =
+      let left : Desk (Held S) = record { book = desk.book; store = store; faults = desk.faults } in
+      worked g opens shuts shuts ends args.database.now (Unit {0}) first_fault logs (UpdatesAlone args.dry_run u) args.journal report result old between between new
+      (Plain desk) (Plain left) closed up (refl, record { reports = reports; is_done = is_done })
+      tt (store, between, (refl, refl), subst (λ (h : Held S). Ends ends h closed between new) same ended) line is
 
-  -- or it was not read
-  pub not_updated_at : (result : Texts) (old new : M) (fault : Fault) → IsErrAnd result (λ cause. cause ≡ fault)
-      → IsNotUp opens shuts ends path (unlogged g) old new fault → UpdatesAt g opens shuts ends path dry_run u result old new
-  not_updated_at (Ok value) old new fault is not = absurd is
-  not_updated_at (Err cause) old new fault is (inl (line, shut)) = inl (fault, ap Err is, line, shut)
-  not_updated_at (Err cause) old new fault is (inr visit) = inr (record {
-    before = visit.before;
-    after = visit.after;
-    closed = visit.closed;
-    middle = visit.middle;
-    later = visit.later;
-    opened = visit.opened;
-    mode = visit.mode;
-    does = (visit.does.0.0, record { report = Err fault; did = inl visit.does.0.1; closing = visit.does.1; result_is = ap Err is });
-    ended = visit.ended;
-  })
+  -- with its journal, with which it stays level
+  pub updated_level : (report result : Texts) (closed : Done) (old between new : M) (desk left : Desk (Keeper (Held S) J C))
+      → IsUpWith g opens args.database.now logs args.journal old between (Logged desk) → ReportsUpdate (FailsToo FailsAsStore) desk.book.register u report
+      → IsDone (λ (it : Keeper (Held S) J C). state g it.keeper) args.dry_run desk.book.register u report desk.store left.store
+      → StaysLevel (state g) store_place logs.log.text desk left → StaysSound logs.log.text logs.log.found logs.log.may_leave desk left
+      → IsLetGo ends logs (Logged left) closed between new → IfErr closed IsOfLine → result ≡ first_fault report closed
+      → UpdatesAt logs g opens shuts ends args u result old new
+  updated_level report result closed old between new desk left up reports is_done level sound gone line is =
+      worked g opens shuts shuts ends args.database.now (Unit {0}) first_fault logs (UpdatesAlone args.dry_run u) args.journal report result old between between new
+      (Logged desk) (Logged left) closed up (refl, record { reports = reports; is_done = is_done }) (level, sound) gone line is

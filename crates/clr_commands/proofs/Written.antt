@@ -80,7 +80,7 @@ not_alone_other g before after fault (inl unread) e = other_as fault _ unread.re
 not_alone_other g before after fault (inr (inl unplaced)) e = other_as fault _ unplaced.lacks.fault_is (store_other unplaced.lacks.cause) e
 not_alone_other g before after fault (inr (inr missing)) e = cc (sym missing.fault_is ∙ e)
 
-not_taken_other : {M J C T : Type 0} (g : Ghosts T) (logs : Logs M J C) (path : List ℕ) (old new : M) (before after : Held T) (fault : Fault)
+pub not_taken_other : {M J C T : Type 0} (g : Ghosts T) (logs : Logs M J C) (path : List ℕ) (old new : M) (before after : Held T) (fault : Fault)
     → IsNotTakenUp g logs path before fault after old new → fault ≢ Output
 not_taken_other g logs path old new before after fault (was_refused it survives same) e = other_as fault _ it.told_is (store_other it.fault) e
 not_taken_other g logs path old new before after fault (was_unplaced it same) e = other_as fault _ it.lacks.fault_is (store_other it.lacks.cause) e

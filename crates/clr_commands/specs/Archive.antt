@@ -1,23 +1,26 @@
 -- WHAT `archive` DOES: of the register that a database has, the records that were closed before a
 -- moment go out with their steps, and then these steps leave the tables.
 use Rattle.std.specs.Prelude.{◌≡◌, ◌⊎◌, ℕ, IfErr, IsErrAnd, IsTrue, List, OnErr, OnOk}
-use Rattle.sqlite.specs.Held.{Held, state}
-use Rattle.sqlite.specs.State.{HasCleanDisk, Survives}
+use Rattle.sqlite.specs.Held.{Held}
+use Rattle.sqlite.specs.State.{HasCleanDisk, State, Survives}
 use Rattle.sqlite_trees.specs.declared.store.Store.{Ghosts}
 use Rattle.clr_archive.specs.Archive.{archived}
 use Rattle.clr_args.specs.declared.asked.ArchiveArgs.{ArchiveArgs}
 use Rattle.clr_desk.specs.Archiving.{AreArchived}
+use Rattle.clr_desk.specs.declared.commit.Commit as commit
+use Rattle.clr_desk.specs.declared.desk.Desk.{Desk}
 use Rattle.clr_load.specs.Contract.{IsSaved}
 use Rattle.clr_load.specs.Stored.{HasTables}
 use Rattle.clr_rules.specs.Register.{Register}
 use Rattle.clr_stream.specs.Streams.{IsCut, Stream, WentOut}
 use Rattle.clr_tables.specs.Tables.{tables_of}
-use Rattle.clr_edge.specs.Database.{IsOfLine}
-use Rattle.clr_keeping.specs.Keeping.{IsNotReadAlone, IsReadAlone}
-use Rattle.clr_edge.specs.Visit.{Alone, Comes, Done, Ending, Opening, Shutting, first_fault}
+use Rattle.clr_keeping.specs.Keeping.{WorksWith}
+use Rattle.clr_keeping.specs.TakenUp.{Logs}
+use Rattle.clr_edge.specs.Visit.{Comes, Done, Ending, Opening, Shutting, first_fault}
 use Rattle.clr_edge.specs.declared.fault.Fault.{Fault}
 use Rattle.clr_edge.specs.declared.fault.Fault.TheVariants.{Memory, Output}
 use Rattle.clr_commands.specs.ArchiveText.{archive_text}
+use Rattle.clr_commands.specs.Faults.{IsOfDesk}
 
 -- a text did not go out whole: a part did, and the output failed; or memory ran out before it
 abbrev pub IsUnsent : Stream → Stream → List ℕ → Fault → Type 0
@@ -26,45 +29,40 @@ IsUnsent output output' text fault = ((fault ≡ Output) × IsCut output output'
 
 -- THE STEPS OF PAST RECORDS LEFT THE TABLES of a register, in one transaction, and this is saved;
 -- or at a fault they are as they were. A crash leaves the tables before or after
-pub record TakesOut {S : Type 0} (g : Ghosts S) (before : ℕ) (R : Register) (told : Done)
-    (read after : Held S) : Type 0 where
-  pub taken : HasCleanDisk (state g after) → HasTables (state g read).now (tables_of R)
-      → OnOk told (HasTables (state g after).now (tables_of (archived before R)))
-  pub saved : HasCleanDisk (state g after) → OnOk told (IsSaved (state g after))
-  pub none : HasCleanDisk (state g after) → IsTrue (state g after).is_open
-      → OnErr told ((state g after).now ≡ (state g read).now)
-  pub crash : Survives (state g read) (state g after) (AreArchived (state g read).now before R)
+pub record TakesOut {K : Type 0} (kept : K → State) (before : ℕ) (R : Register) (told : Done)
+    (read after : K) : Type 0 where
+  pub taken : HasCleanDisk (kept after) → HasTables (kept read).now (tables_of R)
+      → OnOk told (HasTables (kept after).now (tables_of (archived before R)))
+  pub saved : HasCleanDisk (kept after) → OnOk told (IsSaved (kept after))
+  pub none : HasCleanDisk (kept after) → IsTrue (kept after).is_open
+      → OnErr told ((kept after).now ≡ (kept read).now)
+  pub crash : Survives (kept read) (kept after) (AreArchived (kept read).now before R)
 
 -- EACH STEP IS IN THE OUTPUT, OR IN THE TABLES, OR IN BOTH: all went out and was flushed where any
--- step may have left the tables, and the database is as it was read where not all went out
-abbrev pub IsArchived : {S : Type 0} → Ghosts S → ℕ → Stream → Stream → Register → Done → Held S
-    → Held S → Type 0
-IsArchived g before output output' R told read after =
-    (WentOut output output' (archive_text before R) × TakesOut g before R told read after
-    × IfErr told IsOfLine)
+-- step may have left the tables, and these are as they were read where not all went out
+abbrev pub IsArchived : {K : Type 0} → commit.Ghosts K → ℕ → Stream → Stream → Register → Done → K
+    → K → Type 0
+IsArchived keeper before output output' R told read after =
+    (WentOut output output' (archive_text before R)
+    × TakesOut keeper.kept before R told read after × IfErr told (IsOfDesk keeper.fails))
     ⊎ ((after ≡ read) × IsErrAnd told (IsUnsent output output' (archive_text before R)))
 
--- the register that was read from a database is archived
-pub record Archives {S : Type 0} (g : Ghosts S) (args : ArchiveArgs) (output output' : Stream)
-    (told : Done) (before after : Held S) : Type 0 where
-  pub register : Register
-  pub read : Held S
-  pub is_read : IsReadAlone g before read register
-  pub archived : IsArchived g args.before output output' register told read after
+-- the same of the register of a desk, with no step of the machine
+abbrev pub ArchivesAlone : {M : Type 0} → ℕ → Stream → Stream → (K : Type 0) → commit.Ghosts K
+    → Done → M → M → Desk K → Desk K → Type 0
+ArchivesAlone before output output' K keeper told old new taken left = (new ≡ old)
+    × IsArchived keeper before output output' taken.book.register told taken.store left.store
 
--- the same, unless it was not read, and then nothing went out. The database is closed after it, and
--- the first fault is the result
-pub record ArchivesOver {S : Type 0} (g : Ghosts S) (args : ArchiveArgs) (output output' : Stream)
-    (result : Done) (before after : Held S) (closed : Done) : Type 0 where
-  pub told : Done
-  pub did : (IsErrAnd told (λ fault. IsNotReadAlone g before fault after) × (output' ≡ output))
-      ⊎ Archives g args output output' told before after
-  pub closing : IfErr closed IsOfLine
-  pub result_is : result ≡ first_fault told closed
+-- with a journal or without one: the register is taken up, archived and let go, and the database
+-- closed. Where it was not taken up nothing went out. The first fault is the result
+abbrev pub ArchivesOver : {M J C S : Type 0} → Logs M J C → Ghosts S → ArchiveArgs → Stream
+    → Stream → Done → M → Held S → Held S → Done → M → Type 0
+ArchivesOver logs g args output output' = WorksWith logs g args.journal (output' ≡ output)
+    (ArchivesAlone args.before output output') first_fault
 
 -- over the database at a path; where that was not opened, nothing went out
-abbrev pub ArchivesAt : {M S : Type 0} → Ghosts S → Opening M S → Shutting M → Ending M S
-    → ArchiveArgs → Stream → Stream → Done → M → M → Type 0
-ArchivesAt g opens shuts ends args output output' = Comes opens
-    (λ old path fault new. shuts old path fault new × (output' ≡ output)) ends args.database.now
-    (Alone (ArchivesOver g args output output'))
+abbrev pub ArchivesAt : {M J C S : Type 0} → Logs M J C → Ghosts S → Opening M S → Shutting M
+    → Ending M S → ArchiveArgs → Stream → Stream → Done → M → M → Type 0
+ArchivesAt logs g opens shuts ends args output output' =
+    Comes opens (λ old path fault new. shuts old path fault new × (output' ≡ output)) ends
+    args.database.now (ArchivesOver logs g args output output')

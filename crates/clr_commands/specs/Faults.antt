@@ -1,5 +1,10 @@
 -- Which faults a subcommand may answer.
-use Rattle.std.specs.Prelude.{◌≢◌, IfSome, Result, Ok, Err}
+use Rattle.std.specs.Prelude.{◌≡◌, ◌≢◌, IfSome, Result, Ok, Err}
+use Rattle.clr_desk.specs.Faults.{IsOfKeeper}
+use Rattle.clr_desk.specs.Taking.{Came}
+use Rattle.clr_desk.specs.declared.desk_fault.DeskFault.{DeskFault}
+use Rattle.clr_edge.specs.Fault.{of_desk}
+use Rattle.clr_edge.specs.Visit.{Done}
 use Rattle.clr_edge.specs.declared.fault.Fault.{Fault}
 use Rattle.clr_edge.specs.declared.fault.Fault.TheVariants.{Accept, Listen, Output, SameFile}
 use Rattle.clr_edge.specs.declared.fault.ImportFile.{ImportFile}
@@ -16,3 +21,12 @@ IsOfSubcommand fault = (fault ≢ Output) × (fault ≢ Listen) × (fault ≢ Ac
 abbrev pub FailsAsSubcommand : Result Printed Fault → Type 0
 FailsAsSubcommand (Ok printed) = IfSome printed.fault IsOfSubcommand
 FailsAsSubcommand (Err fault) = IsOfSubcommand fault
+
+-- what keeps a register's tables failed so, or memory ran out
+abbrev pub IsOfDesk : (DeskFault → Type 0) → Fault → Type 0
+IsOfDesk fails fault = (cause : DeskFault) × (fault ≡ of_desk cause) × IsOfKeeper fails cause
+
+-- what came of a call of a desk
+abbrev pub done_of : Came → Done
+done_of (Ok value) = Ok value
+done_of (Err cause) = Err (of_desk cause)

@@ -1,11 +1,11 @@
 -- WHAT `update` DOES: network and staff of the register that a database has become those of three
 -- files, unless something is in the way; and what it prints.
-use Rattle.std.specs.Prelude.{◌≡◌, ◌≢◌, ◌⊎◌, ℕ, Bool, true, false, IfErr, IsErrAnd, IsTrue}
+use Rattle.std.specs.Prelude.{◌≡◌, ◌≢◌, ◌⊎◌, ℕ, Bool, true, false, IsErrAnd, IsTrue}
 use Rattle.std.specs.Prelude.{List, [], ◌∷◌, map, None, OnErr, OnOk, Result, Ok, Err, Some, String}
 use Rattle.std.specs.Prelude.{string_bytes}
 use Rattle.std.specs.declared.alloc.Global.{Global}
-use Rattle.sqlite.specs.Held.{Held, state}
-use Rattle.sqlite.specs.State.{HasCleanDisk, Survives}
+use Rattle.sqlite.specs.Held.{Held}
+use Rattle.sqlite.specs.State.{HasCleanDisk, State, Survives}
 use Rattle.sqlite_trees.specs.declared.store.Store.{Ghosts}
 use Rattle.clr_net.specs.NameText.{read_name}
 use Rattle.clr_net.specs.Network as network
@@ -23,14 +23,19 @@ use Rattle.clr_tables.specs.Tables.{tables_of}
 use Rattle.clr_load.specs.Contract.{IsSaved}
 use Rattle.clr_load.specs.Stored.{HasTables}
 use Rattle.clr_desk.specs.Updating.{AreUpdated}
+use Rattle.clr_desk.specs.declared.commit.Commit as commit
+use Rattle.clr_desk.specs.declared.desk.Desk.{Desk}
 use Rattle.clr_desk.specs.declared.desk_fault.DeskFault.{DeskFault}
 use Rattle.clr_args.specs.declared.asked.UpdateArgs.{UpdateArgs}
-use Rattle.clr_edge.specs.Database.{IsOfLine}
+use Rattle.clr_level.specs.Journaling.{FailsToo}
+use Rattle.clr_level.specs.declared.keeper.Keeper.{Keeper}
 use Rattle.clr_edge.specs.Fault.{of_desk}
-use Rattle.clr_keeping.specs.Keeping.{IsNotReadAlone, IsReadAlone}
-use Rattle.clr_edge.specs.Visit.{Alone, Comes, Done, Ending, Opening, Shutting, first_fault}
+use Rattle.clr_keeping.specs.Keeping.{WorksWith}
+use Rattle.clr_keeping.specs.TakenUp.{Logs}
+use Rattle.clr_edge.specs.Visit.{Comes, Done, Ending, Opening, Shutting, first_fault}
 use Rattle.clr_edge.specs.declared.fault.Fault.{Fault}
 use Rattle.clr_edge.specs.declared.fault.Fault.TheVariants.{Memory, Update as InTheWay}
+use Rattle.clr_commands.specs.Faults.{IsOfDesk}
 use Rattle.clr_commands.specs.Fence.{argument}
 use Rattle.clr_commands.specs.Import.{AnswersFiles, FileRows}
 use Rattle.clr_edge.specs.Paths.{AtPaths}
@@ -61,13 +66,14 @@ pub record IsUpdateTo (rows : FileRows) (words : List (List ℕ)) (u : Update) :
 abbrev pub Texts : Type 0
 Texts = Result (String Global) Fault
 
--- the lines of what changes, or the first obstacle; or the database refused or failed, or memory
--- ran out
-abbrev pub ReportsUpdate : Register → Update → Texts → Type 0
-ReportsUpdate R u (Ok text) = (in_the_way R u ≡ None)
+-- the lines of what changes, or the first obstacle; or what keeps the tables failed, or memory ran
+-- out
+abbrev pub ReportsUpdate : (DeskFault → Type 0) → Register → Update → Texts → Type 0
+ReportsUpdate fails R u (Ok text) = (in_the_way R u ≡ None)
     × (string_bytes text ≡ change_lines (changes R (updated R u)))
-ReportsUpdate R u (Err fault) = ((cause : Obstacle) × (fault ≡ InTheWay cause) × (in_the_way R u ≡ Some cause))
-    ⊎ IsOfLine fault
+ReportsUpdate fails R u (Err fault) =
+    ((cause : Obstacle) × (fault ≡ InTheWay cause) × (in_the_way R u ≡ Some cause))
+    ⊎ IsOfDesk fails fault
 
 -- what is printed of it
 abbrev pub text_reported : Result Report DeskFault → Texts
@@ -75,42 +81,54 @@ text_reported (Ok (Changes lines)) = Ok lines
 text_reported (Ok (Obstructed cause)) = Err (InTheWay cause)
 text_reported (Err cause) = Err (of_desk cause)
 
+abbrev pub reported : String Global → Result (Unit {0}) DeskFault → Texts
+reported lines (Ok value) = Ok lines
+reported lines (Err cause) = Err (of_desk cause)
+
 -- THE REGISTER IS UPDATED in the tables, in one transaction, and this is saved; at a fault they are
--- as they were. Then it is good and staffed again. A crash leaves the tables before or after
-pub record IsUpdated {S : Type 0} (g : Ghosts S) (R : Register) (u : Update) (report : Texts)
-    (read after : Held S) : Type 0 where
-  pub tables : HasCleanDisk (state g after) → HasTables (state g read).now (tables_of R)
-      → OnOk report (HasTables (state g after).now (tables_of (updated R u)))
-  pub saved : HasCleanDisk (state g after) → OnOk report (IsSaved (state g after))
-  pub fit : OnOk report (IsFit (updated R u))
-  pub none : HasCleanDisk (state g after) → IsTrue (state g after).is_open
-      → OnErr report ((state g after).now ≡ (state g read).now)
-  pub crash : Survives (state g read) (state g after) (AreUpdated (state g read).now R u)
+-- as they were. Then it is good and staffed again. Where something is in the way nothing is written.
+-- A crash leaves the tables before or after
+pub record IsUpdated {K : Type 0} (kept : K → State) (R : Register) (u : Update) (report : Texts)
+    (read after : K) : Type 0 where
+  pub tables : HasCleanDisk (kept after) → HasTables (kept read).now (tables_of R)
+      → OnOk report (HasTables (kept after).now (tables_of (updated R u)))
+  pub saved : HasCleanDisk (kept after) → OnOk report (IsSaved (kept after))
+  pub fit : IsFit R → OnOk report (IsFit (updated R u))
+  pub refused : (cause : Obstacle) → report ≡ Err (InTheWay cause) → after ≡ read
+  pub none : HasCleanDisk (kept after) → IsTrue (kept after).is_open
+      → OnErr report ((kept after).now ≡ (kept read).now)
+  pub crash : Survives (kept read) (kept after) (AreUpdated (kept read).now R u)
 
--- in a dry run nothing is written
-abbrev pub IsDone : {S : Type 0} → Ghosts S → Bool → Register → Update → Texts → Held S → Held S
-    → Type 0
-IsDone g true R u report read after = after ≡ read
-IsDone g false R u report read after = IsUpdated g R u report read after
+-- the same over a desk with a journal
+pub record IsRenewed {K J C : Type 0} (kept : K → State) (fails : DeskFault → Type 0)
+    (taken left : Desk (Keeper K J C)) (u : Update) (report : Texts) : Type 0 where
+  pub reports : ReportsUpdate (FailsToo fails) taken.book.register u report
+  pub is_done : IsUpdated (λ (it : Keeper K J C). kept it.keeper) taken.book.register u report
+      taken.store left.store
 
--- what came of an update of the register that was read from a database
-pub record Updates {S : Type 0} (g : Ghosts S) (dry_run : Bool) (u : Update) (report : Texts)
-    (before after : Held S) : Type 0 where
-  pub register : Register
-  pub read : Held S
-  pub is_read : IsReadAlone g before read register
-  pub reports : ReportsUpdate register u report
-  pub is_done : IsDone g dry_run register u report read after
+-- WHAT AN UPDATE DOES OVER A DESK: it updates its register, unless something is in the way. In a dry
+-- run nothing is written
+abbrev pub IsDone : {K : Type 0} → (K → State) → Bool → Register → Update → Texts → K → K → Type 0
+IsDone kept true R u report read after = after ≡ read
+IsDone kept false R u report read after = IsUpdated kept R u report read after
 
--- the same, unless it was not read. The database is closed after it, and the first fault is the
--- result
-pub record UpdatesOver {S : Type 0} (g : Ghosts S) (dry_run : Bool) (u : Update) (result : Texts)
-    (before after : Held S) (closed : Done) : Type 0 where
-  pub report : Texts
-  pub did : IsErrAnd report (λ fault. IsNotReadAlone g before fault after)
-      ⊎ Updates g dry_run u report before after
-  pub closing : IfErr closed IsOfLine
-  pub result_is : result ≡ first_fault report closed
+pub record UpdatesDesk {K : Type 0} (keeper : commit.Ghosts K) (dry_run : Bool) (u : Update)
+    (report : Texts) (taken left : Desk K) : Type 0 where
+  pub reports : ReportsUpdate keeper.fails taken.book.register u report
+  pub is_done : IsDone keeper.kept dry_run taken.book.register u report taken.store left.store
+
+-- the same, with no step of the machine
+abbrev pub UpdatesAlone : {M : Type 0} → Bool → Update → (K : Type 0) → commit.Ghosts K → Texts
+    → M → M → Desk K → Desk K → Type 0
+UpdatesAlone dry_run u K keeper report old new taken left =
+    (new ≡ old) × UpdatesDesk keeper dry_run u report taken left
+
+-- with a journal or without one: the register is taken up, updated and let go, and the database
+-- closed. The first fault is the result
+abbrev pub UpdatesOver : {M J C S : Type 0} → Logs M J C → Ghosts S → UpdateArgs → Update → Texts
+    → M → Held S → Held S → Done → M → Type 0
+UpdatesOver logs g args u =
+    WorksWith logs g args.journal (Unit {0}) (UpdatesAlone args.dry_run u) first_fault
 
 -- rows and words say no update, or memory ran out, and nothing was opened
 abbrev pub RefusesUpdate : {T : Type 0} → FileRows → List (List ℕ) → Result T Fault → Type 0
@@ -124,15 +142,15 @@ UpdatesTo Comes rows words old new result = (RefusesUpdate rows words result × 
     ⊎ ((u : Update) × IsUpdateTo rows words u × Comes u result old new)
 
 -- over the database at a path
-abbrev pub UpdatesAt : {M S : Type 0} → Ghosts S → Opening M S → Shutting M → Ending M S
-    → List ℕ → Bool → Update → Texts → M → M → Type 0
-UpdatesAt g opens shuts ends path dry_run u =
-    Comes opens shuts ends path (Alone (UpdatesOver g dry_run u))
+abbrev pub UpdatesAt : {M J C S : Type 0} → Logs M J C → Ghosts S → Opening M S → Shutting M
+    → Ending M S → UpdateArgs → Update → Texts → M → M → Type 0
+UpdatesAt logs g opens shuts ends args u =
+    Comes opens shuts ends args.database.now (UpdatesOver logs g args u)
 
 -- the same of the files at their paths
-abbrev pub UpdatesFiles : {M S : Type 0} → AtPaths → Ghosts S → Opening M S → Shutting M
-    → Ending M S → UpdateArgs → Texts → M → M → Type 0
-UpdatesFiles at g opens shuts ends args result old new =
+abbrev pub UpdatesFiles : {M J C S : Type 0} → AtPaths → Logs M J C → Ghosts S → Opening M S
+    → Shutting M → Ending M S → UpdateArgs → Texts → M → M → Type 0
+UpdatesFiles at logs g opens shuts ends args result old new =
     AnswersFiles at args.files (new ≡ old) (λ rows result.
-    UpdatesTo (UpdatesAt g opens shuts ends args.database.now args.dry_run) rows
+    UpdatesTo (UpdatesAt logs g opens shuts ends args) rows
     (map (λ word. word.now) args.without.items) old new result) result

@@ -1,38 +1,57 @@
 //! The subcommand `update`: network and staff of a register become those of three files.
 ghost use Rattle.std.specs.Prelude.{◌≡◌, IfErr, IfOk, OnErr, map};
+ghost use Rattle.sqlite.specs.Held.{state};
 ghost use Rattle.clr_net.specs.NameText.{read_name};
+ghost use Rattle.clr_rules.specs.Good.{IsGood};
+ghost use Rattle.clr_update.specs.Changes.{changes as changes_of};
+ghost use Rattle.clr_update.specs.Laws.{IsAccepted};
+ghost use Rattle.clr_update.specs.Shown.{as_changes};
+ghost use Rattle.clr_update.specs.Update.{Update as AnyUpdate, updated};
 ghost use Rattle.clr_changes.specs.Shown.{as_update};
-ghost use Rattle.clr_rules.specs.Fit.{IsFit};
+ghost use Rattle.clr_deeds.specs.Deeds.{update as update_by};
+ghost use Rattle.clr_journal.specs.Answered.{deed_reply};
+ghost use Rattle.clr_journal.specs.Line.{done};
+ghost use Rattle.clr_desk.specs.Faults.{FailsAsStore};
+ghost use Rattle.clr_level.specs.Journaling.{FailsToo};
 ghost use Rattle.clr_commands.specs.Answers.{Gives, IsMemory};
 ghost use Rattle.clr_commands.specs.Faults.{IsOfSubcommand};
 ghost use Rattle.clr_commands.specs.Fence.{argument};
 ghost use Rattle.clr_commands.specs.Import.{lists_of};
 ghost use Rattle.clr_edge.specs.Paths.{at_paths};
-ghost use Rattle.clr_commands.specs.Update.{IsDone, IsUpdateTo, IsUpdated, RefusesUpdate};
-ghost use Rattle.clr_commands.specs.Update.{ReportsUpdate, UpdatesAt, UpdatesFiles, UpdatesTo};
-ghost use Rattle.clr_commands.specs.Update.{names_said, text_reported};
+ghost use Rattle.clr_commands.specs.Update.{IsDone, IsRenewed, IsUpdateTo, IsUpdated};
+ghost use Rattle.clr_commands.specs.Update.{RefusesUpdate, ReportsUpdate, UpdatesAt, UpdatesFiles};
+ghost use Rattle.clr_commands.specs.Update.{UpdatesTo, names_said, reported, text_reported};
+ghost use Rattle.clr_keeping.specs.Keeping.{StaysLevel, StaysSound};
+ghost use Rattle.clr_keeping.specs.TakenUp.{logs};
 
 use crate::import::{Rows, rows_at};
 use clr_args::asked::UpdateArgs;
-use clr_changes::{Report, Update, report_of};
-use clr_desk::{Desk, DeskBook, DeskFault};
+use clr_chain::Clock;
+use clr_changes::{After, Outcome, Report, Update, outcome_of, print_changes, report_of};
+use clr_deeds::Deed;
+use clr_desk::{Commit, CommitAt, Desk, DeskBook, DeskFault};
 use clr_edge::database::{Databases, close, first_fault};
 use clr_edge::fault::Fault;
+use clr_edge::journals::Journals;
 use clr_edge::paths::Opens;
-use clr_keeping::taking_up::unlogged_desk;
+use clr_journal::Journal;
+use clr_keeping::taking_up::{Opened, let_go, take_up};
+use clr_level::{Keeper, renew};
 use clr_net::{Name, Network};
 use clr_staff::Staff;
 use clr_store::Store;
-use clr_update::laws::updates_keep_good;
+use clr_update::Changes;
+use clr_update::laws::{changes_say_all, updates_keep_good};
 use sqlite::Alter;
 use std::alloc::{AllocError, Global};
 
-/// What `update DB SECTIONS POINTS STAFF [--dry-run] [--without JUMPER]...` prints: what changes, a
-/// line each, once it is in the tables; with `--dry-run` nothing is written. The database is opened
-/// after the files were read.
+/// What `update DB SECTIONS POINTS STAFF [--journal FILE] [--dry-run] [--without JUMPER]...` prints:
+/// what changes, a line each, once it is in the tables; with `--dry-run` nothing is written. The
+/// database is opened after the files were read. With a journal the changes are a line of it, which
+/// is durable before they are in the tables.
 ///
 /// `Update` names what is in the way.
-pub fn update<'a, R: Databases, O: Opens<'a>>(
+pub fn update<'a, R: Databases + Journals, O: Opens<'a>>(
     alloc: Global,
     rt: &mut R,
     paths: &O,
@@ -40,29 +59,28 @@ pub fn update<'a, R: Databases, O: Opens<'a>>(
 ) -> Result<String, Fault>
     ensures visit { UpdatesFiles
         (at_paths O.File.remaining O.File.failure_count (O.bytes_at paths.now))
-        R.Tables.Store R.opens R.shuts R.ends args.now result rt.old rt.new }
+        (logs R.Journals R.Log.Journal R.Time.shows) R.Tables.Store R.opens R.shuts R.ends
+        args.now result rt.old rt.new }
     ensures faults { IfErr result IsOfSubcommand }
 {
     let rows = rows_at(alloc, paths, &args.files)?;
-    let words = args.without.as_slice();
-    update_to_rows(alloc, rt, rows, words, args.database, args.dry_run)
+    update_to_rows(alloc, rt, rows, args)
 }
 
 /// The same, once the files are read.
-fn update_to_rows<R: Databases>(
+fn update_to_rows<R: Databases + Journals>(
     alloc: Global,
     rt: &mut R,
     rows: Rows,
-    without: &[&str],
-    path: &str,
-    dry_run: bool,
+    args: &UpdateArgs<'_>,
 ) -> Result<String, Fault>
-    ensures visit { UpdatesTo (UpdatesAt R.Tables.Store R.opens R.shuts R.ends path.now dry_run)
-        (lists_of rows) (map (λ word. word.now) without.now) rt.old rt.new result }
+    ensures visit { UpdatesTo (UpdatesAt (logs R.Journals R.Log.Journal R.Time.shows)
+        R.Tables.Store R.opens R.shuts R.ends args.now) (lists_of rows)
+        (map (λ word. word.now) args.now.without.items) rt.old rt.new result }
     ensures faults { IfErr result IsOfSubcommand }
 {
-    let update = update_to(alloc, rows, without)?;
-    update_register(alloc, rt, path, update, dry_run)
+    let update = update_to(alloc, rows, args.without.as_slice())?;
+    update_register(alloc, rt, args, update)
 }
 
 /// The update to the network and the staff of these rows, without the jumpers that words name.
@@ -105,22 +123,30 @@ fn name_said(word: &str) -> Result<Name, Fault>
     Ok(name)
 }
 
-/// Updates the register of the database at a path, which is closed after it.
-fn update_register<R: Databases>(
+/// Updates the register of a database, which is closed after it.
+fn update_register<R: Databases + Journals>(
     alloc: Global,
     rt: &mut R,
-    path: &str,
+    args: &UpdateArgs<'_>,
     update: Update,
-    dry_run: bool,
 ) -> Result<String, Fault>
-    ensures visit { UpdatesAt R.Tables.Store R.opens R.shuts R.ends path.now dry_run
-        (as_update update) result rt.old rt.new }
+    ensures visit { UpdatesAt (logs R.Journals R.Log.Journal R.Time.shows)
+        R.Tables.Store R.opens R.shuts R.ends args.now (as_update update) result rt.old rt.new }
     ensures faults { IfErr result IsOfSubcommand }
 {
-    let desk = unlogged_desk(alloc, rt, path)?;
-    let (report, store) = update_desk(alloc, desk, update, dry_run);
-    let closed = close(rt, store.end());
-    first_fault(report, closed)
+    let opened = take_up(alloc, rt, args.database, args.journal)?;
+    match opened {
+        Opened::Plain(desk) => {
+            let (report, store) = update_desk(alloc, desk, update, args.dry_run);
+            let closed = close(rt, store.end());
+            first_fault(report, closed)
+        }
+        Opened::Logged(desk) => {
+            let (report, desk) = renew_desk(alloc, desk, update, args.dry_run);
+            let closed = let_go(rt, Opened::Logged(desk));
+            first_fault(report, closed)
+        }
+    }
 }
 
 /// Ends a desk, with what comes of an update of its register.
@@ -130,9 +156,8 @@ fn update_desk<S: Alter + Drop>(
     update: Update,
     dry_run: bool,
 ) -> (Result<String, Fault>, Store<S>)
-    requires { IsFit desk.book.register }
-    ensures reports { ReportsUpdate desk.book.register (as_update update) result.0 }
-    ensures done { IsDone S.Store dry_run desk.book.register (as_update update) result.0
+    ensures reports { ReportsUpdate FailsAsStore desk.book.register (as_update update) result.0 }
+    ensures done { IsDone (state S.Store) dry_run desk.book.register (as_update update) result.0
         desk.store result.1 }
 {
     if dry_run {
@@ -144,7 +169,7 @@ fn update_desk<S: Alter + Drop>(
 
 /// What an update of a book would change.
 fn try_update(alloc: Global, book: &DeskBook, update: Update) -> Result<String, Fault>
-    ensures { ReportsUpdate book.now.register (as_update update) result }
+    ensures { ReportsUpdate (λ _. ⊥) book.now.register (as_update update) result }
 {
     match report_of(alloc, book, update) {
         Ok(report) => text_of(Ok(report)),
@@ -158,9 +183,8 @@ fn make_update<S: Alter + Drop>(
     desk: Desk<Store<S>>,
     update: Update,
 ) -> (Result<String, Fault>, Store<S>)
-    requires { IsFit desk.book.register }
-    ensures reports { ReportsUpdate desk.book.register (as_update update) result.0 }
-    ensures updated { IsUpdated S.Store desk.book.register (as_update update) result.0
+    ensures reports { ReportsUpdate FailsAsStore desk.book.register (as_update update) result.0 }
+    ensures updated { IsUpdated (state S.Store) desk.book.register (as_update update) result.0
         desk.store result.1 }
 {
     update.is_read();
@@ -176,6 +200,90 @@ fn text_of(report: Result<Report, DeskFault>) -> Result<String, Fault>
     match report {
         Ok(Report::Changes(lines)) => Ok(lines),
         Ok(Report::InTheWay(obstacle)) => Err(Fault::Update(obstacle)),
+        Err(fault) => Err(Fault::from(fault)),
+    }
+}
+
+/// What comes of an update of the register of a desk with a journal. A fault after its line may
+/// leave the keeper in doubt: then the next opening carries the changes out, if the register lacks
+/// them.
+fn renew_desk<K: CommitAt, J: Journal + Drop, C: Clock>(
+    alloc: Global,
+    desk: Desk<Keeper<K, J, C>>,
+    update: Update,
+    dry_run: bool,
+) -> (Result<String, Fault>, Desk<Keeper<K, J, C>>)
+    requires { IsGood desk.book.register }
+    ensures reports { ReportsUpdate (FailsToo K.fails) desk.book.register (as_update update)
+        result.0 }
+    ensures done { IsDone (⟦<Keeper<K, J, C> as Commit>⟧.kept) dry_run desk.book.register
+        (as_update update) result.0 desk.store result.1.store }
+    ensures level { StaysLevel K.kept K.has_place J.text desk result.1 }
+    ensures sound { StaysSound J.text J.found J.may_leave desk result.1 }
+{
+    if dry_run {
+        (try_update(alloc, desk.book(), update), desk)
+    } else {
+        renew_unless(alloc, desk, update)
+    }
+}
+
+/// The same where it is no dry run.
+fn renew_unless<K: CommitAt, J: Journal + Drop, C: Clock>(
+    alloc: Global,
+    desk: Desk<Keeper<K, J, C>>,
+    update: Update,
+) -> (Result<String, Fault>, Desk<Keeper<K, J, C>>)
+    requires { IsGood desk.book.register }
+    ensures renewed { IsRenewed K.kept K.fails desk result.1 (as_update update) result.0 }
+    ensures level { StaysLevel K.kept K.has_place J.text desk result.1 }
+    ensures sound { StaysSound J.text J.found J.may_leave desk result.1 }
+{
+    update.is_read();
+    changes_say_all();
+    match outcome_of(alloc, desk.book(), update) {
+        Ok(outcome) => match outcome {
+            Outcome::InTheWay(obstacle) => (Err(Fault::Update(obstacle)), desk),
+            Outcome::Accepted(after) => {
+                let After { changes, .. } = after;
+                renew_by(alloc, desk, changes)
+            }
+        },
+        Err(AllocError) => (Err(Fault::Memory), desk),
+    }
+}
+
+/// Makes changes that can be made in the register of a desk with a journal. They are those of an
+/// update, whichever it is.
+fn renew_by<K: CommitAt, J: Journal + Drop, C: Clock>(
+    alloc: Global,
+    desk: Desk<Keeper<K, J, C>>,
+    changes: Changes,
+) -> (Result<String, Fault>, Desk<Keeper<K, J, C>>)
+    requires { deed_reply desk.book.register (update_by (as_changes changes)) ≡ done }
+    ensures renewed { (u : AnyUpdate) → IsAccepted desk.book.register u
+        → as_changes changes ≡ changes_of desk.book.register (updated desk.book.register u)
+        → IsRenewed K.kept K.fails desk result.1 u result.0 }
+    ensures level { StaysLevel K.kept K.has_place J.text desk result.1 }
+    ensures sound { StaysSound J.text J.found J.may_leave desk result.1 }
+{
+    updates_keep_good();
+    changes_say_all();
+    match print_changes(alloc, &changes) {
+        Ok(lines) => {
+            let (came, desk) = renew(alloc, desk, Deed::Update(changes));
+            (reported(lines, came), desk)
+        }
+        Err(AllocError) => (Err(Fault::Memory), desk),
+    }
+}
+
+/// The lines of what changed, or the fault.
+fn reported(lines: String, came: Result<(), DeskFault>) -> Result<String, Fault>
+    ensures { result ≡ reported lines came }
+{
+    match came {
+        Ok(()) => Ok(lines),
         Err(fault) => Err(Fault::from(fault)),
     }
 }

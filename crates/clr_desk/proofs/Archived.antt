@@ -13,11 +13,12 @@ use Rattle.clr_rules.specs.StepKey.{same_step_key, step_key, step_key_cmp, step_
 use Rattle.clr_rules.specs.declared.step_row.StepKey.{StepKey}
 use Rattle.clr_rules.specs.declared.step_row.StepRow.{StepRow}
 use Rattle.clr_shelf.proofs.Keys.{equal}
-use Rattle.clr_shelf.proofs.Lists.{Contains-here, Contains-later}
+use Rattle.clr_shelf.proofs.Lists.{Contains-here, Contains-later, list_all-filter}
 use Rattle.clr_shelf.specs.Rows.{without_row}
 use Rattle.clr_tables.proofs.TableKeys.{map-without_row, step_row_cmp}
 use Rattle.clr_tables.specs.Tables.{step_row, tables_of}
 use Rattle.clr_archive.specs.Archive.{archived, gives_up, steps_that_go}
+use Rattle.clr_tables.specs.TypedRows.{IsTyped, is_typed_step}
 use Rattle.clr_store.specs.StepsTaken.{step_key_values, without_step, without_steps}
 
 -- ---- steps taken one after the other
@@ -84,3 +85,14 @@ module _ (before : ℕ) (R : Register) where
 
   pub tables_archived : without_steps (map step_key (steps_that_go before R)) (tables_of R) ≡ tables_of (archived before R)
   tables_archived = tables_taken (steps_that_go before R) R ∙ (λ i. tables_of (record R { steps = steps_left i }))
+
+pub typed_archived : (before : ℕ) (R : Register) → IsTyped R → IsTyped (archived before R)
+typed_archived before R typed = record {
+  sections = typed.sections;
+  points = typed.points;
+  states = typed.states;
+  staff = typed.staff;
+  records = typed.records;
+  steps = list_all-filter is_typed_step (λ (row : StepRow). not (gives_up before R row.id)) R.steps typed.steps;
+  holds = typed.holds;
+}

@@ -71,7 +71,7 @@ module _ {Key Row : Type 0} (compare : Key → Key → Ordering) (key_of : Row �
       ap (put_all compare key_of rows) (with_row-after compare key_of order row first front (less (compare (key_of first) (key_of row)) parts.0))
       ∙ put_behind first rows (with_row compare key_of row front) parts.1
 
-  put_into_none : (rows : List Row) → in_key_order compare key_of rows ≡ true → put_all compare key_of rows [] ≡ rows
+  pub put_into_none : (rows : List Row) → in_key_order compare key_of rows ≡ true → put_all compare key_of rows [] ≡ rows
   unfolding put_all with_row
   put_into_none [] ordered = refl
   put_into_none (row ∷ rows) ordered =

@@ -1,6 +1,7 @@
 pub mod Filling
 pub mod Shelved
 pub mod Filled
+pub mod InStates
 pub mod TypedRegisters
 pub mod RowsOpened
 pub mod OneCommand
@@ -16,3 +17,4 @@ pub mod KeptNowhere
 pub mod Archived
 pub mod Updated
 pub mod Placed
+pub mod Renewed

@@ -1,18 +1,21 @@
 -- The tables after an update are those of the register after it.
-use Rattle.std.proofs.Common.{◌≡◌, ◌∙◌, ℕ, List, [], ◌∷◌, map, Option, None, Some, unwrap_or, refl, sym, ap, subst}
-use Rattle.clr_changes.specs.Outcome.{IsAfter, IsOutcome, register_after}
+use Rattle.std.proofs.Common.{◌≡◌, ◌∙◌, List, [], ◌∷◌, map, Option, None, Some, cond, unwrap_or, refl, sym, ap}
+use Rattle.clr_changes.specs.Made.{IsMade}
+use Rattle.clr_changes.specs.Outcome.{IsAfter, register_after}
 use Rattle.clr_changes.specs.declared.outcome.After.{After}
-use Rattle.clr_changes.specs.declared.outcome.Outcome.TheVariants.{Accepted}
 use Rattle.clr_net.specs.Grid.{Grid, point_names}
-use Rattle.clr_rules.proofs.good.Opening.{unplaced_names}
+use Rattle.clr_rules.proofs.good.Opening.{first_keys, unplaced_names}
 use Rattle.clr_rules.proofs.lists.StateFacts.{state_of-point}
-use Rattle.clr_rules.specs.Register.{Register}
+use Rattle.clr_rules.specs.Register.{Register, first_state}
 use Rattle.clr_rules.specs.States.{state_key, state_of}
 use Rattle.clr_rules.specs.declared.point_state.PointState.{PointState}
 use Rattle.clr_store.specs.Renewed.{AreStatesOf, tables_renewed}
-use Rattle.clr_tables.specs.Tables.{Tables, tables_of}
+use Rattle.clr_tables.specs.Tables.{tables_of}
+use Rattle.clr_update.proofs.Delta.{updated_is}
 use Rattle.clr_update.proofs.Filed.{is_filed}
 use Rattle.clr_update.proofs.Free.{free_of}
+use Rattle.clr_update.specs.Changes.{Changes}
+use Rattle.clr_update.specs.Delta.{after_changes, network_of, update_of}
 use Rattle.clr_update.specs.Update.{IsRead, Update, after_update, filed, in_the_way, kept_state, unless_obstacle, updated}
 use Rattle.clr_update.specs.declared.obstacle.Obstacle.{Obstacle}
 
@@ -47,3 +50,17 @@ module _ (R : Register) (u : Update) where
 
   pub stays : (obstacle : Obstacle) → in_the_way R u ≡ Some obstacle → R ≡ after_update R u
   stays obstacle some = sym (ap (λ o. unless_obstacle o R (updated R u)) some)
+
+-- what is after changes that are said, whatever register they are made in
+module _ (R : Register) (of : Changes) (after : After) (it : IsMade R of (Some after)) where
+  pub after_said : register_after R after ≡ after_changes R of
+  after_said = it.1.register ∙ sym (ap (λ b. cond b (updated R (update_of R of)) R) it.0)
+
+  -- there is a state for each point
+  pub states_said : AreStatesOf (Grid.points after.network) after.states.items
+  states_said =
+      let news = map first_state (Grid.points (network_of R of)) in
+      let whole = it.1.register ∙ updated_is R of in
+      ap (λ (S : Register). map state_key S.states) whole
+      ∙ same_keys R.states news ∙ first_keys (Grid.points (network_of R of)) ∙ sym (unplaced_names (Grid.points (network_of R of)))
+      ∙ sym (ap (λ (S : Register). point_names (Grid.points S.net)) whole) ∙ unplaced_names (Grid.points after.network)

@@ -10,8 +10,8 @@ has_accepted (Ok reply) = is_accepted reply
 has_accepted (Err fault) = false
 
 -- the fault of a call, if it met one
-abbrev pub fault_of : Result Reply DeskFault → Option DeskFault
-fault_of (Ok reply) = None
+abbrev pub fault_of : {X : Type 0} → Result X DeskFault → Option DeskFault
+fault_of (Ok x) = None
 fault_of (Err fault) = Some fault
 
 -- the replies of a call that was given one command

@@ -2,7 +2,7 @@
 -- position where it is now, into the register of rows.
 use Rattle.std.specs.Prelude.{List, ◌++◌, map}
 use Rattle.clr_rules.specs.declared.change.Edit.{Edit}
-use Rattle.clr_rules.specs.declared.change.Edit.TheVariants.{SetHand, PutHold, PutRecord, PutStep}
+use Rattle.clr_rules.specs.declared.change.Edit.TheVariants.{SetHand, SetPosition, PutHold, PutRecord, PutStep}
 use Rattle.clr_rules.specs.declared.hold.Hold.{Hold}
 use Rattle.clr_rules.specs.declared.point_state.PointState.{PointState}
 use Rattle.clr_rules.specs.declared.record.Record.{Record}
@@ -10,6 +10,9 @@ use Rattle.clr_rules.specs.declared.step_row.StepRow.{StepRow}
 
 abbrev pub hand_edit : PointState → Edit
 hand_edit state = SetHand state.point state.hand
+
+abbrev pub position_edit : PointState → Edit
+position_edit state = SetPosition state.point state.position
 
 -- each point into the hand that it is in, and then all holds, records and steps
 abbrev pub filling : List PointState → List Hold → List Record → List StepRow → List Edit

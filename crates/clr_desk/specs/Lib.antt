@@ -17,3 +17,6 @@ pub mod Archiving
 pub mod Updating
 pub mod NearRun
 pub mod Placing
+pub mod Planning
+pub mod Renewing
+pub mod Making

@@ -1,22 +1,28 @@
 //! An archive of the register of a desk: the steps of its past records leave the tables.
-ghost use Rattle.std.specs.Prelude.{◌≡◌, IfErr, IsTrue, OnErr, OnOk};
+ghost use Rattle.std.specs.Prelude.{◌≡◌, ⊤, IfErr, IfOk, IsTrue, OnErr, OnOk};
 ghost use Rattle.sqlite.specs.Held.{state};
 ghost use Rattle.sqlite.specs.State.{HasCleanDisk, Survives};
 ghost use Rattle.clr_archive.specs.Archive.{archived};
 ghost use Rattle.clr_load.specs.Contract.{IsSaved};
 ghost use Rattle.clr_load.specs.Stored.{HasTables};
 ghost use Rattle.clr_tables.specs.Tables.{tables_of};
+ghost use Rattle.clr_desk.specs.Answering.{fault_of};
 ghost use Rattle.clr_desk.specs.Archiving.{AreArchived};
-ghost use Rattle.clr_desk.specs.Faults.{IsOfCommand};
+ghost use Rattle.clr_desk.specs.Faults.{IsOfCommand, count_after};
+ghost use Rattle.clr_desk.specs.Planning.{IsLeft};
+ghost use Rattle.clr_desk.specs.Renewing.{ComesTo};
 
 use crate::book::DeskBook;
+use crate::commit_at::CommitAt;
 use crate::desk::Desk;
 use crate::desk_fault::DeskFault;
+use crate::renewing::book_archived;
 use clr_archive::keys_that_go;
-use clr_rules::Moment;
+use clr_place::Place;
+use clr_rules::{Moment, StepKey};
 use clr_store::Store;
 use sqlite::Alter;
-use std::alloc::Global;
+use std::alloc::{AllocError, Global};
 
 impl<S: Alter + Drop> Desk<Store<S>> {
     /// Ends the desk, and takes the steps of each record that was closed before a moment out of the
@@ -67,4 +73,71 @@ fn archive_tables<S: Alter + Drop>(
     let keys = keys_that_go(alloc, book, before)?;
     store.take_steps(keys.as_slice())?;
     Ok(())
+}
+
+/// What an archive is carried out with: it is made before anything is written.
+#[derive(Drop)]
+struct Left {
+    /// The keys of the steps that go.
+    keys: Vec<StepKey>,
+    /// The book after it.
+    book: DeskBook,
+}
+
+/// What an archive of a book is carried out with. The book stays as it is.
+fn left_of(alloc: Global, book: &DeskBook, before: Moment) -> Result<Left, AllocError>
+    ensures { IfOk result (IsLeft before book.now.register) }
+{
+    let keys = keys_that_go(alloc, book, before)?;
+    let book = book_archived(alloc, book, before)?;
+    Ok(Left { keys, book })
+}
+
+/// Keeps what an archive leaves of a desk, and the place after it: both, or the desk stays as it
+/// is.
+fn leave_at<K: CommitAt>(
+    desk: Desk<K>,
+    left: Left,
+    before: Moment,
+    place: &Place,
+) -> (Result<(), DeskFault>, Desk<K>)
+    requires { IsLeft before desk.book.register left }
+    ensures archived { ComesTo K.kept K.has_place K.fails ⊤ desk result.1
+        (archived before desk.book.register) place.now result.0 }
+    ensures faults { result.1.faults ≡ count_after (fault_of result.0) desk.faults }
+{
+    let faults = desk.faults();
+    let (book, mut keeper) = desk.parted();
+    let Left { keys, book: after } = left;
+    match keeper.take_steps_at(&keys, place) {
+        Ok(()) => (Ok(()), Desk::of(after, keeper, faults)),
+        Err(fault) => (Err(fault), Desk::of(book, keeper, faults.saturating_add(1))),
+    }
+}
+
+impl<K: CommitAt> Desk<K> {
+    /// Takes the steps of each record that was closed before a moment out of the register, and
+    /// keeps the place after it, both at once. The desk goes on with the register that is left.
+    ///
+    /// On a fault, register and place are as they were. A fault is counted.
+    pub fn archive_at(
+        self,
+        alloc: Global,
+        before: Moment,
+        place: &Place,
+    ) -> (Result<(), DeskFault>, Desk<K>)
+        ensures archived { ComesTo K.kept K.has_place K.fails ⊤ self result.1
+            (archived before self.book.register) place.now result.0 }
+        ensures faults { result.1.faults ≡ count_after (fault_of result.0) self.faults }
+    {
+        let faults = self.faults();
+        let (book, keeper) = self.parted();
+        match left_of(alloc, &book, before) {
+            Ok(left) => leave_at(Desk::of(book, keeper, faults), left, before, place),
+            Err(_) => {
+                let faults = faults.saturating_add(1);
+                (Err(DeskFault::NoMemory), Desk::of(book, keeper, faults))
+            }
+        }
+    }
 }

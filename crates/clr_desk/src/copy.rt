@@ -4,6 +4,7 @@ ghost use Rattle.clr_desk.specs.Shelving.{shelved};
 ghost use Rattle.clr_net.specs.Grid.{unplaced};
 ghost use Rattle.clr_rules.specs.Good.{IsGood};
 ghost use Rattle.clr_tables.specs.RowsRead.{rows_of, with_its_position};
+ghost use Rattle.clr_tables.specs.TypedRows.{IsTyped};
 ghost use Rattle.clr_desk.specs.Loaded.{HasRows};
 
 use crate::book::DeskBook;
@@ -21,6 +22,15 @@ use std::alloc::{AllocError, Global};
 pub fn copy_of(alloc: Global, book: &DeskBook) -> Result<DeskBook, AllocError>
     ensures { IsGood book.now.register
         → IfOk result (λ copy. copy.register ≡ book.now.register) }
+{
+    typed_copy(alloc, book)
+}
+
+/// The same, and that its values are within their types.
+pub(crate) fn typed_copy(alloc: Global, book: &DeskBook) -> Result<DeskBook, AllocError>
+    ensures register { IsGood book.now.register
+        → IfOk result (λ copy. copy.register ≡ book.now.register) }
+    ensures typed { IfOk result (λ copy. IsTyped copy.register) }
 {
     let loaded = rows_of(alloc, book)?;
     match book_of(loaded) {
@@ -75,6 +85,16 @@ fn copied_shelf<R: Row + Typed + Copy, S: Shelf<R>, T: Shelf<R>>(
 {
     let rows = all_rows(alloc, shelf)?;
     filled(alloc, &rows)
+}
+
+/// A shelf with copies of the rows of a shelf.
+pub(crate) fn same_shelf<R: Row + Typed + Copy, S: Shelf<R>, T: Shelf<R>>(
+    alloc: Global,
+    shelf: &S,
+) -> Result<TypedShelf<R, T>, AllocError>
+    ensures { IfOk result (λ copy. copy ≡ S.rows shelf.now) }
+{
+    copied_shelf(alloc, shelf)
 }
 
 /// Copies of rows, in what takes them one after another.

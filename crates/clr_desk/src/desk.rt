@@ -162,6 +162,13 @@ impl Desk<Unkept> {
         let book = opening_book(alloc, network, staff)?;
         Ok(Desk::over(book, Unkept))
     }
+
+    /// Goes on with another book.
+    pub(crate) fn go_on_with(&mut self, book: DeskBook)
+        ensures { self.new ≡ record self.old { book = book } }
+    {
+        self.book = book;
+    }
 }
 
 impl<K: Commit> Desk<K> {

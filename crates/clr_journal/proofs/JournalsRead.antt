@@ -6,7 +6,7 @@ use Rattle.serde_json.specs.Data.{Data}
 use Rattle.clr_append.proofs.Pieces.{line_first, no_line}
 use Rattle.clr_append.specs.Lines.{ended_lines, is_line_feed}
 use Rattle.clr_result.specs.Results.{◌>>=◌}
-use Rattle.clr_rules.specs.declared.command.Command.{Command}
+use Rattle.clr_deeds.specs.Deeds.{Deed}
 use Rattle.clr_text.proofs.PlainTexts.{one_line}
 use Rattle.clr_journal.specs.Journals.{bad_line, carried_out, first_turn, if_next, in_turn, is_next, journal_text, lines_read, next_line, next_place, onto_some, own_pair, turn_after, withdraws}
 use Rattle.clr_journal.specs.Laws.{CommandsGrow, JournalsReadBack, LinesAreOneLine, LinesGrow, ReadBack, WithdrawnIsLeftOut, turn_behind}
@@ -67,7 +67,7 @@ lines_grow turn entries entry turns next = (grown_turn turn entries entry turns 
 
 -- ---- a command more
 
-onto_pairs : (o : Option (Command × Data)) (rest more : List (Command × Data)) → onto_some o (rest ++ more) ≡ onto_some o rest ++ more
+onto_pairs : (o : Option (Deed × Data)) (rest more : List (Deed × Data)) → onto_some o (rest ++ more) ≡ onto_some o rest ++ more
 onto_pairs None rest more = refl
 onto_pairs (Some pair) rest more = refl
 
@@ -89,11 +89,11 @@ before_command : (entries : List Entry) (entry : Entry) (more : List Entry) → 
 unfolding carried_out
 before_command [] entry more h = refl
 before_command (one ∷ rest) entry more h =
-    ap (λ (o : Option (Command × Data)). onto_some o (carried_out (rest ++ entry ∷ more))) (own_same one rest entry more h)
+    ap (λ (o : Option (Deed × Data)). onto_some o (carried_out (rest ++ entry ∷ more))) (own_same one rest entry more h)
     ∙ ap (onto_some (own_pair one rest)) (before_command rest entry more h)
     ∙ onto_pairs (own_pair one rest) (carried_out rest) (carried_out (entry ∷ more))
 
-last_command : (b : Bool) (pair : Command × Data) → onto_some (cond (b && true) (Some pair) None) [] ≡ cond b (pair ∷ []) []
+last_command : (b : Bool) (pair : Deed × Data) → onto_some (cond (b && true) (Some pair) None) [] ≡ cond b (pair ∷ []) []
 last_command true pair = refl
 last_command false pair = refl
 
@@ -102,7 +102,7 @@ unfolding carried_out
 commands_grow entries receipt q reply =
     before_command entries (carried receipt q reply) [] refl ∙ ap (λ more. carried_out entries ++ more) (last_command (is_accepted reply) (q, reply))
 
-none_more : (b : Bool) (pair : Command × Data) → onto_some (cond (b && false) (Some pair) None) [] ≡ []
+none_more : (b : Bool) (pair : Deed × Data) → onto_some (cond (b && false) (Some pair) None) [] ≡ []
 none_more true pair = refl
 none_more false pair = refl
 

@@ -1,27 +1,28 @@
--- WHAT A JOURNAL SAYS: its lines, each the next of the one before; and the commands that were
--- carried out.
+-- WHAT A JOURNAL SAYS: its lines, each the next of the one before; and the deeds that were carried
+-- out.
 use Rattle.std.specs.Prelude.{◌+◌, ◌-◌, ◌^◌, ◌==◌, ◌&&◌, ℕ, Bool, true, false, not, min}
 use Rattle.std.specs.Prelude.{List, [], ◌∷◌, map, Option, None, Some, Result, Ok, ok_or}
 use Rattle.std.specs.Prelude.{if◌then◌else◌, option_and_then}
 use Rattle.serde_json.specs.Data.{Data}
 use Rattle.clr_append.specs.Lines.{ended_lines, text_of}
 use Rattle.clr_result.specs.Results.{◌>>=◌}
+use Rattle.clr_deeds.specs.Deeds.{Deed, commands_among}
 use Rattle.clr_rules.specs.declared.command.Command.{Command}
 use Rattle.clr_journal.specs.Line.{Entry, carried, withdrawn, is_accepted, line_text, read_line}
 use Rattle.clr_journal.specs.declared.reading.Turn.{Turn}
 
--- before the first line no command has a number, and none may be withdrawn
+-- before the first line no deed has a number, and none may be withdrawn
 abbrev pub first_turn : Turn
 first_turn = record { last = 0; is_open = false }
 
--- WHICH LINE IS THE NEXT: commands are numbered from 1 on; the last command may be withdrawn where
+-- WHICH LINE IS THE NEXT: deeds are numbered from 1 on; the last one may be withdrawn where
 -- it was accepted, before the next one
 abbrev pub is_next : Turn → Entry → Bool
-is_next turn (carried receipt q reply) = receipt.number == turn.last + 1
+is_next turn (carried receipt deed reply) = receipt.number == turn.last + 1
 is_next turn (withdrawn n) = turn.is_open && (n == turn.last)
 
 abbrev pub turn_after : Entry → Turn
-turn_after (carried receipt q reply) =
+turn_after (carried receipt deed reply) =
     record { last = receipt.number; is_open = is_accepted reply }
 turn_after (withdrawn n) = record { last = n; is_open = false }
 
@@ -63,28 +64,32 @@ read_journal bytes = lines_read 1 first_turn (ended_lines bytes)
 abbrev pub journal_text : List Entry → List ℕ
 journal_text entries = text_of (map line_text entries)
 
--- ---- the commands
+-- ---- the deeds
 
 -- the next line withdraws
 abbrev pub withdraws : List Entry → Bool
 withdraws [] = false
-withdraws (carried receipt q reply ∷ rest) = false
+withdraws (carried receipt deed reply ∷ rest) = false
 withdraws (withdrawn n ∷ rest) = true
 
--- a command that was accepted and is not withdrawn, with its reply
-abbrev pub own_pair : Entry → List Entry → Option (Command × Data)
+-- a deed that was accepted and is not withdrawn, with its reply
+abbrev pub own_pair : Entry → List Entry → Option (Deed × Data)
 own_pair (withdrawn n) rest = None
-own_pair (carried receipt q reply) rest =
-    if is_accepted reply && not (withdraws rest) then Some (q, reply) else None
+own_pair (carried receipt deed reply) rest =
+    if is_accepted reply && not (withdraws rest) then Some (deed, reply) else None
 
 abbrev pub onto_some : {A : Type 0} → Option A → List A → List A
 onto_some None xs = xs
 onto_some (Some x) xs = x ∷ xs
 
--- THE COMMANDS THAT WERE CARRIED OUT, each with its reply
-unfoldable pub carried_out : List Entry → List (Command × Data)
+-- THE DEEDS THAT WERE CARRIED OUT, each with its reply
+unfoldable pub carried_out : List Entry → List (Deed × Data)
 carried_out [] = []
 carried_out (entry ∷ rest) = onto_some (own_pair entry rest) (carried_out rest)
 
+abbrev pub deeds_of : List Entry → List Deed
+deeds_of entries = map (λ pair. pair.0) (carried_out entries)
+
+-- the commands among them
 abbrev pub commands_of : List Entry → List Command
-commands_of entries = map (λ pair. pair.0) (carried_out entries)
+commands_of entries = commands_among (deeds_of entries)

@@ -1,12 +1,15 @@
 -- LAWS OF JOURNALS
 use Rattle.std.specs.Prelude.{◌≡◌, ◌≤◌, ◌^◌, ◌&&◌, ℕ, nat_lt, Bool, true, false, ⊤}
 use Rattle.std.specs.Prelude.{List, [], ◌∷◌, ◌++◌, length, take, Option, None, Some, Ok}
-use Rattle.std.specs.Prelude.{if◌then◌else◌}
+use Rattle.std.specs.Prelude.{bytes_eq, codes, if◌then◌else◌}
 use Rattle.std.specs.List.{list_any}
 use Rattle.std.specs.Str.{is_utf8}
-use Rattle.serde_json.specs.Data.{Data, depth}
+use Rattle.serde_json.specs.Data.{Data, Members, array, boolean, depth, member, no_members, null}
+use Rattle.serde_json.specs.Data.{number, object, string}
 use Rattle.clr_append.specs.Lines.{is_line_feed}
-use Rattle.clr_rules.specs.declared.command.Command.{Command}
+use Rattle.clr_deeds.specs.Deeds.{Deed, archive, command, update}
+use Rattle.clr_delta.specs.Delta.{can_be_said}
+use Rattle.clr_rules.specs.Moment.{is_moment}
 use Rattle.clr_text.specs.CommandLaws.{is_plain}
 use Rattle.clr_text.specs.CommandText.{can_be_sent}
 use Rattle.clr_journal.specs.Journals.{carried_out, first_turn, in_turn, is_next, journal_text}
@@ -24,13 +27,39 @@ abbrev pub login_is_text : Option (List ℕ) → Bool
 login_is_text None = true
 login_is_text (Some text) = is_utf8 text
 
+abbrev pub is_no_login : Option (List ℕ) → Bool
+is_no_login None = true
+is_no_login (Some text) = false
+
+-- a reply is that of an update or of an archive
+abbrev pub is_done_member : Members → Bool
+is_done_member no_members = false
+is_done_member (member key (string text) no_members) =
+    bytes_eq key (codes "reply") && bytes_eq text (codes "accepted")
+is_done_member (member key d others) = false
+
+abbrev pub is_done : Data → Bool
+is_done null = false
+is_done (boolean b) = false
+is_done (number n) = false
+is_done (string s) = false
+is_done (array ds) = false
+is_done (object ms) = is_done_member ms
+
 -- A LINE CAN BE WRITTEN: its numbers have 64 bits, its command can be sent, and its texts are
--- UTF-8; so is its reply, a value of texts and whole numbers that does not nest deep
+-- UTF-8; so is its reply, a value of texts and whole numbers that does not nest deep. Changes can be
+-- said, and a line of them has no login and one reply; so has one of an archive
 abbrev pub can_be_written : Entry → Bool
-can_be_written (carried receipt q reply) =
+can_be_written (carried receipt (command q) reply) =
     nat_lt receipt.number (2 ^ 64) && (nat_lt receipt.received (2 ^ 64)
     && (login_is_text receipt.login && (can_be_sent q
     && (is_plain reply && nat_lt (depth reply) 127))))
+can_be_written (carried receipt (update of) reply) =
+    nat_lt receipt.number (2 ^ 64) && (nat_lt receipt.received (2 ^ 64)
+    && (is_no_login receipt.login && (can_be_said of && is_done reply)))
+can_be_written (carried receipt (archive before) reply) =
+    nat_lt receipt.number (2 ^ 64) && (nat_lt receipt.received (2 ^ 64)
+    && (is_no_login receipt.login && (is_moment before && is_done reply)))
 can_be_written (withdrawn n) = nat_lt n (2 ^ 64)
 
 -- A LINE THAT CAN BE WRITTEN is read from its text
@@ -72,16 +101,16 @@ LinesGrow = (turn : Turn) (entries : List Entry) (entry : Entry)
     → (in_turn turn (entries ++ entry ∷ []) ≡ true)
     × (journal_text (entries ++ entry ∷ []) ≡ journal_text entries ++ (line_text entry ++ 10 ∷ []))
 
--- an accepted command, with its reply
-abbrev pub if_accepted : Command → Data → List (Command × Data)
-if_accepted q reply = if is_accepted reply then (q, reply) ∷ [] else []
+-- an accepted deed, with its reply
+abbrev pub if_accepted : Deed → Data → List (Deed × Data)
+if_accepted deed reply = if is_accepted reply then (deed, reply) ∷ [] else []
 
--- A COMMAND MORE is carried out where it is accepted; a command that the next line withdraws is not
+-- A DEED MORE is carried out where it is accepted; one that the next line withdraws is not
 abbrev pub CommandsGrow : Type 0
-CommandsGrow = (entries : List Entry) (receipt : Receipt) (q : Command) (reply : Data)
-    → carried_out (entries ++ carried receipt q reply ∷ [])
-    ≡ carried_out entries ++ if_accepted q reply
+CommandsGrow = (entries : List Entry) (receipt : Receipt) (deed : Deed) (reply : Data)
+    → carried_out (entries ++ carried receipt deed reply ∷ [])
+    ≡ carried_out entries ++ if_accepted deed reply
 
 abbrev pub WithdrawnIsLeftOut : Type 0
-WithdrawnIsLeftOut = (entries : List Entry) (receipt : Receipt) (q : Command) (reply : Data) (n : ℕ)
-    → carried_out (entries ++ carried receipt q reply ∷ withdrawn n ∷ []) ≡ carried_out entries
+WithdrawnIsLeftOut = (entries : List Entry) (receipt : Receipt) (deed : Deed) (reply : Data) (n : ℕ)
+    → carried_out (entries ++ carried receipt deed reply ∷ withdrawn n ∷ []) ≡ carried_out entries

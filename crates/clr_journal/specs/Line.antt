@@ -10,33 +10,50 @@ use Rattle.serde_json.specs.Find.{as_bool, as_str, get}
 use Rattle.serde_json.specs.View.{view}
 use Rattle.serde_json.specs.Written.{compact_text}
 use Rattle.clr_rules.specs.declared.command.Command.{Command}
+use Rattle.clr_deeds.specs.Deeds.{Deed, archive, command, deed_of, update}
+use Rattle.clr_delta.specs.Delta.{changes_data, changes_in}
 use Rattle.clr_text.specs.CommandText.{command_data}
 use Rattle.clr_text.specs.Json.{optional_data, whole_data}
 use Rattle.clr_text.specs.Reading.{command_in, value_of}
-use Rattle.clr_text.specs.Values.{whole}
+use Rattle.clr_text.specs.Values.{moment_in, whole}
 use Rattle.clr_journal.specs.declared.line.Line.{Line}
 use Rattle.clr_journal.specs.declared.line.Line.TheVariants.{Carried, Withdrawn}
 use Rattle.clr_journal.specs.declared.line.Receipt.{Receipt}
 
--- WHAT A LINE SAYS: a command and its reply, as a JSON value; or that the command of a number was
--- accepted and not carried out
+-- WHAT A LINE SAYS: a deed and its reply, as a JSON value; or that the deed of a number was accepted
+-- and not carried out
 pub data Entry : Type 0 where
-  carried : Receipt → Command → Data → Entry
+  carried : Receipt → Deed → Data → Entry
   withdrawn : ℕ → Entry
 
 abbrev pub entry_of : Line → Entry
-entry_of (Carried c) = carried c.receipt c.command (view c.reply)
+entry_of (Carried c) = carried c.receipt (deed_of c.deed) (view c.reply)
 entry_of (Withdrawn n) = withdrawn n
 
 -- ---- writing
 
+-- what an update or an archive is answered. Its line does not have it, nor a login
+abbrev pub done : Data
+done = object (member (codes "reply") (string (codes "accepted")) no_members)
+
+abbrev pub archive_data : ℕ → Data
+archive_data before = object (member (codes "before") (whole_data before) no_members)
+
 abbrev pub entry_data : Entry → Data
-entry_data (carried receipt q reply) =
+entry_data (carried receipt (command q) reply) =
     object (member (codes "command") (command_data q)
     (member (codes "login") (optional_data string receipt.login)
     (member (codes "number") (whole_data receipt.number)
     (member (codes "received") (whole_data receipt.received)
     (member (codes "reply") reply no_members)))))
+entry_data (carried receipt (update of) reply) =
+    object (member (codes "number") (whole_data receipt.number)
+    (member (codes "received") (whole_data receipt.received)
+    (member (codes "updated") (changes_data of) no_members)))
+entry_data (carried receipt (archive before) reply) =
+    object (member (codes "archived") (archive_data before)
+    (member (codes "number") (whole_data receipt.number)
+    (member (codes "received") (whole_data receipt.received) no_members)))
 entry_data (withdrawn n) =
     object (member (codes "number") (whole_data n)
     (member (codes "withdrawn") (boolean true) no_members))
@@ -55,7 +72,7 @@ is_text word (Some text) = bytes_eq text word
 abbrev pub says : List ℕ → Data → Bool
 says word d = is_text word (option_and_then as_str (get (codes "reply") d))
 
--- the command was carried out
+-- the deed was carried out
 abbrev pub is_accepted : Data → Bool
 is_accepted d = says (codes "accepted") d || says (codes "added") d
 
@@ -87,10 +104,30 @@ receipt_in d =
 
 abbrev pub carried_in : Data → Option Entry
 carried_in d =
-    option_and_then (λ receipt. option_and_then (λ q. option_map (carried receipt q)
+    option_and_then (λ receipt. option_and_then (λ q. option_map (carried receipt (command q))
     (get (codes "reply") d))
     (command_at d))
     (receipt_in d)
+
+-- the number and the moment of a line that has no login
+abbrev pub bare_receipt_in : Data → Option Receipt
+bare_receipt_in d =
+    option_and_then (λ number. option_map (λ received.
+    record { number = number; received = received; login = None })
+    (at_key whole (codes "received") d))
+    (at_key whole (codes "number") d)
+
+abbrev pub updated_in : Data → Option Entry
+updated_in d =
+    option_and_then (λ receipt. option_map (λ of. carried receipt (update of) done)
+    (at_key changes_in (codes "updated") d))
+    (bare_receipt_in d)
+
+abbrev pub archived_in : Data → Option Entry
+archived_in d =
+    option_and_then (λ receipt. option_map (λ before. carried receipt (archive before) done)
+    (at_key (at_key moment_in (codes "before")) (codes "archived") d))
+    (bare_receipt_in d)
 
 abbrev pub if_withdrawn : Bool → Data → Option Entry
 if_withdrawn true d = option_map withdrawn (at_key whole (codes "number") d)
@@ -100,9 +137,13 @@ abbrev pub withdrawn_in : Data → Option Entry
 withdrawn_in d =
     option_and_then (λ is. if_withdrawn is d) (at_key as_bool (codes "withdrawn") d)
 
--- the line of a value: one with the key `withdrawn` withdraws, and any other carries
+-- the line of a value: one with the key `withdrawn` withdraws, one with `updated` or `archived` has
+-- an update or an archive, and any other a command
 abbrev pub line_in : Data → Option Entry
-line_in d = if is_some (get (codes "withdrawn") d) then withdrawn_in d else carried_in d
+line_in d = if is_some (get (codes "withdrawn") d) then withdrawn_in d
+    else if is_some (get (codes "updated") d) then updated_in d
+    else if is_some (get (codes "archived") d) then archived_in d
+    else carried_in d
 
 -- WHAT A TEXT SAYS, if it is a line
 unfoldable pub read_line : List ℕ → Option Entry

@@ -30,8 +30,8 @@ pub fn lines_grow()
     ensures { LinesGrow }
 {}
 
-/// A command that was accepted is one more that was carried out; one that the next line withdraws
-/// is none.
+/// A deed that was accepted is one more that was carried out; one that the next line withdraws is
+/// none.
 pub fn commands_grow()
     ensures accepted { CommandsGrow }
     ensures withdrawn { WithdrawnIsLeftOut }

@@ -1,4 +1,5 @@
-//! The journal: each command that was given, when, at which login, and what was answered.
+//! The journal: each command that was given, when, at which login, and what was answered; each
+//! update of network and staff, and each archive.
 #![tactic(auto)]
 
 mod commands;
@@ -9,8 +10,9 @@ mod read;
 mod reading;
 
 pub use clr_append::{Journal, OnDisk, WriteFault};
+pub use clr_deeds::{Changes, Deed};
 pub use commands::carried_out;
 pub use line::{Carried, Line, Receipt, is_accepted};
-pub use print::{print_carried, print_withdrawn};
-pub use read::read_line;
+pub use print::{print_archived, print_carried, print_updated, print_withdrawn};
+pub use read::{done_value, read_line};
 pub use reading::Turn;

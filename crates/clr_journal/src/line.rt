@@ -3,31 +3,32 @@ ghost use Rattle.std.specs.Prelude.{◌≡◌};
 ghost use Rattle.serde_json.specs.View.{view};
 ghost use Rattle.clr_journal.specs.Line.{is_accepted, says};
 
-use clr_rules::{Command, Text};
+use clr_deeds::Deed;
+use clr_rules::Text;
 use serde_json::Value;
 
 /// A line of a journal.
 #[derive(Drop)]
 pub enum Line {
-    /// A command, and what was answered.
+    /// A deed, and what was answered.
     Carried(Carried),
-    /// The command of this number was accepted and not carried out: its change was not kept.
+    /// The deed of this number was accepted and not carried out: its change was not kept.
     Withdrawn(u64),
 }
 
-/// A command, and what was answered.
+/// A deed, and what was answered.
 #[derive(Drop)]
 pub struct Carried {
     pub receipt: Receipt,
-    pub command: Command,
-    /// The reply, as a JSON value.
+    pub deed: Deed,
+    /// The reply, as a JSON value. That of an update or an archive is a constant.
     pub reply: Value,
 }
 
-/// When a command came, and from whom.
+/// When a deed came, and from whom.
 #[derive(Drop)]
 pub struct Receipt {
-    /// The commands of a journal are counted from 1.
+    /// The deeds of a journal are counted from 1.
     pub number: u64,
     /// The machine's clock, in whole seconds since 1970. No rule looks at it.
     pub received: u64,
@@ -35,7 +36,7 @@ pub struct Receipt {
     pub login: Option<Text>,
 }
 
-/// Whether a reply, as a JSON value, says that the command was carried out.
+/// Whether a reply, as a JSON value, says that the deed was carried out.
 pub fn is_accepted(reply: &Value) -> bool
     ensures { result ≡ is_accepted (view reply.now) }
 {

@@ -2,13 +2,18 @@
 ghost use Rattle.std.specs.Prelude.{◌≡◌, IfOk, Some, string_bytes, true};
 ghost use Rattle.serde_json.specs.View.{view};
 ghost use Rattle.serde_json.specs.Data.{string};
+ghost use Rattle.clr_deeds.specs.Deeds.{archive, command as asked, update};
+ghost use Rattle.clr_update.specs.Shown.{as_changes};
 ghost use Rattle.clr_text.specs.CommandText.{has_its_moment};
 ghost use Rattle.clr_text.specs.Json.{optional_data};
 ghost use Rattle.clr_text.specs.Replies.{reply_data};
-ghost use Rattle.clr_journal.specs.Line.{carried, entry_data, line_text, read_line, withdrawn};
+ghost use Rattle.clr_journal.specs.Line.{archive_data, carried, done, entry_data, line_text};
+ghost use Rattle.clr_journal.specs.Line.{read_line, withdrawn};
 
 use crate::line::Receipt;
-use clr_rules::{Command, Reply, Text};
+use clr_deeds::Changes;
+use clr_delta::changes_value;
+use clr_rules::{Command, Moment, Reply, Text};
 use clr_text::{can_be_sent, command_value, reply_value};
 use serde_json::{Value, json};
 use std::alloc::{AllocError, Global};
@@ -22,10 +27,10 @@ pub fn print_carried(
     reply: &Reply,
 ) -> Result<String, AllocError>
     ensures text { IfOk result (λ text. string_bytes text
-        ≡ line_text (carried receipt.now command.now (reply_data reply.now))) }
+        ≡ line_text (carried receipt.now (asked command.now) (reply_data reply.now))) }
     ensures reads { IfOk result (λ text. has_its_moment command.now ≡ true
         → read_line (string_bytes text)
-        ≡ Some (carried receipt.now command.now (reply_data reply.now))) }
+        ≡ Some (carried receipt.now (asked command.now) (reply_data reply.now))) }
 {
     can_be_sent(command);
     let value = carried_value(alloc, receipt, command, reply)?;
@@ -34,7 +39,36 @@ pub fn print_carried(
     Ok(text)
 }
 
-/// The line that withdraws the command of a number, without a line feed. It reads as that line.
+/// The line of an update with these changes, without a line feed. A login of the receipt is not
+/// written.
+pub fn print_updated(
+    alloc: Global,
+    receipt: &Receipt,
+    changes: &Changes,
+) -> Result<String, AllocError>
+    ensures { IfOk result (λ text. string_bytes text
+        ≡ line_text (carried receipt.now (update (as_changes changes.now)) done)) }
+{
+    let value = updated_value(alloc, receipt, changes)?;
+    let text = value.to_string(alloc)?;
+    Ok(text)
+}
+
+/// The line of an archive, without a line feed. A login of the receipt is not written.
+pub fn print_archived(
+    alloc: Global,
+    receipt: &Receipt,
+    before: Moment,
+) -> Result<String, AllocError>
+    ensures { IfOk result (λ text. string_bytes text
+        ≡ line_text (carried receipt.now (archive before) done)) }
+{
+    let value = archived_value(alloc, receipt, before)?;
+    let text = value.to_string(alloc)?;
+    Ok(text)
+}
+
+/// The line that withdraws the deed of a number, without a line feed. It reads as that line.
 pub fn print_withdrawn(alloc: Global, number: u64) -> Result<String, AllocError>
     ensures text { IfOk result (λ text. string_bytes text
         ≡ line_text (withdrawn number)) }
@@ -55,7 +89,7 @@ fn carried_value(
     reply: &Reply,
 ) -> Result<Value, AllocError>
     ensures { IfOk result (λ value. view value
-        ≡ entry_data (carried receipt.now command.now (reply_data reply.now))) }
+        ≡ entry_data (carried receipt.now (asked command.now) (reply_data reply.now))) }
 {
     let login = login_value(alloc, &receipt.login)?;
     let command = command_value(alloc, command)?;
@@ -69,6 +103,39 @@ fn carried_value(
     })
 }
 
+/// The JSON value of an update.
+fn updated_value(alloc: Global, receipt: &Receipt, changes: &Changes) -> Result<Value, AllocError>
+    ensures { IfOk result (λ value. view value
+        ≡ entry_data (carried receipt.now (update (as_changes changes.now)) done)) }
+{
+    let updated = changes_value(alloc, changes)?;
+    json!(in alloc; {
+        "number": receipt.number,
+        "received": receipt.received,
+        "updated": updated
+    })
+}
+
+/// The JSON value of an archive.
+fn archived_value(alloc: Global, receipt: &Receipt, before: Moment) -> Result<Value, AllocError>
+    ensures { IfOk result (λ value. view value
+        ≡ entry_data (carried receipt.now (archive before) done)) }
+{
+    let archived = before_value(alloc, before)?;
+    json!(in alloc; {
+        "archived": archived,
+        "number": receipt.number,
+        "received": receipt.received
+    })
+}
+
+/// What a line says of an archive.
+fn before_value(alloc: Global, before: Moment) -> Result<Value, AllocError>
+    ensures { IfOk result (λ value. view value ≡ archive_data before) }
+{
+    json!(in alloc; {"before": before.seconds()})
+}
+
 /// A login as a JSON value: a text, or null.
 fn login_value(alloc: Global, login: &Option<Text>) -> Result<Value, AllocError>
     ensures { IfOk result (λ value. view value ≡ optional_data string login.now) }
@@ -79,7 +146,7 @@ fn login_value(alloc: Global, login: &Option<Text>) -> Result<Value, AllocError>
     }
 }
 
-/// The JSON value that withdraws the command of a number.
+/// The JSON value that withdraws the deed of a number.
 fn withdrawn_value(alloc: Global, number: u64) -> Result<Value, AllocError>
     ensures { IfOk result (λ value. view value ≡ entry_data (withdrawn number)) }
 {

@@ -3,14 +3,19 @@ ghost use Rattle.std.specs.Prelude.{◌≡◌, IfOk, codes, option_map};
 ghost use Rattle.serde_json.specs.Find.{get};
 ghost use Rattle.serde_json.specs.View.{view};
 ghost use Rattle.clr_text.specs.Reading.{value_of};
-ghost use Rattle.clr_text.specs.Values.{whole};
-ghost use Rattle.clr_journal.specs.Line.{at_key, carried_in, command_at, entry_of};
-ghost use Rattle.clr_journal.specs.Line.{line_in, login_in, read_line, receipt_in, withdrawn_in};
+ghost use Rattle.clr_text.specs.Values.{moment_in, whole};
+ghost use Rattle.clr_delta.specs.Delta.{changes_in};
+ghost use Rattle.clr_update.specs.Shown.{as_changes};
+ghost use Rattle.clr_journal.specs.Line.{archived_in, at_key, bare_receipt_in, carried_in};
+ghost use Rattle.clr_journal.specs.Line.{command_at, done, entry_of, line_in, login_in, read_line};
+ghost use Rattle.clr_journal.specs.Line.{receipt_in, updated_in, withdrawn_in};
 
 use crate::line::{Carried, Line, Receipt};
-use clr_rules::{Command, Text};
+use clr_deeds::{Changes, Deed};
+use clr_delta::changes_in;
+use clr_rules::{Command, Moment, Text};
 use clr_text::{TextFault, command_in};
-use serde_json::Value;
+use serde_json::{Value, json};
 use std::alloc::{AllocError, Global};
 
 /// Reads a line of a journal, as it is without its line feed; none where the text is no line.
@@ -47,6 +52,10 @@ fn line_in(alloc: Global, value: &mut Value) -> Result<Option<Line>, AllocError>
 {
     if value.get("withdrawn").is_some() {
         Ok(withdrawn_in(value))
+    } else if value.get("updated").is_some() {
+        updated_in(alloc, value)
+    } else if value.get("archived").is_some() {
+        archived_in(alloc, value)
     } else {
         carried_in(alloc, value)
     }
@@ -80,9 +89,88 @@ fn carried_in(alloc: Global, value: &mut Value) -> Result<Option<Line>, AllocErr
     };
     Ok(Some(Line::Carried(Carried {
         receipt,
-        command,
+        deed: Deed::Command(command),
         reply,
     })))
+}
+
+/// A line of an update.
+fn updated_in(alloc: Global, value: &Value) -> Result<Option<Line>, AllocError>
+    ensures { IfOk result (λ line. option_map entry_of line ≡ updated_in (view value.now)) }
+{
+    let Some(receipt) = bare_receipt_in(value) else {
+        return Ok(None);
+    };
+    let Some(changes) = changes_at(alloc, value)? else {
+        return Ok(None);
+    };
+    let reply = done_value(alloc)?;
+    Ok(Some(Line::Carried(Carried {
+        receipt,
+        deed: Deed::Update(changes),
+        reply,
+    })))
+}
+
+/// The changes at `updated`.
+fn changes_at(alloc: Global, value: &Value) -> Result<Option<Changes>, AllocError>
+    ensures { IfOk result (λ found. option_map as_changes found
+        ≡ at_key changes_in (codes "updated") (view value.now)) }
+{
+    match value.get("updated") {
+        Some(found) => changes_in(alloc, found),
+        None => Ok(None),
+    }
+}
+
+/// A line of an archive.
+fn archived_in(alloc: Global, value: &Value) -> Result<Option<Line>, AllocError>
+    ensures { IfOk result (λ line. option_map entry_of line ≡ archived_in (view value.now)) }
+{
+    let Some(receipt) = bare_receipt_in(value) else {
+        return Ok(None);
+    };
+    let Some(before) = before_at(value) else {
+        return Ok(None);
+    };
+    let reply = done_value(alloc)?;
+    Ok(Some(Line::Carried(Carried {
+        receipt,
+        deed: Deed::Archive(before),
+        reply,
+    })))
+}
+
+/// The moment at `before` of what is at `archived`.
+fn before_at(value: &Value) -> Option<Moment>
+    ensures { result
+        ≡ at_key (at_key moment_in (codes "before")) (codes "archived") (view value.now) }
+{
+    match value.get("archived") {
+        Some(found) => whole_at(found, "before").and_then(Moment::new),
+        None => None,
+    }
+}
+
+/// What an update or an archive is answered, as a JSON value.
+pub fn done_value(alloc: Global) -> Result<Value, AllocError>
+    ensures { IfOk result (λ value. view value ≡ done) }
+{
+    json!(in alloc; {"reply": "accepted"})
+}
+
+/// The number and the moment of a line without a login.
+fn bare_receipt_in(value: &Value) -> Option<Receipt>
+    ensures { result ≡ bare_receipt_in (view value.now) }
+{
+    match (whole_at(value, "number"), whole_at(value, "received")) {
+        (Some(number), Some(received)) => Some(Receipt {
+            number,
+            received,
+            login: None,
+        }),
+        _ => None,
+    }
 }
 
 /// The number, the moment and the login of a line.

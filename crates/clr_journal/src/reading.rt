@@ -8,9 +8,9 @@ use crate::line::{Line, is_accepted};
 /// Where a journal has come to.
 #[derive(Clone, Copy)]
 pub struct Turn {
-    /// The number of its last command; 0 where it has none.
+    /// The number of its last deed; 0 where it has none.
     pub last: u64,
-    /// Whether that command may be withdrawn: the last line accepted it.
+    /// Whether that deed may be withdrawn: the last line accepted it.
     pub is_open: bool,
 }
 

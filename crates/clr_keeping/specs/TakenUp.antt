@@ -102,7 +102,7 @@ abbrev pub entries_of : Ahead → List Entry
 entries_of ahead = map entry_of ahead.lines.items
 
 -- what a database has after it was opened, which changes nothing, and the register that it had after
--- commands
+-- deeds
 pub record IsKept {T : Type 0} (g : Ghosts T) (before after : Held T) (S : Register)
     : Type 0 where
   pub opened : Held T
@@ -157,7 +157,7 @@ abbrev pub MissesOne : {T : Type 0} → Ghosts T → Held T → Fault → Held T
 MissesOne g desk fault after = LacksPlace g desk fault after
     ⊎ ((fault ≡ Journal why.Missing) × (place : Place) × HasPlace g desk after (Some place))
 
--- lines after the place stopped: at one that differs, which changes nothing, or where a command was
+-- lines after the place stopped: at one that differs, which changes nothing, or where a deed was
 -- not carried out. A fault of the desk is reported as that, and as nothing that is in the journal
 pub record StopsForward {T : Type 0} (g : Ghosts T) (desk : Held T) (R : Register) (place : Place)
     (lines : List Entry) (fault : Fault) (after : Held T) : Type 0 where
@@ -250,7 +250,7 @@ pub record IsUnplaced {T : Type 0} (g : Ghosts T) (before : Held T) (fault : Fau
   pub lacks : LacksPlace g before fault after
 
 -- ITS JOURNAL WAS OPENED, AND DOES NOT GO TOGETHER WITH IT: a line after the place has another reply
--- than the register gives, which changes nothing; or a command was not carried out, and what was
+-- than the register gives, which changes nothing; or a deed was not carried out, and what was
 -- carried out before that is kept, with its place: then the fault is that of the desk, unless the
 -- reply of a line has a number that is no whole number. The journal is let go as it was opened
 pub record IsRefusedItsJournal {M J C T : Type 0} (g : Ghosts T) (logs : Logs M J C)

@@ -4,12 +4,9 @@ use Rattle.std.proofs.lemmas.Cmp.{nat_eq_equiv}
 use Rattle.std.proofs.lemmas.List.{append_cancel_left, map-append}
 use Rattle.serde_json.specs.Data.{Data}
 use Rattle.clr_append.specs.Lines.{text_of, with_feed}
-use Rattle.clr_rules.specs.Answer.{Answer, answer}
 use Rattle.clr_rules.specs.Register.{Register}
-use Rattle.clr_rules.specs.Run.{after, after_all, replies}
-use Rattle.clr_rules.specs.declared.command.Command.{Command}
-use Rattle.clr_rules.proofs.edits.Runs.{runs_go_on}
-use Rattle.clr_text.specs.Replies.{reply_data}
+use Rattle.clr_deeds.specs.Deeds.{Deed, after_deed, after_deeds}
+use Rattle.clr_journal.specs.Answered.{deed_replies, deed_reply}
 use Rattle.clr_journal.specs.Journals.{carried_out, onto_some, own_pair, turn_after, withdraws}
 use Rattle.clr_journal.specs.Laws.{turn_behind}
 use Rattle.clr_journal.specs.Line.{Entry, carried, is_accepted, withdrawn}
@@ -89,7 +86,7 @@ front_kept [] ys kept = refl
 front_kept (carried receipt q reply ∷ xs) ys kept = refl
 front_kept (withdrawn n ∷ xs) ys kept = kept
 
-pub command_kept : (xs : List Entry) (receipt : Receipt) (q : Command) (reply : Data) → withdraws xs ≡ false
+pub command_kept : (xs : List Entry) (receipt : Receipt) (q : Deed) (reply : Data) → withdraws xs ≡ false
     → withdraws (xs ++ carried receipt q reply ∷ []) ≡ false
 command_kept [] receipt q reply kept = refl
 command_kept (carried its p other ∷ xs) receipt q reply kept = refl
@@ -103,23 +100,23 @@ kept_on (withdrawn n ∷ xs) entry ys kept = kept
 
 -- ---- what was carried out
 
-pub accepted_out : (xs : List Entry) (receipt : Receipt) (q : Command) (reply : Data) → carried_out xs ≡ [] → is_accepted reply ≡ true
+pub accepted_out : (xs : List Entry) (receipt : Receipt) (q : Deed) (reply : Data) → carried_out xs ≡ [] → is_accepted reply ≡ true
     → carried_out (xs ++ carried receipt q reply ∷ []) ≡ (q, reply) ∷ []
 accepted_out xs receipt q reply none accepted =
     commands_grow xs receipt q reply
-    ∙ ap₂ (λ (pairs : List (Command × Data)) (b : Bool). pairs ++ cond b ((q, reply) ∷ []) []) none accepted
+    ∙ ap₂ (λ (pairs : List (Deed × Data)) (b : Bool). pairs ++ cond b ((q, reply) ∷ []) []) none accepted
 
-pub refused_out : (xs : List Entry) (receipt : Receipt) (q : Command) (reply : Data) → carried_out xs ≡ [] → is_accepted reply ≡ false
+pub refused_out : (xs : List Entry) (receipt : Receipt) (q : Deed) (reply : Data) → carried_out xs ≡ [] → is_accepted reply ≡ false
     → carried_out (xs ++ carried receipt q reply ∷ []) ≡ []
 refused_out xs receipt q reply none refused =
     commands_grow xs receipt q reply
-    ∙ ap₂ (λ (pairs : List (Command × Data)) (b : Bool). pairs ++ cond b ((q, reply) ∷ []) []) none refused
+    ∙ ap₂ (λ (pairs : List (Deed × Data)) (b : Bool). pairs ++ cond b ((q, reply) ∷ []) []) none refused
 
-no_pair : (o : Option (Command × Data)) (pairs : List (Command × Data)) → onto_some o pairs ≡ [] → (o ≡ None) × (pairs ≡ [])
+no_pair : (o : Option (Deed × Data)) (pairs : List (Deed × Data)) → onto_some o pairs ≡ [] → (o ≡ None) × (pairs ≡ [])
 no_pair None pairs is = (refl, is)
 no_pair (Some pair) pairs is = absurd (cc is)
 
-own_withdrawn : (b : Bool) (pair : Command × Data) → cond (b && not true) (Some pair) None ≡ None
+own_withdrawn : (b : Bool) (pair : Deed × Data) → cond (b && not true) (Some pair) None ≡ None
 own_withdrawn true pair = refl
 own_withdrawn false pair = refl
 
@@ -135,7 +132,7 @@ unfolding carried_out
 withdrawn_out [] n none = refl
 withdrawn_out (one ∷ xs) n none =
     let both = no_pair (own_pair one xs) (carried_out xs) none in
-    ap₂ (λ (o : Option (Command × Data)) (pairs : List (Command × Data)). onto_some o pairs) (own_still one xs n both.0) (withdrawn_out xs n both.1)
+    ap₂ (λ (o : Option (Deed × Data)) (pairs : List (Deed × Data)). onto_some o pairs) (own_still one xs n both.0) (withdrawn_out xs n both.1)
 
 pub nothing_out : carried_out [] ≡ []
 unfolding carried_out
@@ -144,73 +141,64 @@ nothing_out = refl
 -- ---- runs
 
 pub no_run : (R : Register) → IsRunOf R [] R
-unfolding after_all replies
+unfolding after_deeds deed_replies
 no_run R = record { register = refl; replied = refl }
 
-pub run_on : (first R S : Register) (xs ys : List (Command × Data)) → IsRunOf first xs R → IsRunOf R ys S → IsRunOf first (xs ++ ys) S
+abbrev done : List (Deed × Data) → List Deed
+done pairs = map (λ (pair : Deed × Data). pair.0) pairs
+
+abbrev told : List (Deed × Data) → List Data
+told pairs = map (λ (pair : Deed × Data). pair.1) pairs
+
+-- deeds go on from the register after those before them, and so do their replies
+goes_on : (R : Register) (xs ys : List Deed) → after_deeds R (xs ++ ys) ≡ after_deeds (after_deeds R xs) ys
+unfolding after_deeds
+goes_on R [] ys = refl
+goes_on R (deed ∷ xs) ys = goes_on (after_deed R deed) xs ys
+
+replies_on : (R : Register) (xs ys : List Deed) → deed_replies R (xs ++ ys) ≡ deed_replies R xs ++ deed_replies (after_deeds R xs) ys
+unfolding after_deeds deed_replies
+replies_on R [] ys = refl
+replies_on R (deed ∷ xs) ys = ap (λ (ds : List Data). deed_reply R deed ∷ ds) (replies_on (after_deed R deed) xs ys)
+
+pub run_on : (first R S : Register) (xs ys : List (Deed × Data)) → IsRunOf first xs R → IsRunOf R ys S → IsRunOf first (xs ++ ys) S
 run_on first R S xs ys one two =
-    let commands = map (λ (pair : Command × Data). pair.0) xs in
-    let later = map (λ (pair : Command × Data). pair.0) ys in
-    let firsts : map (λ (pair : Command × Data). pair.0) (xs ++ ys) ≡ commands ++ later = map-append _ xs ys in
-    let seconds : map (λ (pair : Command × Data). pair.1) (xs ++ ys) ≡ map (λ (pair : Command × Data). pair.1) xs ++ map (λ (pair : Command × Data). pair.1) ys =
-    map-append _ xs ys in
-    let on = runs_go_on first commands later in
-    let told : map reply_data (replies R later) ≡ map reply_data (replies (after_all first commands) later) =
-    ap (λ (X : Register). map reply_data (replies X later)) one.register in
+    let deeds : done (xs ++ ys) ≡ done xs ++ done ys = map-append _ xs ys in
     record {
-      register = two.register ∙ ap (λ (X : Register). after_all X later) one.register ∙ sym on.register ∙ ap (after_all first) (sym firsts);
-      replied = seconds ∙ ap₂ (λ (a b : List Data). a ++ b) one.replied (two.replied ∙ told)
-          ∙ sym (map-append reply_data (replies first commands) (replies (after_all first commands) later))
-          ∙ ap (map reply_data) (sym on.replied) ∙ ap (λ (qs : List Command). map reply_data (replies first qs)) (sym firsts);
+      register = two.register ∙ ap (λ (X : Register). after_deeds X (done ys)) one.register ∙ sym (goes_on first (done xs) (done ys))
+          ∙ ap (after_deeds first) (sym deeds);
+      replied = map-append _ xs ys
+          ∙ ap₂ (λ (a b : List Data). a ++ b) one.replied (two.replied ∙ ap (λ (X : Register). deed_replies X (done ys)) one.register)
+          ∙ sym (replies_on first (done xs) (done ys)) ∙ ap (deed_replies first) (sym deeds);
     }
 
 -- and the rest of a run goes on from where its beginning leads to
-pub run_rest : (first R T : Register) (xs ys : List (Command × Data)) → IsRunOf first xs R → IsRunOf first (xs ++ ys) T → IsRunOf R ys T
+pub run_rest : (first R T : Register) (xs ys : List (Deed × Data)) → IsRunOf first xs R → IsRunOf first (xs ++ ys) T → IsRunOf R ys T
 run_rest first R T xs ys one all =
-    let commands = map (λ (pair : Command × Data). pair.0) xs in
-    let later = map (λ (pair : Command × Data). pair.0) ys in
-    let told = map (λ (pair : Command × Data). pair.1) xs in
-    let others = map (λ (pair : Command × Data). pair.1) ys in
-    let firsts : map (λ (pair : Command × Data). pair.0) (xs ++ ys) ≡ commands ++ later = map-append _ xs ys in
-    let seconds : map (λ (pair : Command × Data). pair.1) (xs ++ ys) ≡ told ++ others = map-append _ xs ys in
-    let on = runs_go_on first commands later in
-    let both : told ++ others ≡ told ++ map reply_data (replies R later) =
-    sym seconds ∙ all.replied ∙ ap (λ (qs : List Command). map reply_data (replies first qs)) firsts ∙ ap (map reply_data) on.replied
-    ∙ map-append reply_data (replies first commands) (replies (after_all first commands) later)
-    ∙ ap₂ (λ (a b : List Data). a ++ b) (sym one.replied) (ap (λ (X : Register). map reply_data (replies X later)) (sym one.register)) in
+    let deeds : done (xs ++ ys) ≡ done xs ++ done ys = map-append _ xs ys in
+    let both : told xs ++ told ys ≡ told xs ++ deed_replies R (done ys) =
+    sym (map-append _ xs ys) ∙ all.replied ∙ ap (deed_replies first) deeds ∙ replies_on first (done xs) (done ys)
+    ∙ ap₂ (λ (a b : List Data). a ++ b) (sym one.replied) (ap (λ (X : Register). deed_replies X (done ys)) (sym one.register)) in
     record {
-      register = all.register ∙ ap (after_all first) firsts ∙ on.register ∙ ap (λ (X : Register). after_all X later) (sym one.register);
-      replied = append_cancel_left told others (map reply_data (replies R later)) both;
+      register = all.register ∙ ap (after_deeds first) deeds ∙ goes_on first (done xs) (done ys)
+          ∙ ap (λ (X : Register). after_deeds X (done ys)) (sym one.register);
+      replied = append_cancel_left (told xs) (told ys) (deed_replies R (done ys)) both;
     }
 
-one_run : (R : Register) (q : Command) → IsRunOf R ((q, reply_data (Answer.reply (answer R q))) ∷ []) (after R q)
-unfolding after_all replies
-one_run R q = record { register = refl; replied = refl }
+one_run : (R : Register) (deed : Deed) → IsRunOf R ((deed, deed_reply R deed) ∷ []) (after_deed R deed)
+unfolding after_deeds deed_replies
+one_run R deed = record { register = refl; replied = refl }
 
-pub run_more : (first R : Register) (pairs : List (Command × Data)) (q : Command) → IsRunOf first pairs R
-    → IsRunOf first (pairs ++ (q, reply_data (Answer.reply (answer R q))) ∷ []) (after R q)
-run_more first R pairs q run = run_on first R (after R q) pairs _ run (one_run R q)
+pub run_more : (first R : Register) (pairs : List (Deed × Data)) (deed : Deed) → IsRunOf first pairs R
+    → IsRunOf first (pairs ++ (deed, deed_reply R deed) ∷ []) (after_deed R deed)
+run_more first R pairs deed run = run_on first R (after_deed R deed) pairs _ run (one_run R deed)
 
 append_first : (a b : Data) (xs ys : List Data) → a ∷ xs ≡ b ∷ ys → a ≡ b
 append_first a b xs ys is = cc
 
--- in a run each command has the reply of the register that the run has come to
-pub reply_in_run : (first R T : Register) (xs : List (Command × Data)) (q : Command) (d : Data) (ys : List (Command × Data)) → IsRunOf first xs R
-    → IsRunOf first (xs ++ (q, d) ∷ ys) T → d ≡ reply_data (Answer.reply (answer R q))
-unfolding replies
-reply_in_run first R T xs q d ys one all =
-    let commands = map (λ (pair : Command × Data). pair.0) xs in
-    let later = map (λ (pair : Command × Data). pair.0) ys in
-    let told = map (λ (pair : Command × Data). pair.1) xs in
-    let others = map (λ (pair : Command × Data). pair.1) ys in
-    let firsts : map (λ (pair : Command × Data). pair.0) (xs ++ (q, d) ∷ ys) ≡ commands ++ q ∷ later = map-append _ xs ((q, d) ∷ ys) in
-    let seconds : map (λ (pair : Command × Data). pair.1) (xs ++ (q, d) ∷ ys) ≡ told ++ d ∷ others = map-append _ xs ((q, d) ∷ ys) in
-    let whole : map reply_data (replies first (commands ++ q ∷ later))
-    ≡ map reply_data (replies first commands) ++ map reply_data (replies (after_all first commands) (q ∷ later)) =
-    ap (map reply_data) (runs_go_on first commands (q ∷ later)).replied
-    ∙ map-append reply_data (replies first commands) (replies (after_all first commands) (q ∷ later)) in
-    let both : told ++ d ∷ others ≡ told ++ map reply_data (replies R (q ∷ later)) =
-    sym seconds ∙ all.replied ∙ ap (λ (qs : List Command). map reply_data (replies first qs)) firsts ∙ whole
-    ∙ ap₂ (λ (a b : List Data). a ++ b) (sym one.replied) (ap (λ (X : Register). map reply_data (replies X (q ∷ later))) (sym one.register)) in
-    append_first d (reply_data (Answer.reply (answer R q))) others (map reply_data (replies (after R q) later))
-    (append_cancel_left told (d ∷ others) (map reply_data (replies R (q ∷ later))) both)
+-- in a run each deed has the reply of the register that the run has come to
+pub reply_in_run : (first R T : Register) (xs : List (Deed × Data)) (deed : Deed) (d : Data) (ys : List (Deed × Data)) → IsRunOf first xs R
+    → IsRunOf first (xs ++ (deed, d) ∷ ys) T → d ≡ deed_reply R deed
+unfolding deed_replies
+reply_in_run first R T xs deed d ys one all =
+    append_first d (deed_reply R deed) (told ys) (deed_replies (after_deed R deed) (done ys)) (run_rest first R T xs ((deed, d) ∷ ys) one all).replied

@@ -8,16 +8,12 @@ use Rattle.sqlite.specs.State.{State, Survives}
 use Rattle.sqlite.specs.Tree.{Trees}
 use Rattle.serde_json.specs.Data.{Data}
 use Rattle.serde_json.specs.View.{view}
-use Rattle.clr_answer.specs.Decision.{is_accepted as accepts}
 use Rattle.clr_place.specs.declared.place.Place.{Place}
-use Rattle.clr_rules.specs.Answer.{Answer, answer}
 use Rattle.clr_rules.specs.Good.{IsGood}
 use Rattle.clr_rules.specs.Register.{Register}
-use Rattle.clr_rules.specs.Run.{after}
-use Rattle.clr_rules.specs.declared.command.Command.{Command}
-use Rattle.clr_rules.specs.declared.reply.Reply.{Reply}
-use Rattle.clr_rules.proofs.keeps.EveryKind.{runs_keep_good}
-use Rattle.clr_text.specs.Replies.{reply_data}
+use Rattle.clr_deeds.specs.Deeds.{Deed, after_deed, deed_of}
+use Rattle.clr_deeds.proofs.Deeds.{deeds_good}
+use Rattle.clr_journal.specs.Answered.{deed_reply}
 use Rattle.clr_journal.specs.Journals.{carried_out, next_place, withdraws}
 use Rattle.clr_journal.specs.Line.{Entry, entry_of, is_accepted, withdrawn}
 use Rattle.clr_journal.specs.declared.line.Carried.{Carried}
@@ -27,26 +23,25 @@ use Rattle.clr_journal.proofs.JournalsRead.{withdrawn_is_left_out}
 use Rattle.clr_chain.specs.Level.{IsRunOf, place_after, place_with}
 use Rattle.clr_chain.specs.Link.{has_fraction}
 use Rattle.clr_chain.proofs.LevelKept.{carried_out-append}
-use Rattle.clr_desk.specs.Given.{LeadsTo}
 use Rattle.clr_desk.specs.Taking.{Hearing, Taking}
 use Rattle.clr_desk.specs.declared.desk.Desk.{Desk}
 use Rattle.clr_desk.specs.declared.desk_fault.DeskFault.{DeskFault}
-use Rattle.clr_desk.proofs.Givings.{leads_itself}
 use Rattle.clr_level.specs.Crash.{AreRolled, KeepsTables}
-use Rattle.clr_level.specs.Forward.{AreAnswered, AreShallow, Arrives, HasCome, HasFractionAt, HasStopped, IsAccepted, IsOfCarrying, IsOfForward, StopsAt, Went}
+use Rattle.clr_level.specs.Forward.{AreAnswered, AreShallow, Arrives, GoesOn, HasCome, HasFractionAt, HasStopped, IsAccepted, IsOfCarrying, IsOfForward, StopsAt, Went}
 use Rattle.clr_level.specs.Forward.{entry_with, open_after, open_entries, opened_by}
 use Rattle.clr_desk.specs.Placing.{Placing}
 use Rattle.clr_level.specs.Placing.{ComesTo, IsAt, StaysShown}
+use Rattle.clr_level.specs.Carrying.{IsTaken}
 use Rattle.clr_level.specs.declared.fault.OpeningFault.{OpeningFault}
 use Rattle.clr_level.specs.declared.fault.OpeningFault.TheVariants as opening
-use Rattle.clr_level.proofs.Accepting.{accepted_data}
 use Rattle.clr_level.proofs.Chains.{accepted_out, front_kept, no_run, place_more, refused_out, reply_in_run, run_more, withdrawn_out}
 use Rattle.clr_level.proofs.Crashes.{left_itself}
+use Rattle.clr_level.proofs.Deeds.{goes_itself}
 use Rattle.clr_level.proofs.Places.{at_moves, at_stays}
 
 -- a run leaves a good register good
-pub still_good : (R S : Register) (pairs : List (Command × Data)) → IsGood R → IsRunOf R pairs S → IsGood S
-still_good R S pairs good run = subst IsGood (sym run.register) (runs_keep_good R (map (λ pair. pair.0) pairs) good)
+pub still_good : (R S : Register) (pairs : List (Deed × Data)) → IsGood R → IsRunOf R pairs S → IsGood S
+still_good R S pairs good run = subst IsGood (sym run.register) (deeds_good (map (λ pair. pair.0) pairs) R good)
 
 -- the open command, where a line has closed it, stays closed at that line
 pub closed_again : (one : Line) (before now : Option Carried) → now ≡ open_after one before → now ≡ open_after one now
@@ -119,7 +114,7 @@ module _ (has_place : Placing) (R : Register) (place : Place) (lines : List Entr
       let entry = entry_of (line.Carried one) in
       gone_on S s at None None entry rest come (come.idle ++ entry ∷ [])
       (append-nil (come.idle ++ entry ∷ []) ∙ ap (λ es. es ++ entry ∷ []) (sym (append-nil come.idle)))
-      (refused_out come.idle one.receipt one.command (view one.reply) come.none refused) tt come.shallow.1
+      (refused_out come.idle one.receipt (deed_of one.deed) (view one.reply) come.none refused) tt come.shallow.1
 
   -- a line that withdraws: what was open is idle
   withdrawn_passed : (S : Register) (s : State) (at : Place) (open_one : Option Carried) (n : ℕ) (rest : List Entry)
@@ -132,7 +127,7 @@ module _ (has_place : Placing) (R : Register) (place : Place) (lines : List Entr
       let entry = entry_of (line.Carried one) in
       gone_on S s at (Some one) None (withdrawn n) rest come (come.idle ++ entry ∷ withdrawn n ∷ [])
       (append-nil (come.idle ++ entry ∷ withdrawn n ∷ []) ∙ sym (append_assoc come.idle (entry ∷ []) (withdrawn n ∷ [])))
-      (withdrawn_is_left_out come.idle one.receipt one.command (view one.reply) n ∙ come.none) tt come.shallow.1.1
+      (withdrawn_is_left_out come.idle one.receipt (deed_of one.deed) (view one.reply) n ∙ come.none) tt come.shallow.1.1
 
   pub line_passed : (S : Register) (s : State) (at : Place) (open_one : Option Carried) (one : Line) (rest : List Entry) → open_one ≡ open_after one open_one
       → HasCome has_place R place lines S s at open_one (entry_of one ∷ rest)
@@ -157,18 +152,18 @@ module _ (has_place : Placing) (R : Register) (place : Place) (lines : List Entr
 
   -- a run with the open command
   pub run_with : (S : Register) (s : State) (at : Place) (one : Carried) (rest : List Entry) (come : HasCome has_place R place lines S s at (Some one) rest)
-      → view one.reply ≡ reply_data (Answer.reply (answer S one.command))
-      → IsRunOf R (carried_out (HasCome.had come ++ (HasCome.idle come ++ entry_with one ∷ []))) (after S one.command)
+      → view one.reply ≡ deed_reply S (deed_of one.deed)
+      → IsRunOf R (carried_out (HasCome.had come ++ (HasCome.idle come ++ entry_with one ∷ []))) (after_deed S (deed_of one.deed))
   run_with S s at one rest come is =
       let now = come.idle ++ entry_with one ∷ [] in
-      let pairs : carried_out (come.had ++ now) ≡ carried_out come.had ++ (one.command, reply_data (Answer.reply (answer S one.command))) ∷ [] =
+      let pairs : carried_out (come.had ++ now) ≡ carried_out come.had ++ (deed_of one.deed, deed_reply S (deed_of one.deed)) ∷ [] =
       carried_out-append come.had now (front_kept now rest come.begins)
-      ∙ ap (λ es. carried_out come.had ++ es) (accepted_out come.idle one.receipt one.command (view one.reply) come.none come.accepted)
-      ∙ ap (λ (d : Data). carried_out come.had ++ (one.command, d) ∷ []) is in
-      subst (λ pairs. IsRunOf R pairs (after S one.command)) (sym pairs) (run_more R S (carried_out come.had) one.command come.run)
+      ∙ ap (λ es. carried_out come.had ++ es) (accepted_out come.idle one.receipt (deed_of one.deed) (view one.reply) come.none come.accepted)
+      ∙ ap (λ (d : Data). carried_out come.had ++ (deed_of one.deed, d) ∷ []) is in
+      subst (λ pairs. IsRunOf R pairs (after_deed S (deed_of one.deed))) (sym pairs) (run_more R S (carried_out come.had) (deed_of one.deed) come.run)
 
   pub carried_on : (S T : Register) (s t : State) (at : Place) (one : Carried) (rest : List Entry) → HasCome has_place R place lines S s at (Some one) rest
-      → withdraws rest ≡ false → view one.reply ≡ reply_data (Answer.reply (answer S one.command)) → T ≡ after S one.command → ComesTo has_place s t at
+      → withdraws rest ≡ false → view one.reply ≡ deed_reply S (deed_of one.deed) → T ≡ after_deed S (deed_of one.deed) → ComesTo has_place s t at
       → HasCome has_place R place lines T t at None rest × IsAt has_place t at
   unfolding carried_out
   carried_on S T s t at one rest come kept is went comes =
@@ -241,27 +236,26 @@ module _ (has_place : Placing) (R : Register) (place : Place) (lines : List Entr
 
   -- where all lines are answered as they say, it is
   pub said : (S : Register) (s : State) (at : Place) (one : Carried) (rest : List Entry) → AreAnswered R lines
-      → HasCome has_place R place lines S s at (Some one) rest → withdraws rest ≡ false → view one.reply ≡ reply_data (Answer.reply (answer S one.command))
+      → HasCome has_place R place lines S s at (Some one) rest → withdraws rest ≡ false → view one.reply ≡ deed_reply S (deed_of one.deed)
   said S s at one rest answered come kept =
       let entry = entry_with one in
       let now = come.idle ++ entry ∷ [] in
-      let pairs : carried_out lines ≡ carried_out come.had ++ (one.command, view one.reply) ∷ carried_out rest =
+      let pairs : carried_out lines ≡ carried_out come.had ++ (deed_of one.deed, view one.reply) ∷ carried_out rest =
       ap carried_out come.all_is ∙ carried_out-append come.had (now ++ rest) come.begins
       ∙ ap (λ ps. carried_out come.had ++ ps) (carried_out-append now rest kept
-      ∙ ap (λ ps. ps ++ carried_out rest) (accepted_out come.idle one.receipt one.command (view one.reply) come.none come.accepted)) in
-      reply_in_run R S answered.0 (carried_out come.had) one.command (view one.reply) (carried_out rest) come.run
+      ∙ ap (λ ps. ps ++ carried_out rest) (accepted_out come.idle one.receipt (deed_of one.deed) (view one.reply) come.none come.accepted)) in
+      reply_in_run R S answered.0 (carried_out come.had) (deed_of one.deed) (view one.reply) (carried_out rest) come.run
       (subst (λ ps. IsRunOf R ps answered.0) pairs answered.1)
 
-  pub answered_on : (S T : Register) (s t : State) (at : Place) (one : Carried) (rest : List Entry) (reply : Reply) → IsGood R → AreAnswered R lines
+  -- and so it is carried out
+  pub answered_on : (S T : Register) (s t : State) (at : Place) (one : Carried) (rest : List Entry) → IsGood R → AreAnswered R lines
       → HasCome has_place R place lines S s at (Some one) rest → withdraws rest ≡ false
-      → (IsGood S → reply ≡ Answer.reply (answer S one.command)) → (IsGood S → T ≡ after S one.command)
-      → (accepts reply ≡ true → ComesTo has_place s t at) → HasCome has_place R place lines T t at None rest × IsAt has_place t at
-  answered_on S T s t at one rest reply good answered come kept replied went comes =
-      let fine = still_good R S (carried_out come.had) good come.run in
+      → (IsTaken S (deed_of one.deed) → T ≡ after_deed S (deed_of one.deed)) → (IsTaken S (deed_of one.deed) → ComesTo has_place s t at)
+      → HasCome has_place R place lines T t at None rest × IsAt has_place t at
+  answered_on S T s t at one rest good answered come kept went comes =
       let is = said S s at one rest answered come kept in
-      let accepted : accepts reply ≡ true =
-      ap accepts (replied fine) ∙ sym (accepted_data (Answer.reply (answer S one.command))) ∙ ap is_accepted (sym is) ∙ come.accepted in
-      carried_on S T s t at one rest come kept is (went fine) (comes accepted)
+      let taken : IsTaken S (deed_of one.deed) = (still_good R S (carried_out come.had) good come.run, ap is_accepted (sym is) ∙ come.accepted) in
+      carried_on S T s t at one rest come kept is (went taken) (comes taken)
 
   pub stopped : (S : Register) (s : State) (at : Place) (open_one : Option Carried) (rest : List Entry) → HasCome has_place R place lines S s at open_one rest
       → HasStopped has_place R place lines S s
@@ -394,7 +388,7 @@ pub record SoFar {K : Type 0} (kept : K → State) (takes : Taking K) (hears : H
       → HasCome has_place desk.book.register place (map entry_of lines) now.book.register (kept now.store) at open_one (map entry_of (reverse left))
   pub tables : KeepsTables kept desk now
   pub crash : Survives (kept desk.store) (kept now.store) (Left kept has_place desk place (map entry_of lines))
-  pub led : LeadsTo kept takes hears desk now
+  pub led : GoesOn kept takes hears has_place desk now
   pub before : List Line
   pub all : lines ≡ before ++ reverse left
 
@@ -407,7 +401,7 @@ module _ {K : Type 0} (kept : K → State) (takes : Taking K) (hears : Hearing K
         (begun has_place desk.book.register place (map entry_of lines) (kept desk.store) begins shallow at);
     tables = λ clean good has. has;
     crash = left_itself (kept desk.store) (Left kept has_place desk place (map entry_of lines));
-    led = leads_itself kept takes hears desk;
+    led = goes_itself kept takes hears has_place desk;
     before = [];
     all = sym (ap reverse is ∙ reverse-reverse lines);
   }

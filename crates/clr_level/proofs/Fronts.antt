@@ -6,7 +6,7 @@ use Rattle.sqlite.proofs.StateLemmas.{survives_then}
 use Rattle.clr_place.specs.declared.place.Place.{Place}
 use Rattle.clr_rules.specs.Good.{IsGood}
 use Rattle.clr_rules.specs.Register.{Register}
-use Rattle.clr_rules.specs.Run.{after}
+use Rattle.clr_deeds.specs.Deeds.{after_deed, deed_of}
 use Rattle.clr_tables.specs.TableEdits.{tables_edited}
 use Rattle.clr_tables.specs.Tables.{tables_of}
 use Rattle.clr_load.proofs.Reopened.{opened_with}
@@ -17,7 +17,8 @@ use Rattle.clr_chain.specs.Level.{IsRunOf, place_after}
 use Rattle.clr_chain.proofs.LevelKept.{carried_out-append}
 use Rattle.clr_desk.specs.Placing.{AreEditedAt, Placing}
 use Rattle.clr_desk.specs.declared.desk.Desk.{Desk}
-use Rattle.clr_level.specs.Crash.{AreAfterAt, AreFurther, FrontsCanBeOpened, KeepsTables}
+use Rattle.clr_level.specs.Carrying.{AreDoneAt}
+use Rattle.clr_level.specs.Crash.{AreFurther, FrontsCanBeOpened, KeepsTables}
 use Rattle.clr_level.specs.Forward.{AreAnswered, AreShallow, HasCome, entry_with}
 use Rattle.clr_level.specs.Placing.{IsAt}
 use Rattle.clr_level.proofs.Chains.{front_kept, place_on, run_on, run_rest}
@@ -26,20 +27,21 @@ use Rattle.clr_level.proofs.Forwarding.{Left, run_over_idle, run_with, said, sti
 -- ---- one call
 
 module _ (has_place : Placing) where
-  -- the open command and its place
+  -- the open deed and its place
   pub carried_further : (S : Register) (s : State) (at : Place) (one : Carried) (rest : List Entry) (trees : Trees) → withdraws rest ≡ false
-      → AreAfterAt has_place s.now S one.command at trees → AreFurther has_place S s at (Some one) rest trees
+      → AreDoneAt has_place s.now S (deed_of one.deed) at trees → AreFurther has_place S s at (Some one) rest trees
   carried_further S s at one rest trees kept left R place lines good answered come has =
       let now = come.idle ++ entry_with one ∷ [] in
+      let both = left (still_good R S (carried_out come.had) good come.run) has in
       record {
         had = come.had ++ now;
         later = rest;
         all_is = come.all_is ∙ sym (append_assoc come.had now rest);
         kept = kept;
-        register = after S one.command;
+        register = after_deed S (deed_of one.deed);
         run = run_with has_place R place lines S s at one rest come (said has_place R place lines S s at one rest answered come kept);
-        tables = left.0 (still_good R S (carried_out come.had) good come.run) has;
-        placed = subst (λ (p : Place). has_place trees (Some p)) come.at_is (left.1 (tables_of S) has);
+        tables = both.0;
+        placed = subst (λ (p : Place). has_place trees (Some p)) come.at_is both.1;
       }
 
   -- or the place moved over idle lines

@@ -7,12 +7,14 @@ use Rattle.clr_rules.specs.Answer.{Answer, answer}
 use Rattle.clr_rules.specs.Good.{IsGood}
 use Rattle.clr_rules.specs.Register.{Register}
 use Rattle.clr_rules.specs.Run.{after}
+use Rattle.clr_deeds.specs.Deeds.{Deed, after_deed, command as of_command}
+use Rattle.clr_deeds.proofs.Deeds.{deeds_good}
 use Rattle.clr_rules.specs.declared.command.Command.{Command}
 use Rattle.clr_rules.specs.declared.reply.Reply.{Reply}
 use Rattle.clr_rules.specs.declared.reply.Reply.TheVariants.{Accepted, Shown, Refused, Added}
-use Rattle.clr_rules.proofs.keeps.EveryKind.{runs_keep_good}
 use Rattle.clr_answer.specs.Decision.{is_accepted as accepts}
 use Rattle.clr_text.specs.Replies.{reply_data}
+use Rattle.clr_journal.specs.Answered.{deed_reply}
 use Rattle.clr_journal.specs.Journals.{carried_out, in_turn, is_next, turn_after, withdraws}
 use Rattle.clr_journal.specs.Laws.{turn_behind}
 use Rattle.clr_journal.specs.Line.{Entry, carried, is_accepted, withdrawn}
@@ -55,10 +57,10 @@ pub record IsUpTo (first : Register) (start place : Place) (R : Register) (bytes
   pub end_is : at ≡ place_after start (had ++ more)
 
 -- and of these no command is left to be carried out
-record IsSaid (first : Register) (start place : Place) (R : Register) (bytes : List ℕ) (at : Place) : Type 0 where
-  more : List Entry
-  up : IsUpTo first start place R bytes at more
-  none : carried_out more ≡ []
+pub record IsSaid (first : Register) (start place : Place) (R : Register) (bytes : List ℕ) (at : Place) : Type 0 where
+  pub more : List Entry
+  pub up : IsUpTo first start place R bytes at more
+  pub none : carried_out more ≡ []
 
 -- what is left of them is this
 record IsLeftAs (first : Register) (start place : Place) (R : Register) (bytes : List ℕ) (at : Place) (last : Last) : Type 0 where
@@ -91,7 +93,7 @@ module _ (first : Register) (start place : Place) (R : Register) where
         end_is = ap (λ (p : Place). place_with p entry) up.end_is ∙ sym (place_more start all entry) ∙ ap (place_after start) together;
       }
 
-  command_more : (bytes : List ℕ) (at : Place) (more : List Entry) (receipt : Receipt) (q : Command) (reply : Data)
+  pub command_more : (bytes : List ℕ) (at : Place) (more : List Entry) (receipt : Receipt) (q : Deed) (reply : Data)
       → IsUpTo first start place R bytes at more → receipt.number ≡ at.number + 1
       → IsUpTo first start place R (with_link bytes at.sum (carried receipt q reply)) (place_with at (carried receipt q reply)) (more ++ carried receipt q reply ∷ [])
   command_more bytes at more receipt q reply up number =
@@ -104,8 +106,8 @@ module _ (first : Register) (start place : Place) (R : Register) where
   withdrawal_more : (bytes : List ℕ) (at : Place) (more : List Entry) → IsUpTo first start place R bytes at more → IsDue R more
       → IsSaid first start place R (with_link bytes at.sum (withdrawn at.number)) (place_with at (withdrawn at.number))
   withdrawal_more bytes at more up due =
-      let line : Entry = line_at R due.receipt due.q in
-      let told : Data = reply_data (Answer.reply (answer R due.q)) in
+      let line : Entry = line_at R due.receipt due.deed in
+      let told : Data = deed_reply R due.deed in
       let turn = turn_behind (first_turn_at start) (up.had ++ more) in
       let lines : up.had ++ more ≡ (up.had ++ due.idle) ++ line ∷ [] =
       ap (λ (xs : List Entry). up.had ++ xs) due.is ∙ sym (append_assoc up.had due.idle (line ∷ [])) in
@@ -120,7 +122,7 @@ module _ (first : Register) (start place : Place) (R : Register) where
             (ap (λ (xs : List Entry). withdraws (xs ++ withdrawn at.number ∷ [])) due.is ∙ kept_on due.idle line (withdrawn at.number ∷ []) kept);
         none = ap (λ (xs : List Entry). carried_out (xs ++ withdrawn at.number ∷ [])) due.is
             ∙ ap carried_out (append_assoc due.idle (line ∷ []) (withdrawn at.number ∷ []))
-            ∙ withdrawn_is_left_out due.idle due.receipt due.q told at.number ∙ due.none;
+            ∙ withdrawn_is_left_out due.idle due.receipt due.deed told at.number ∙ due.none;
       }
 
   -- what is said, with the withdrawal that is owed
@@ -131,24 +133,24 @@ module _ (first : Register) (start place : Place) (R : Register) where
   said_of Doubtful bytes at more certain up due = absurd (cc certain)
 
   -- a line of a command that is carried out is had
-  had_more : (bytes : List ℕ) (at : Place) (more : List Entry) (receipt : Receipt) (q : Command) (S : Register)
+  pub had_more : (bytes : List ℕ) (at : Place) (more : List Entry) (receipt : Receipt) (q : Deed) (S : Register)
       → (up : IsUpTo first start place R bytes at (more ++ line_at R receipt q ∷ [])) → carried_out more ≡ []
-      → is_accepted (reply_data (Answer.reply (answer R q))) ≡ true → S ≡ after R q → IsUpTo first start at S bytes at []
+      → is_accepted (deed_reply R q) ≡ true → S ≡ after_deed R q → IsUpTo first start at S bytes at []
   had_more bytes at more receipt q S up none accepted register =
-      let told : Data = reply_data (Answer.reply (answer R q)) in
+      let told : Data = deed_reply R q in
       let line : Entry = line_at R receipt q in
       let all = up.had ++ (more ++ line ∷ []) in
       let whole : all ++ [] ≡ all = append-nil all in
       let pairs : carried_out all ≡ carried_out up.had ++ (q, told) ∷ [] =
       carried_out-append up.had (more ++ line ∷ []) up.kept
-      ∙ ap (λ (ps : List (Command × Data)). carried_out up.had ++ ps) (accepted_out more receipt q told none accepted) in
+      ∙ ap (λ (ps : List (Deed × Data)). carried_out up.had ++ ps) (accepted_out more receipt q told none accepted) in
       record {
         had = all;
         turns = ap (in_turn (first_turn_at start)) whole ∙ up.turns;
         is_at = up.end_is;
         kept = refl;
         run = subst (λ (T : Register). IsRunOf first (carried_out all) T) (sym register)
-            (subst (λ (ps : List (Command × Data)). IsRunOf first ps (after R q)) (sym pairs) (run_more first R (carried_out up.had) q up.run));
+            (subst (λ (ps : List (Deed × Data)). IsRunOf first ps (after_deed R q)) (sym pairs) (run_more first R (carried_out up.had) q up.run));
         text_is = up.text_is ∙ ap (chain_text start) (sym whole);
         end_is = up.end_is ∙ ap (place_after start) (sym whole);
       }
@@ -203,11 +205,11 @@ accepts_due : (R : Register) (q : Command) (reply : Reply) → reply ≡ Answer.
 accepts_due R q reply reply_is is = ap (λ (r : Reply). is_accepted (reply_data r)) (sym reply_is) ∙ accepted_data reply ∙ is
 
 due_now : (R : Register) (more : List Entry) (receipt : Receipt) (q : Command) (reply : Reply) → carried_out more ≡ [] → reply ≡ Answer.reply (answer R q)
-    → accepts reply ≡ true → IsDue R (more ++ line_at R receipt q ∷ [])
+    → accepts reply ≡ true → IsDue R (more ++ line_at R receipt (of_command q) ∷ [])
 due_now R more receipt q reply none reply_is is = record {
   idle = more;
   receipt = receipt;
-  q = q;
+  deed = of_command q;
   is = refl;
   none = none;
   accepted = accepts_due R q reply reply_is is;
@@ -263,12 +265,12 @@ module _ {K J C : Type 0} (kept : K → State) (has_place : Placing) (text : J �
     left = subst (λ (l : Last). IsLeft l R level.level.more) (sym last) level.left;
   }
 
-  said_level : (R : Register) (it : Keeper K J C) → is_doubtful it.last ≡ false → (level : IsKeptLevel kept has_place text first start R it)
+  pub said_level : (R : Register) (it : Keeper K J C) → is_doubtful it.last ≡ false → (level : IsKeptLevel kept has_place text first start R it)
       → IsSaid first start level.place R (said text it) (end_said it)
   said_level R it certain level =
       said_of first start level.place R it.last (text it.journal) it.at level.level.more certain (up_to R it level) level.left
 
-  unnoted_level : (R : Register) (old new : Keeper K J C) → new.keeper ≡ old.keeper → IsUnnoted text old new
+  pub unnoted_level : (R : Register) (old new : Keeper K J C) → new.keeper ≡ old.keeper → IsUnnoted text old new
       → IsKeptLevel kept has_place text first start R old → IsKeptLevel kept has_place text first start R new
   unnoted_level R old new same none level =
       let all = unnoted_left first start level.place R old.last new.last (text old.journal) (text new.journal) old.at new.at level.level.more none.text_is none.end_is
@@ -282,7 +284,7 @@ module _ {K J C : Type 0} (kept : K → State) (has_place : Placing) (text : J �
   noted_up R old q reply new level noted all =
       let entry = line_of (end_said old).sum noted.receipt q reply in
       let up = command_more first start level.place R (said text old) (end_said old) all.more noted.receipt
-      (command_of (end_said old).sum noted.receipt q reply) (reply_data reply) all.up noted.number in
+      (of_command (command_of (end_said old).sum noted.receipt q reply)) (reply_data reply) all.up noted.number in
       subst (λ (t : List ℕ). IsUpTo first start level.place R t new.at (all.more ++ entry ∷ [])) (sym noted.text_is)
       (subst (λ (p : Place). IsUpTo first start level.place R (with_link (said text old) (end_said old).sum entry) p (all.more ++ entry ∷ [])) (sym noted.end_is) up)
 
@@ -290,10 +292,10 @@ module _ {K J C : Type 0} (kept : K → State) (has_place : Placing) (text : J �
   due_up : {shows : C → ℕ → Type 0} (R : Register) (old : Keeper K J C) (q : Command) (reply : Reply) (new : Keeper K J C)
       (level : IsKeptLevel kept has_place text first start R old) → (noted : IsNoted shows text old q reply new) (all : IsSaid first start level.place R (said text old) (end_said old))
       → reply ≡ Answer.reply (answer R q) → accepts reply ≡ true
-      → IsUpTo first start level.place R (text new.journal) new.at (all.more ++ line_at R noted.receipt q ∷ [])
+      → IsUpTo first start level.place R (text new.journal) new.at (all.more ++ line_at R noted.receipt (of_command q) ∷ [])
   due_up R old q reply new level noted all reply_is is =
       subst (λ (e : Entry). IsUpTo first start level.place R (text new.journal) new.at (all.more ++ e ∷ []))
-      (ap₂ (λ (p : Command) (r : Reply). carried noted.receipt p (reply_data r)) (accepted_command (end_said old).sum noted.receipt q reply is) reply_is)
+      (ap₂ (λ (p : Command) (r : Reply). carried noted.receipt (of_command p) (reply_data r)) (accepted_command (end_said old).sum noted.receipt q reply is) reply_is)
       (noted_up R old q reply new level noted all)
 
   -- ---- one command
@@ -311,9 +313,9 @@ module _ {K J C : Type 0} (kept : K → State) (has_place : Placing) (text : J �
         → ((more : List Entry) → IsDue R more → IsLeft new.last R more) → Level R new
     left_due R old q reply new level noted stays reply_is is by =
         let all = said_level R old noted.certain level in
-        kept_level R new level.place (all.more ++ line_at R noted.receipt q ∷ []) (due_up R old q reply new level noted all reply_is is)
+        kept_level R new level.place (all.more ++ line_at R noted.receipt (of_command q) ∷ []) (due_up R old q reply new level noted all reply_is is)
         (at_stays has_place (kept old.keeper) (kept new.keeper) level.place level.placed stays)
-        (by (all.more ++ line_at R noted.receipt q ∷ []) (due_now R all.more noted.receipt q reply all.none reply_is is))
+        (by (all.more ++ line_at R noted.receipt (of_command q) ∷ []) (due_now R all.more noted.receipt q reply all.none reply_is is))
 
     left_refused : (R : Register) (old : Keeper K J C) (q : Command) (reply : Reply) (new : Keeper K J C) → Level R old → IsNoted shows text old q reply new
         → StaysShown (kept old.keeper) (kept new.keeper) → accepts reply ≡ false → new.last ≡ Settled → Level R new
@@ -323,7 +325,7 @@ module _ {K J C : Type 0} (kept : K → State) (has_place : Placing) (text : J �
         kept_level R new level.place (all.more ++ entry ∷ []) (noted_up R old q reply new level noted all)
         (at_stays has_place (kept old.keeper) (kept new.keeper) level.place level.placed stays)
         (subst (λ (l : Last). IsLeft l R (all.more ++ entry ∷ [])) (sym settled)
-        (refused_out all.more noted.receipt (command_of (end_said old).sum noted.receipt q reply) (reply_data reply) all.none (accepted_data reply ∙ is)))
+        (refused_out all.more noted.receipt (of_command (command_of (end_said old).sum noted.receipt q reply)) (reply_data reply) all.none (accepted_data reply ∙ is)))
 
     as_it_was : (R : Register) (old new : Keeper K J C) → Level R old → IsAsItWas old new → StaysShown (kept old.keeper) (kept new.keeper) → Level R new
     as_it_was R old new level same stays =
@@ -375,14 +377,14 @@ module _ {K J C : Type 0} (kept : K → State) (has_place : Placing) (text : J �
     after_acceptance R S old q reply new level reply_is register is journals =
         let noted = journals.noted refl (has_its_line q reply is) in
         let all = said_level R old noted.0.certain level in
-        let up = had_more first start level.place R (text new.journal) new.at all.more noted.0.receipt q S (due_up R old q reply new level noted.0 all reply_is is)
+        let up = had_more first start level.place R (text new.journal) new.at all.more noted.0.receipt (of_command q) S (due_up R old q reply new level noted.0 all reply_is is)
         all.none (accepts_due R q reply reply_is is) register in
         kept_level S new new.at [] up
         (at_moves has_place (kept old.keeper) (kept new.keeper) level.place new.at level.placed (journals.placed refl is))
         (subst (λ (l : Last). IsLeft l S []) (sym noted.1) nothing_out)
 
     good_now : (R : Register) (it : Keeper K J C) → IsGood first → Level R it → IsGood R
-    good_now R it good level = subst IsGood (sym level.level.run.register) (runs_keep_good first _ good)
+    good_now R it good level = subst IsGood (sym level.level.run.register) (deeds_good _ first good)
 
     one_keeps : (R S : Register) (old new : Keeper K J C) (q : Command) (result : Result Reply DeskFault) → IsGood first → Level R old
         → IsAnswered Takes_it R old q result S new → Level S new
@@ -440,14 +442,14 @@ settled_says kept has_place text first R start it level settled =
     let its = level.level in
     let none : carried_out its.more ≡ [] = subst (λ (l : Last). IsLeft l R its.more) settled level.left in
     let all : carried_out level.entries ≡ carried_out its.had =
-    ap carried_out its.all ∙ carried_out-append its.had its.more its.kept ∙ ap (λ (ps : List (Command × Data)). carried_out its.had ++ ps) none
+    ap carried_out its.all ∙ carried_out-append its.had its.more its.kept ∙ ap (λ (ps : List (Deed × Data)). carried_out its.had ++ ps) none
     ∙ append-nil (carried_out its.had) in
-    subst (λ (ps : List (Command × Data)). IsRunOf first ps R) (sym all) its.run
+    subst (λ (ps : List (Deed × Data)). IsRunOf first ps R) (sym all) its.run
 
 pub either_level : EitherIsLevel
 either_level first R start place entries level due =
-    let line : Entry = line_at R due.receipt due.q in
+    let line : Entry = line_at R due.receipt due.deed in
     let all : entries ≡ level.had ++ due.idle ++ line ∷ [] =
     level.all ∙ ap (λ (xs : List Entry). level.had ++ xs) due.is ∙ sym (append_assoc level.had due.idle (line ∷ [])) in
-    subst (λ (xs : List Entry). IsLevel first start entries (place_after start xs) (after R due.q)) (sym all)
-    (steps_keep first R start place entries level due.idle [] due.receipt due.q due.is due.none due.accepted refl)
+    subst (λ (xs : List Entry). IsLevel first start entries (place_after start xs) (after_deed R due.deed)) (sym all)
+    (steps_keep first R start place entries level due.idle [] due.receipt due.deed due.is due.none due.accepted refl)

@@ -3,11 +3,14 @@ pub mod Appending
 pub mod Carrying
 pub mod Chains
 pub mod Crashes
+pub mod Deeds
 pub mod Forwarding
 pub mod InBrief
 pub mod Levels
 pub mod Openings
+pub mod Outcomes
 pub mod Places
+pub mod Renewals
 pub mod Rolling
 pub mod Sounds
 pub mod Taken

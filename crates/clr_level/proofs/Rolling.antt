@@ -1,4 +1,4 @@
--- A desk that is rolled forward: by commands, and then by a move of its place.
+-- A desk that is rolled forward: by deeds, and then by a move of its place.
 use Rattle.std.proofs.Common.{◌≡◌, ◌⊎◌, [], List, None, Ok, Err, inl, inr, arith, refl, ap, subst, sym}
 use Rattle.sqlite.specs.Effect.{Database}
 use Rattle.sqlite.specs.State.{State, Survives}
@@ -10,17 +10,16 @@ use Rattle.clr_journal.specs.Line.{Entry}
 use Rattle.clr_tables.specs.Tables.{tables_of}
 use Rattle.clr_tables.specs.TableEdits.{tables_edited}
 use Rattle.clr_load.specs.Stored.{HasTables}
-use Rattle.clr_desk.specs.Given.{LeadsTo}
 use Rattle.clr_desk.specs.Kept.{Keeps}
 use Rattle.clr_desk.specs.Placing.{AreEditedAt, CommitsAt, Placing}
 use Rattle.clr_desk.specs.Taking.{Came, Hearing, Taking}
 use Rattle.clr_desk.specs.declared.desk.Desk.{Desk}
 use Rattle.clr_desk.specs.declared.desk_fault.DeskFault.{DeskFault}
-use Rattle.clr_desk.proofs.Givings.{leads_itself, leads_on}
 use Rattle.clr_desk.proofs.Keeping.{keeps_on}
 use Rattle.clr_level.specs.Crash.{AreFurther}
-use Rattle.clr_level.specs.Forward.{Arrives, HasCome, IsMoved, RollsTo}
+use Rattle.clr_level.specs.Forward.{Arrives, GoesOn, HasCome, IsMoved, RollsTo}
 use Rattle.clr_level.specs.declared.fault.OpeningFault.TheVariants.{Desk as Failed}
+use Rattle.clr_level.proofs.Deeds.{goes_further, goes_itself, goes_keep}
 use Rattle.clr_level.proofs.Forwarding.{moved_on, stayed, stopped}
 use Rattle.clr_level.proofs.Fronts.{moved_further}
 use Rattle.clr_level.proofs.Places.{comes, shows_still}
@@ -51,17 +50,17 @@ moved_keeps has_place s t R place (Err fault) moved = record {
 }
 
 module _ {K : Type 0} (kept : K → State) (takes : Taking K) (hears : Hearing K) (has_place : Placing) where
-  pub rolls_by : (old new : Desk K) → LeadsTo kept takes hears old new → RollsTo kept takes hears has_place old new
+  pub rolls_by : (old new : Desk K) → GoesOn kept takes hears has_place old new → RollsTo kept takes hears has_place old new
   rolls_by old new led = record { before = new; led = led; book = refl; store = inl refl }
 
   pub rolls_itself : (d : Desk K) → RollsTo kept takes hears has_place d d
-  rolls_itself d = rolls_by d d (leads_itself kept takes hears d)
+  rolls_itself d = rolls_by d d (goes_itself kept takes hears has_place d)
 
-  pub rolls_on : (old between new : Desk K) → LeadsTo kept takes hears old between → RollsTo kept takes hears has_place between new
+  pub rolls_on : (old between new : Desk K) → GoesOn kept takes hears has_place old between → RollsTo kept takes hears has_place between new
       → RollsTo kept takes hears has_place old new
   rolls_on old between new led rolls = record {
     before = rolls.before;
-    led = leads_on kept takes hears old between rolls.before led rolls.led;
+    led = goes_further kept takes hears has_place old between rolls.before led rolls.led;
     book = rolls.book;
     store = rolls.store;
   }
@@ -72,12 +71,13 @@ module _ {K : Type 0} (kept : K → State) (takes : Taking K) (hears : Hearing K
   store_keeps R before after (inr (place, came, moved)) s S keeps =
       keeps_on s (kept before) (kept after) S R R keeps (moved_keeps has_place (kept before) (kept after) R place came moved)
 
-  -- what commands keep is kept
+  -- what deeds keep is kept
   pub rolls_keep : (old new : Desk K) → RollsTo kept takes hears has_place old new
       → Keeps (kept old.store) old.book.register (kept new.store) new.book.register
   rolls_keep old new rolls =
       subst (λ (b : Shelved). Keeps (kept old.store) old.book.register (kept new.store) b.register) (sym rolls.book)
-      (store_keeps rolls.before.book.register rolls.before.store new.store rolls.store (kept old.store) old.book.register rolls.led.keeps)
+      (store_keeps rolls.before.book.register rolls.before.store new.store rolls.store (kept old.store) old.book.register
+      (goes_keep kept takes hears has_place old rolls.before rolls.led))
 
 -- ---- a desk whose keeper was called to move its place
 
@@ -113,7 +113,7 @@ module _ {K : Type 0} (kept : K → State) (has_place : Placing) (old new : Desk
       → RollsTo kept takes hears has_place old new
   move_rolls takes hears came moved = record {
     before = old;
-    led = leads_itself kept takes hears old;
+    led = goes_itself kept takes hears has_place old;
     book = book;
     store = inr (at, came, moved_there came moved);
   }

@@ -2,16 +2,16 @@
 use Rattle.std.proofs.Common.{◌≡◌, ◌∙◌, ℕ, Bool, true, List, [], ◌∷◌, ◌++◌, Ok, Err, Option, Result, inl, inr, refl, sym, subst, ap}
 use Rattle.serde_json.specs.Data.{Data}
 use Rattle.sqlite.specs.State.{State}
-use Rattle.clr_rules.specs.Answer.{Answer, answer}
+use Rattle.clr_rules.specs.Answer.{Answer}
 use Rattle.clr_rules.specs.Good.{IsGood}
 use Rattle.clr_rules.specs.Register.{Register}
-use Rattle.clr_rules.specs.Run.{after}
+use Rattle.clr_deeds.specs.Deeds.{Deed, after_deed}
+use Rattle.clr_journal.specs.Answered.{deed_reply}
 use Rattle.clr_rules.specs.declared.command.Command.{Command}
 use Rattle.clr_rules.specs.declared.reply.Reply.{Reply}
 use Rattle.clr_rules.specs.declared.reply.Reply.TheVariants.{Accepted, Shown, Refused, Added}
 use Rattle.clr_answer.specs.Decision.{is_accepted}
 use Rattle.clr_place.specs.declared.place.Place.{Place}
-use Rattle.clr_text.specs.Replies.{reply_data}
 use Rattle.clr_journal.specs.Journals.{carried_out}
 use Rattle.clr_chain.specs.Chain.{chain_text}
 use Rattle.clr_chain.specs.Level.{IsRunOf, place_after}
@@ -127,13 +127,13 @@ pub due_is_safe : {K J C : Type 0} (kept : K → State) (has_place : Placing) (t
     → DueIsSafe K J C kept has_place text may_leave
 due_is_safe kept has_place text may_leave first R start it level due durable =
     let its = level.level in
-    let told : Data = reply_data (Answer.reply (answer R due.q)) in
-    let pairs : carried_out level.entries ≡ carried_out its.had ++ (due.q, told) ∷ [] =
+    let told : Data = deed_reply R due.deed in
+    let pairs : carried_out level.entries ≡ carried_out its.had ++ (due.deed, told) ∷ [] =
     ap carried_out its.all ∙ carried_out-append its.had its.more its.kept
-    ∙ ap (λ (ps : List (Command × Data)). carried_out its.had ++ ps) (ap carried_out due.is ∙ accepted_out due.idle due.receipt due.q told due.none due.accepted) in (
+    ∙ ap (λ (ps : List (Deed × Data)). carried_out its.had ++ ps) (ap carried_out due.is ∙ accepted_out due.idle due.receipt due.deed told due.none due.accepted) in (
       record {
         turns = its.turns;
-        run = subst (λ (ps : List (Command × Data)). IsRunOf first ps (after R due.q)) (sym pairs) (run_more first R (carried_out its.had) due.q its.run);
+        run = subst (λ (ps : List (Deed × Data)). IsRunOf first ps (after_deed R due.deed)) (sym pairs) (run_more first R (carried_out its.had) due.deed its.run);
       },
       level.end_is,
       durable_safe text may_leave (chain_text start level.entries) it.journal level.text_is durable,

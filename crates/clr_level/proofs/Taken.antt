@@ -12,7 +12,7 @@ use Rattle.clr_desk.specs.Commit.{Stays}
 use Rattle.clr_desk.specs.Taking.{Came, Taking, is_refused}
 use Rattle.clr_desk.specs.declared.desk_fault.DeskFault.{DeskFault}
 use Rattle.clr_desk.specs.declared.desk_fault.DeskFault.TheVariants.{Journal, NoMemory, Store}
-use Rattle.clr_level.specs.Journaling.{DoubtHasCause, HasText, IsAsItWas, IsDurable, IsNoted, IsSafe, IsSound, IsUnwritten, IsWithdrawn, Journals, Misses, StaySafe, has_line, is_show, left, left_by, said, unasked, unkept, unwritten}
+use Rattle.clr_level.specs.Journaling.{DoubtHasCause, HasText, IsAsItWas, IsBeside, IsDurable, IsNoted, IsSafe, IsSound, IsUnwritten, IsWithdrawn, Journals, Misses, StaySafe, has_line, is_show, left, left_by, said, unasked, unkept, unwritten}
 use Rattle.clr_desk.specs.Placing.{CommitsAt, Placing}
 use Rattle.clr_level.specs.Placing.{ComesTo, StaysShown}
 use Rattle.clr_level.specs.declared.keeper.Keeper.{Keeper}
@@ -45,14 +45,6 @@ never_settled : {A : Type 0} (fault : DeskFault) → left_by fault ≡ Settled �
 never_settled NoMemory is = absurd (cc is)
 never_settled (Store cause) is = absurd (cc is)
 never_settled Journal is = absurd (cc is)
-
--- but for the keeper below, and what is known of the last line
-pub record IsBeside {K J C : Type 0} (mid new : Keeper K J C) : Type 0 where
-  pub journal : new.journal ≡ mid.journal
-  pub clock : new.clock ≡ mid.clock
-  pub login : new.login ≡ mid.login
-  pub at : new.at ≡ mid.at
-  pub synced : new.is_synced ≡ mid.is_synced
 
 module _ {K J C : Type 0} (takes : Taking K) (kept : K → State) (has_place : Placing) (shows : C → ℕ → Type 0)
     (text found : J → List ℕ) (may_leave : J → List ℕ → Type 0) (is_usable : J → Bool) where

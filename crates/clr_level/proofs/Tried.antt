@@ -3,12 +3,10 @@ use Rattle.std.proofs.Common.{◌≡◌, ◌≤◌, ◌∙◌, ◌&&◌, Bool, t
 use Rattle.std.proofs.lemmas.List.{append_cancel_right}
 use Rattle.serde_json.specs.Data.{Data, depth}
 use Rattle.serde_json.specs.View.{view}
-use Rattle.clr_rules.specs.Answer.{Answer, answer}
 use Rattle.clr_rules.specs.Good.{IsGood}
 use Rattle.clr_rules.specs.Register.{Register}
-use Rattle.clr_rules.specs.Run.{after}
-use Rattle.clr_rules.specs.declared.command.Command.{Command}
-use Rattle.clr_text.specs.Replies.{reply_data}
+use Rattle.clr_deeds.specs.Deeds.{Deed, after_deed, deed_of}
+use Rattle.clr_journal.specs.Answered.{deed_reply}
 use Rattle.clr_journal.specs.Journals.{carried_out, onto_some, own_pair, withdraws}
 use Rattle.clr_journal.specs.Line.{Entry, entry_of, is_accepted}
 use Rattle.clr_journal.specs.declared.line.Carried.{Carried}
@@ -42,31 +40,31 @@ due_at : (one : Line) (rest : List Entry) (it : Carried) → due one rest ≡ So
 due_at (line.Carried c) rest it is = due_so c it rest (is_accepted (view c.reply)) (withdraws rest) refl refl is
 due_at (line.Withdrawn n) rest it is = absurd (cc is)
 
-not_due_so : (b w : Bool) (c : Carried) (pair : Command × Data) → cond (b && not w) (Some c) None ≡ None → cond (b && not w) (Some pair) None ≡ None
+not_due_so : (b w : Bool) (c : Carried) (pair : Deed × Data) → cond (b && not w) (Some c) None ≡ None → cond (b && not w) (Some pair) None ≡ None
 not_due_so true false c pair is = absurd (cc is)
 not_due_so true true c pair is = refl
 not_due_so false false c pair is = refl
 not_due_so false true c pair is = refl
 
 not_due : (one : Line) (rest : List Entry) → due one rest ≡ None → own_pair (entry_of one) rest ≡ None
-not_due (line.Carried c) rest is = not_due_so (is_accepted (view c.reply)) (withdraws rest) c (c.command, view c.reply) is
+not_due (line.Carried c) rest is = not_due_so (is_accepted (view c.reply)) (withdraws rest) c (deed_of c.deed, view c.reply) is
 not_due (line.Withdrawn n) rest is = refl
 
 passed_out : (one : Line) (rest : List Entry) → due one rest ≡ None → carried_out (entry_of one ∷ rest) ≡ carried_out rest
 unfolding carried_out
-passed_out one rest is = ap (λ (o : Option (Command × Data)). onto_some o (carried_out rest)) (not_due one rest is)
+passed_out one rest is = ap (λ (o : Option (Deed × Data)). onto_some o (carried_out rest)) (not_due one rest is)
 
-own_of : (pair : Command × Data) (b w : Bool) → b ≡ true → w ≡ false → cond (b && not w) (Some pair) None ≡ Some pair
+own_of : (pair : Deed × Data) (b w : Bool) → b ≡ true → w ≡ false → cond (b && not w) (Some pair) None ≡ Some pair
 own_of pair true false accepted kept = refl
 own_of pair true true accepted kept = absurd (cc kept)
 own_of pair false w accepted kept = absurd (cc accepted)
 
 taken_out : (c : Carried) (rest : List Entry) → IsAccepted c → withdraws rest ≡ false
-    → carried_out (entry_with c ∷ rest) ≡ (c.command, view c.reply) ∷ carried_out rest
+    → carried_out (entry_with c ∷ rest) ≡ (deed_of c.deed, view c.reply) ∷ carried_out rest
 unfolding carried_out
 taken_out c rest accepted kept =
-    let pair : Command × Data = (c.command, view c.reply) in
-    ap (λ (o : Option (Command × Data)). onto_some o (carried_out rest)) (own_of pair (is_accepted (view c.reply)) (withdraws rest) accepted kept)
+    let pair : Deed × Data = (deed_of c.deed, view c.reply) in
+    ap (λ (o : Option (Deed × Data)). onto_some o (carried_out rest)) (own_of pair (is_accepted (view c.reply)) (withdraws rest) accepted kept)
 
 -- lines of which none is due, up to these
 pub record Passed (lines left : List Entry) : Type 0 where
@@ -118,7 +116,7 @@ shallow_in (entry ∷ before) c rest shallow = shallow_in before c rest shallow.
 -- those before these lines have been carried out, each with the reply of its line
 pub record TriedTo (R : Register) (lines left : List Entry) (S : Register) : Type 0 where
   pub before : List Entry
-  pub done : List (Command × Data)
+  pub done : List (Deed × Data)
   pub all_is : lines ≡ before ++ left
   pub out : carried_out lines ≡ done ++ carried_out left
   pub run : IsRunOf R done S
@@ -135,22 +133,22 @@ next_is R S lines left rest one tried next =
     tried.all_is ∙ ap (λ es. tried.before ++ es) next.all_is ∙ sym (append_assoc tried.before next.before (entry_with one ∷ rest))
 
 pub tried_one : (R S T : Register) (lines left rest : List Entry) (one : Carried) (same : Bool) → same ≡ true → AreShallow lines
-    → TriedTo R lines left S → IsNext left one rest → DecidesReply (view one.reply) (Answer.reply (answer S one.command)) same
-    → T ≡ after S one.command → TriedTo R lines rest T
+    → TriedTo R lines left S → IsNext left one rest → DecidesReply (view one.reply) (deed_reply S (deed_of one.deed)) same
+    → T ≡ after_deed S (deed_of one.deed) → TriedTo R lines rest T
 tried_one R S T lines left rest one same is_same shallow tried next decides went =
     let all = next_is R S lines left rest one tried next in
     let deep = shallow_in (tried.before ++ next.before) one rest (subst AreShallow all shallow) in
-    let is : view one.reply ≡ reply_data (Answer.reply (answer S one.command)) =
-    subst (λ (b : Bool). DecidesReply (view one.reply) (Answer.reply (answer S one.command)) b) is_same decides deep in
+    let is : view one.reply ≡ deed_reply S (deed_of one.deed) =
+    subst (λ (b : Bool). DecidesReply (view one.reply) (deed_reply S (deed_of one.deed)) b) is_same decides deep in
     record {
       before = (tried.before ++ next.before) ++ entry_with one ∷ [];
-      done = tried.done ++ (one.command, view one.reply) ∷ [];
+      done = tried.done ++ (deed_of one.deed, view one.reply) ∷ [];
       all_is = all ∙ on_by_one (tried.before ++ next.before) rest (entry_with one);
       out = tried.out ∙ ap (λ ps. tried.done ++ ps) next.out
-          ∙ sym (append_assoc tried.done ((one.command, view one.reply) ∷ []) (carried_out rest));
-      run = subst (λ (d : Data). IsRunOf R (tried.done ++ (one.command, d) ∷ []) T) (sym is)
-          (subst (λ (X : Register). IsRunOf R (tried.done ++ (one.command, reply_data (Answer.reply (answer S one.command))) ∷ []) X) (sym went)
-          (run_more R S tried.done one.command tried.run));
+          ∙ sym (append_assoc tried.done ((deed_of one.deed, view one.reply) ∷ []) (carried_out rest));
+      run = subst (λ (d : Data). IsRunOf R (tried.done ++ (deed_of one.deed, d) ∷ []) T) (sym is)
+          (subst (λ (X : Register). IsRunOf R (tried.done ++ (deed_of one.deed, deed_reply S (deed_of one.deed)) ∷ []) X) (sym went)
+          (run_more R S tried.done (deed_of one.deed) tried.run));
     }
 
 pub tried_all : (R S : Register) (lines left : List Entry) → TriedTo R lines left S → carried_out left ≡ [] → AreAnswered R lines
@@ -159,12 +157,12 @@ tried_all R S lines left tried none =
     (S, subst (λ ps. IsRunOf R ps S) (sym pairs) tried.run)
 
 pub differs_at : (R S : Register) (lines left rest : List Entry) (one : Carried) (same : Bool) → same ≡ false
-    → TriedTo R lines left S → IsNext left one rest → DecidesReply (view one.reply) (Answer.reply (answer S one.command)) same
+    → TriedTo R lines left S → IsNext left one rest → DecidesReply (view one.reply) (deed_reply S (deed_of one.deed)) same
     → DiffersAt R lines one.receipt.number
 differs_at R S lines left rest one same is_same tried next decides =
     let before = tried.before ++ next.before in
     let all = next_is R S lines left rest one tried next in
-    let pair : Command × Data = (one.command, view one.reply) in
+    let pair : Deed × Data = (deed_of one.deed, view one.reply) in
     let tail = taken_out one rest next.accepted next.kept in
     let halves : carried_out before ++ pair ∷ carried_out rest ≡ tried.done ++ pair ∷ carried_out rest =
     ap (λ ps. carried_out before ++ ps) (sym tail) ∙ sym (carried_out-append before (entry_with one ∷ rest) refl)
@@ -180,5 +178,5 @@ differs_at R S lines left rest one same is_same tried next decides =
       kept = next.kept;
       leaves = S;
       run = subst (λ ps. IsRunOf R ps S) done tried.run;
-      other = subst (λ (b : Bool). DecidesReply (view one.reply) (Answer.reply (answer S one.command)) b) is_same decides;
+      other = subst (λ (b : Bool). DecidesReply (view one.reply) (deed_reply S (deed_of one.deed)) b) is_same decides;
     }

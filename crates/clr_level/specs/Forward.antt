@@ -5,13 +5,13 @@ use Rattle.std.specs.List.{list_any}
 use Rattle.serde_json.specs.Data.{depth}
 use Rattle.serde_json.specs.View.{view}
 use Rattle.sqlite.specs.State.{State, Survives}
-use Rattle.clr_rules.specs.Answer.{Answer, answer}
 use Rattle.clr_rules.specs.Register.{Register}
 use Rattle.clr_rules.specs.declared.command.Command.{Command}
 use Rattle.clr_rules.specs.declared.reply.Reply.{Reply}
 use Rattle.clr_answer.specs.Decision.{is_accepted as accepts}
 use Rattle.clr_place.specs.declared.place.Place.{Place}
-use Rattle.clr_text.specs.Replies.{reply_data}
+use Rattle.clr_deeds.specs.Deeds.{Deed, after_deed, deed_of}
+use Rattle.clr_journal.specs.Answered.{deed_reply}
 use Rattle.clr_journal.specs.Journals.{carried_out, next_place, withdraws}
 use Rattle.clr_journal.specs.Line.{Entry, carried, is_accepted, withdrawn}
 use Rattle.clr_journal.specs.declared.line.Carried.{Carried}
@@ -26,6 +26,7 @@ use Rattle.clr_chain.specs.declared.finding.Found.TheVariants as found
 use Rattle.clr_desk.specs.Faults.{IsOfKeeper}
 use Rattle.clr_desk.specs.Given.{LeadsTo}
 use Rattle.clr_desk.specs.Placing.{CommitsAt, Placing}
+use Rattle.clr_desk.specs.Renewing.{ComesTo as Renews}
 use Rattle.clr_desk.specs.Taking.{Came, Hearing, Taking}
 use Rattle.clr_desk.specs.declared.desk.Desk.{Desk}
 use Rattle.clr_desk.specs.declared.desk_fault.DeskFault.{DeskFault}
@@ -46,10 +47,10 @@ abbrev pub AreShallow : List Entry → Type 0
 AreShallow [] = ⊤
 AreShallow (entry ∷ rest) = IsShallow entry × AreShallow rest
 
--- a command that was accepted is open until it is known whether the next line withdraws it
+-- a deed that was accepted is open until it is known whether the next line withdraws it
 abbrev pub open_entries : Option Carried → List Entry
 open_entries None = []
-open_entries (Some one) = carried one.receipt one.command (view one.reply) ∷ []
+open_entries (Some one) = carried one.receipt (deed_of one.deed) (view one.reply) ∷ []
 
 abbrev pub IsAccepted : Carried → Type 0
 IsAccepted one = is_accepted (view one.reply) ≡ true
@@ -58,12 +59,12 @@ abbrev pub opened_by : Line → Option Carried
 opened_by (line.Carried one) = if is_accepted (view one.reply) then Some one else None
 opened_by (line.Withdrawn n) = None
 
--- the open command at a line: one that has a command closes it before
+-- the open deed at a line: one that has a deed closes it before
 abbrev pub open_after : Line → Option Carried → Option Carried
 open_after (line.Carried one) open_one = None
 open_after (line.Withdrawn n) open_one = open_one
 
--- HOW FAR A REGISTER HAS COME of these lines, which come after its place. It has the commands of the
+-- HOW FAR A REGISTER HAS COME of these lines, which come after its place. It has the deeds of the
 -- first; of those after them none is left to be done; then come the open one, and the rest
 pub record HasCome (has_place : Placing) (R : Register) (place : Place) (lines : List Entry)
     (S : Register) (s : State) (at : Place) (open_one : Option Carried) (rest : List Entry)
@@ -87,32 +88,32 @@ pub record HasStopped (has_place : Placing) (R : Register) (place : Place) (line
   pub rest : List Entry
   pub come : HasCome has_place R place lines S s at open_one rest
 
--- ---- whether commands are answered as their lines say
+-- ---- whether deeds are answered as their lines say
 
--- the command of a line, where it was accepted and the next line does not withdraw it
+-- the deed of a line, where it was accepted and the next line does not withdraw it
 abbrev pub due : Line → List Entry → Option Carried
 due (line.Carried one) rest = if is_accepted (view one.reply) && not (withdraws rest) then Some one
     else None
 due (line.Withdrawn n) rest = None
 
 abbrev pub entry_with : Carried → Entry
-entry_with one = carried one.receipt one.command (view one.reply)
+entry_with one = carried one.receipt (deed_of one.deed) (view one.reply)
 
--- the first command of these lines that was accepted and not withdrawn, and the lines after its own
+-- the first deed of these lines that was accepted and not withdrawn, and the lines after its own
 pub record IsNext (lines : List Entry) (one : Carried) (rest : List Entry) : Type 0 where
   pub before : List Entry
   pub all_is : lines ≡ before ++ entry_with one ∷ rest
   pub accepted : IsAccepted one
   pub kept : withdraws rest ≡ false
-  pub out : carried_out lines ≡ (one.command, view one.reply) ∷ carried_out rest
+  pub out : carried_out lines ≡ (deed_of one.deed, view one.reply) ∷ carried_out rest
 
--- ALL LINES ARE ANSWERED AS THEY SAY: the commands that they say were carried out are a run from
+-- ALL LINES ARE ANSWERED AS THEY SAY: the deeds that they say were carried out are a run from
 -- this register, with their replies
 abbrev pub AreAnswered : Register → List Entry → Type 0
 AreAnswered R lines = (S : Register) × IsRunOf R (carried_out lines) S
 
--- THE LINE OF THIS NUMBER DIFFERS: the commands before it are a run from this register, with their
--- replies. The register that the run leaves answers the command of the line otherwise, which was
+-- THE LINE OF THIS NUMBER DIFFERS: the deeds before it are a run from this register, with their
+-- replies. The register that the run leaves answers the deed of the line otherwise, which was
 -- accepted and not withdrawn
 pub record DiffersAt (R : Register) (lines : List Entry) (number : ℕ) : Type 0 where
   pub before : List Entry
@@ -124,7 +125,7 @@ pub record DiffersAt (R : Register) (lines : List Entry) (number : ℕ) : Type 0
   pub kept : withdraws rest ≡ false
   pub leaves : Register
   pub run : IsRunOf R (carried_out before) leaves
-  pub other : view one.reply ≢ reply_data (Answer.reply (answer leaves one.command))
+  pub other : view one.reply ≢ deed_reply leaves (deed_of one.deed)
 
 -- the first line that differs, if there is one
 abbrev pub IsTried : Register → List Entry → Option ℕ → Type 0
@@ -155,7 +156,7 @@ StopsAt has_place R place lines TooShort S s = ⊥
 StopsAt has_place R place lines (BadLine n) S s = HasFractionAt has_place R place lines n S s
 StopsAt has_place R place lines (Failed cause) S s = HasStopped has_place R place lines S s
 
--- WHY COMMANDS OF LINES ARE NOT CARRIED OUT: what keeps their changes answered this fault, memory ran
+-- WHY DEEDS OF LINES ARE NOT CARRIED OUT: what keeps their changes answered this fault, memory ran
 -- out, or the reply of one of the lines has a number that is no whole number
 abbrev pub IsOfCarrying : (DeskFault → Type 0) → List Entry → OpeningFault → Type 0
 IsOfCarrying fails lines (OtherRules n) = ⊥
@@ -165,7 +166,7 @@ IsOfCarrying fails lines (Differs n) = ⊥
 IsOfCarrying fails lines (BadLine n) = list_any has_fraction lines ≡ true
 IsOfCarrying fails lines (Failed cause) = IsOfKeeper fails cause
 
--- WHY A DESK IS NOT GIVEN ITS JOURNAL: as they were tried one line differed, or commands were not
+-- WHY A DESK IS NOT GIVEN ITS JOURNAL: as they were tried one line differed, or deeds were not
 -- carried out
 abbrev pub IsOfForward : (DeskFault → Type 0) → List Entry → OpeningFault → Type 0
 IsOfForward fails lines fault = ((number : ℕ) × (fault ≡ Differs number))
@@ -178,7 +179,7 @@ Went kept has_place R place lines (Ok done) desk at open_one rest =
 Went kept has_place R place lines (Err fault) desk at open_one rest =
     StopsAt has_place R place lines fault desk.book.register (kept desk.store)
 
--- IT HAS ARRIVED: no command is open, and the keeper has the place that was come to
+-- IT HAS ARRIVED: no deed is open, and the keeper has the place that was come to
 abbrev pub Arrives : {K : Type 0} → (K → State) → Placing → Register → Place → List Entry
     → Result (Unit {0}) OpeningFault → Desk K → Place → List Entry → Type 0
 Arrives kept has_place R place lines (Ok done) desk at rest =
@@ -194,11 +195,35 @@ abbrev pub IsMoved : {K : Type 0} → (K → State) → Placing → K → K → 
 IsMoved kept has_place old new = (place : Place) × (came : Came)
     × CommitsAt has_place (kept old) (kept new) [] place came
 
--- A DESK IS ROLLED FORWARD: it was given commands, and after them its place may have been moved
+-- ITS REGISTER CAME TO THE ONE AFTER A DEED, by an update or an archive, with a place; or a fault
+-- left it
+pub record IsRenewed {K : Type 0} (kept : K → State) (has_place : Placing) (old new : Desk K)
+    : Type 0 where
+  pub deed : Deed
+  pub place : Place
+  pub came : Came
+  pub comes : Renews kept has_place (λ fault. ⊤) ⊤ old new (after_deed old.book.register deed)
+      place came
+
+-- A DESK GOES THROUGH THESE STATES: to each it came by commands that it was given, or by an update
+-- or an archive
+unfoldable pub GoesThrough : {K : Type 0} → (K → State) → Taking K → Hearing K → Placing → Desk K
+    → List (Desk K) → Desk K → Type 0
+GoesThrough kept takes hears has_place old [] new = new ≡ old
+GoesThrough kept takes hears has_place old (next ∷ later) new =
+    (LeadsTo kept takes hears old next ⊎ IsRenewed kept has_place old next)
+    × GoesThrough kept takes hears has_place next later new
+
+abbrev pub GoesOn : {K : Type 0} → (K → State) → Taking K → Hearing K → Placing → Desk K → Desk K
+    → Type 0
+GoesOn {K} kept takes hears has_place old new = (through : List (Desk K))
+    × GoesThrough kept takes hears has_place old through new
+
+-- A DESK IS ROLLED FORWARD: it went on by deeds, and after them its place may have been moved
 pub record RollsTo {K : Type 0} (kept : K → State) (takes : Taking K) (hears : Hearing K)
     (has_place : Placing) (old new : Desk K) : Type 0 where
   pub before : Desk K
-  pub led : LeadsTo kept takes hears old before
+  pub led : GoesOn kept takes hears has_place old before
   pub book : new.book ≡ before.book
   pub store : (new.store ≡ before.store) ⊎ IsMoved kept has_place before.store new.store
 

@@ -9,9 +9,10 @@ use Rattle.clr_rules.specs.declared.command.Kind.{Kind}
 use Rattle.clr_rules.specs.declared.command.Kind.TheVariants as kinds
 use Rattle.clr_rules.specs.declared.reply.Reply.{Reply}
 use Rattle.clr_answer.specs.Decision.{is_accepted}
+use Rattle.clr_deeds.specs.Deeds.{Deed, command}
 use Rattle.clr_place.specs.declared.place.Place.{Place}
 use Rattle.clr_text.specs.Replies.{reply_data}
-use Rattle.clr_journal.specs.Line.{Entry, carried, withdrawn}
+use Rattle.clr_journal.specs.Line.{Entry, carried, done, withdrawn}
 use Rattle.clr_journal.specs.declared.line.Receipt.{Receipt}
 use Rattle.clr_chain.specs.Level.{place_with}
 use Rattle.clr_chain.specs.Link.{link_text}
@@ -47,7 +48,7 @@ abbrev pub is_long : List ℕ → Entry → Bool
 is_long sum entry = nat_lt 2048 (length (link_text entry (sum_after sum entry)))
 
 abbrev pub line_with : Receipt → Command → Reply → Entry
-line_with receipt q reply = carried receipt q (reply_data reply)
+line_with receipt q reply = carried receipt (command q) (reply_data reply)
 
 -- the command that a line has, after this sum: a refused one whose line would be long is noted
 -- without its lists and its text
@@ -114,6 +115,22 @@ pub record IsNoted {K J C : Type 0} (shows : C → ℕ → Type 0) (text : J →
   pub end_is : new.at ≡ place_with (end_said old) (line_of (end_said old).sum receipt q reply)
   pub certain : is_doubtful old.last ≡ false
 
+-- THE LINE OF AN UPDATE OR OF AN ARCHIVE that is carried out is added in the same way. It has no
+-- login
+pub record IsDeedNoted {K J C : Type 0} (shows : C → ℕ → Type 0) (text : J → List ℕ)
+    (old : Keeper K J C) (deed : Deed) (new : Keeper K J C) : Type 0 where
+  pub receipt : Receipt
+  pub number : receipt.number ≡ (end_said old).number + 1
+  pub within : receipt.number < 2 ^ 64
+  pub login : receipt.login ≡ None
+  pub passed : new.login ≡ None
+  pub clock : new.clock ≡ old.clock
+  pub received : shows new.clock receipt.received
+  pub text_is : text new.journal ≡ with_link (said text old) (end_said old).sum
+      (carried receipt deed done)
+  pub end_is : new.at ≡ place_with (end_said old) (carried receipt deed done)
+  pub certain : is_doubtful old.last ≡ false
+
 -- NO LINE IS ADDED to what the journal says; where a withdrawal is owed, it may have been. A journal
 -- in doubt stays so
 pub record IsUnnoted {K J C : Type 0} (text : J → List ℕ) (old new : Keeper K J C) : Type 0 where
@@ -124,6 +141,12 @@ pub record IsUnnoted {K J C : Type 0} (text : J → List ℕ) (old new : Keeper 
   pub owes : new.last ≡ Owed
       → (old.last ≡ Owed) × (text new.journal ≡ text old.journal) × (new.at ≡ old.at)
 
+-- IT WAS NOT WRITTEN, or not synced: then it is not known whether a crash leaves it
+abbrev pub IsDeedUnwritten : {K J C : Type 0} → (C → ℕ → Type 0) → (J → List ℕ) → Keeper K J C
+    → Deed → Keeper K J C → Type 0
+IsDeedUnwritten shows text old deed new = IsUnnoted text old new
+    ⊎ (IsDeedNoted shows text old deed new × (new.last ≡ Doubtful))
+
 -- nothing changes but the keeper below
 pub record IsAsItWas {K J C : Type 0} (old new : Keeper K J C) : Type 0 where
   pub journal : new.journal ≡ old.journal
@@ -131,6 +154,14 @@ pub record IsAsItWas {K J C : Type 0} (old new : Keeper K J C) : Type 0 where
   pub login : new.login ≡ old.login
   pub at : new.at ≡ old.at
   pub last : new.last ≡ old.last
+
+-- but for the keeper below, and what is known of the last line
+pub record IsBeside {K J C : Type 0} (mid new : Keeper K J C) : Type 0 where
+  pub journal : new.journal ≡ mid.journal
+  pub clock : new.clock ≡ mid.clock
+  pub login : new.login ≡ mid.login
+  pub at : new.at ≡ mid.at
+  pub synced : new.is_synced ≡ mid.is_synced
 
 -- the journal was not written, or memory ran out
 abbrev pub IsOfJournal : DeskFault → Type 0

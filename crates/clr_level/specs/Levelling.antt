@@ -1,13 +1,11 @@
 -- THE REGISTER, ITS PLACE AND THE JOURNAL ARE LEVEL.
 use Rattle.std.specs.Prelude.{◌≡◌, ◌⊎◌, ℕ, Bool, true, List, [], ◌∷◌, ◌++◌}
 use Rattle.sqlite.specs.State.{State}
-use Rattle.clr_rules.specs.Answer.{Answer, answer}
+use Rattle.clr_deeds.specs.Deeds.{Deed, after_deed}
 use Rattle.clr_rules.specs.Good.{IsGood}
 use Rattle.clr_rules.specs.Register.{Register}
-use Rattle.clr_rules.specs.Run.{after}
-use Rattle.clr_rules.specs.declared.command.Command.{Command}
 use Rattle.clr_place.specs.declared.place.Place.{Place}
-use Rattle.clr_text.specs.Replies.{reply_data}
+use Rattle.clr_journal.specs.Answered.{deed_reply}
 use Rattle.clr_journal.specs.Journals.{carried_out}
 use Rattle.clr_journal.specs.Line.{Entry, is_accepted}
 use Rattle.clr_journal.specs.declared.line.Receipt.{Receipt}
@@ -25,15 +23,15 @@ use Rattle.clr_level.specs.declared.keeper.Keeper.{Keeper}
 use Rattle.clr_level.specs.declared.last.Last.{Last}
 use Rattle.clr_level.specs.declared.last.Last.TheVariants.{Doubtful, Owed, Settled}
 
--- ONE COMMAND IS DUE: these lines end with that of a command that the register accepts, and it has
--- carried out all before it
+-- ONE DEED IS DUE: these lines end with that of a deed that the register accepts, and it has carried
+-- out all before it
 pub record IsDue (R : Register) (more : List Entry) : Type 0 where
   pub idle : List Entry
   pub receipt : Receipt
-  pub q : Command
-  pub is : more ≡ idle ++ line_at R receipt q ∷ []
+  pub deed : Deed
+  pub is : more ≡ idle ++ line_at R receipt deed ∷ []
   pub none : carried_out idle ≡ []
-  pub accepted : is_accepted (reply_data (Answer.reply (answer R q))) ≡ true
+  pub accepted : is_accepted (deed_reply R deed) ≡ true
 
 -- what the lines after the register's place leave to be done
 abbrev pub IsLeft : Last → Register → List Entry → Type 0
@@ -43,7 +41,7 @@ IsLeft Doubtful R more = (carried_out more ≡ []) ⊎ IsDue R more
 
 -- A KEEPER AND A REGISTER ARE LEVEL: its journal has these lines, with which the register is level
 -- at a place; the keeper below is at that place, where its disk is clean. Of the lines after it no
--- command is left to be carried out; but for one that is to be withdrawn, or is in doubt
+-- deed is left to be carried out; but for one that is to be withdrawn, or is in doubt
 pub record IsKeptLevel {K J C : Type 0} (kept : K → State) (has_place : Placing)
     (text : J → List ℕ) (first : Register) (start : Place) (R : Register) (it : Keeper K J C)
     : Type 0 where
@@ -76,18 +74,18 @@ SoundIsKept K J C takes kept has_place shows text found may_leave is_usable =
     → IsSound text found may_leave new
 
 -- THE REGISTER IS WHAT ITS JOURNAL SAYS, where nothing is owed or in doubt: that of a run of the
--- commands that its lines say were carried out, with these replies
+-- deeds that its lines say were carried out, with these replies
 abbrev pub SettledIsWhatItSays : (K J C : Type 0) → (K → State) → Placing → (J → List ℕ) → Type 0
 SettledIsWhatItSays K J C kept has_place text = (first R : Register) (start : Place)
     (it : Keeper K J C) (level : IsKeptLevel kept has_place text first start R it)
     → it.last ≡ Settled → IsRunOf first (carried_out (IsKeptLevel.entries level)) R
 
--- WHERE A COMMAND IS DUE, the register with it carried out is level too, at its line. So where it is
+-- WHERE A DEED IS DUE, the register with it carried out is level too, at its line. So where it is
 -- not known whether it was, or where a crash left it, both are level
 abbrev pub EitherIsLevel : Type 0
 EitherIsLevel = (first R : Register) (start place : Place) (entries : List Entry)
     (level : IsLevel first start entries place R) (due : IsDue R (IsLevel.more level))
-    → IsLevel first start entries (place_after start entries) (after R (IsDue.q due))
+    → IsLevel first start entries (place_after start entries) (after_deed R (IsDue.deed due))
 
 -- A REGISTER AND THE JOURNAL THAT IT BEGINS WITH are level: the register is at the first line, which
 -- is all that the journal has, so that both can be opened

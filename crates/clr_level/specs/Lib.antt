@@ -4,3 +4,5 @@ pub mod Levelling
 pub mod Forward
 pub mod Restarting
 pub mod Crash
+pub mod Carrying
+pub mod Renewing

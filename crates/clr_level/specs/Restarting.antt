@@ -6,7 +6,7 @@ use Rattle.clr_append.specs.Journal.{BeginsWith}
 use Rattle.clr_append.specs.Lines.{ended_lines}
 use Rattle.clr_rules.specs.Good.{IsGood}
 use Rattle.clr_rules.specs.Register.{Register}
-use Rattle.clr_rules.specs.Run.{after}
+use Rattle.clr_deeds.specs.Deeds.{after_deed}
 use Rattle.clr_place.specs.declared.place.Place.{Place}
 use Rattle.clr_journal.specs.Journals.{carried_out, in_turn}
 use Rattle.clr_journal.specs.Line.{Entry, withdrawn}
@@ -65,7 +65,7 @@ DueIsSafe K J C kept has_place text may_leave = (first R : Register) (start : Pl
     (it : Keeper K J C) (level : IsKeptLevel kept has_place text first start R it)
     (due : IsDue R (IsLevel.more (IsKeptLevel.level level)))
     → IsDurable text may_leave it.journal
-    → HasLines first start (IsKeptLevel.entries level) (after R (IsDue.q due))
+    → HasLines first start (IsKeptLevel.entries level) (after_deed R (IsDue.deed due))
     × (it.at ≡ place_after start (IsKeptLevel.entries level))
     × IsSafe text may_leave (chain_text start (IsKeptLevel.entries level)) it.journal
 

@@ -16,11 +16,11 @@ pub enum OpeningFault {
     /// The journal ends before the number of the register.
     TooShort,
     /// At this number the journal has another sum than the register, or withdraws its command; or
-    /// the command of this number was answered otherwise.
+    /// the deed of this number was answered otherwise.
     Differs(u64),
     /// The line of this number does not hold its sum, and an accepted one comes after it.
     BadLine(u64),
-    /// A command was not carried out, or memory ran out.
+    /// A deed was not carried out, or memory ran out.
     Desk(DeskFault),
 }
 

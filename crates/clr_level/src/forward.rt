@@ -6,14 +6,13 @@ ghost use Rattle.clr_rules.specs.Register.{Register};
 ghost use Rattle.clr_place.specs.declared.place.Place.{Place};
 ghost use Rattle.clr_journal.specs.Journals.{withdraws};
 ghost use Rattle.clr_journal.specs.Line.{Entry, entry_of};
-ghost use Rattle.clr_desk.specs.Given.{LeadsTo};
 ghost use Rattle.clr_level.specs.Crash.{AreFurther, AreRolled, KeepsTables};
-ghost use Rattle.clr_level.specs.Forward.{AreAnswered, AreShallow, Arrives, HasCome, IsOfCarrying};
-ghost use Rattle.clr_level.specs.Forward.{IsOfForward, RollsTo, Went, open_after, opened_by};
+ghost use Rattle.clr_level.specs.Forward.{AreAnswered, AreShallow, Arrives, GoesOn, HasCome};
+ghost use Rattle.clr_level.specs.Forward.{IsOfCarrying, IsOfForward, RollsTo, Went, open_after, opened_by};
 ghost use Rattle.clr_level.specs.Placing.{IsAt};
 
+use crate::deed::carry_deed;
 use crate::fault::OpeningFault;
-use crate::placing::carry_at;
 use crate::trying::first_differing;
 use clr_chain::step;
 use clr_desk::{CommitAt, Desk, DeskFault};
@@ -27,13 +26,13 @@ pub(crate) struct Forward<K: CommitAt> {
     pub(crate) desk: Desk<K>,
     /// The place after the lines so far.
     pub(crate) at: Place,
-    /// The command of the last line, if it was accepted: it is carried out unless the next line
+    /// The deed of the last line, if it was accepted: it is carried out unless the next line
     /// withdraws it.
     pending: Option<Carried>,
 }
 
-/// Carries out what was accepted in these lines and not withdrawn, in order, each command with the
-/// place at its line, and moves the place to the end of the lines, which is given. The commands are
+/// Carries out what was accepted in these lines and not withdrawn, in order, each deed with the
+/// place at its line, and moves the place to the end of the lines, which is given. The deeds are
 /// tried first: nothing is carried out where one of them is answered otherwise than its line says.
 pub(crate) fn roll_forward<K: CommitAt>(
     alloc: Global,
@@ -61,7 +60,7 @@ pub(crate) fn roll_forward<K: CommitAt>(
     }
 }
 
-/// The same, where each command is answered as its line says.
+/// The same, where each deed is answered as its line says.
 fn carry_all<K: CommitAt>(
     alloc: Global,
     desk: Desk<K>,
@@ -97,7 +96,7 @@ fn carry_all<K: CommitAt>(
 }
 
 impl<K: CommitAt> Forward<K> {
-    /// Takes the next line. The command before it is carried out, unless the line withdraws it.
+    /// Takes the next line. The deed before it is carried out, unless the line withdraws it.
     fn line(self, alloc: Global, line: Line) -> (Result<(), OpeningFault>, Forward<K>)
         ensures went { (R : Register) (place : Place) (lines rest : List Entry) → IsGood R
             → AreAnswered R lines
@@ -109,18 +108,18 @@ impl<K: CommitAt> Forward<K> {
         ensures left { (rest : List Entry) → Survives (K.kept self.desk.store)
             (K.kept result.1.desk.store) (AreFurther K.has_place self.desk.book.register
             (K.kept self.desk.store) self.at self.pending (entry_of line ∷ rest)) }
-        ensures led { LeadsTo K.kept K.takes K.hears self.desk result.1.desk }
+        ensures led { GoesOn K.kept K.takes K.hears K.has_place self.desk result.1.desk }
         ensures fault { IfErr result.0 (IsOfCarrying K.fails (entry_of line ∷ [])) }
     {
-        let (came, before) = self.before(&line);
+        let (came, before) = self.before(alloc, &line);
         if let Err(fault) = came {
             return (Err(fault), before);
         }
         before.past(alloc, line)
     }
 
-    /// Carries out the open command before a line that has another.
-    fn before(self, line: &Line) -> (Result<(), OpeningFault>, Forward<K>)
+    /// Carries out the open deed before a line that has another.
+    fn before(self, alloc: Global, line: &Line) -> (Result<(), OpeningFault>, Forward<K>)
         ensures went { (R : Register) (place : Place) (lines rest : List Entry) → IsGood R
             → AreAnswered R lines
             → HasCome K.has_place R place lines self.desk.book.register (K.kept self.desk.store)
@@ -132,16 +131,16 @@ impl<K: CommitAt> Forward<K> {
         ensures left { (rest : List Entry) → Survives (K.kept self.desk.store)
             (K.kept result.1.desk.store) (AreFurther K.has_place self.desk.book.register
             (K.kept self.desk.store) self.at self.pending (entry_of line.now ∷ rest)) }
-        ensures led { LeadsTo K.kept K.takes K.hears self.desk result.1.desk }
+        ensures led { GoesOn K.kept K.takes K.hears K.has_place self.desk result.1.desk }
         ensures fault { IfErr result.0 (IsOfCarrying K.fails []) }
     {
         match line {
-            Line::Carried(_) => self.close(),
+            Line::Carried(_) => self.close(alloc),
             Line::Withdrawn(_) => (Ok(()), self),
         }
     }
 
-    /// Goes past a line, before which no command is open but one that it withdraws.
+    /// Goes past a line, before which no deed is open but one that it withdraws.
     fn past(self, alloc: Global, line: Line) -> (Result<(), OpeningFault>, Forward<K>)
         ensures went { (R : Register) (place : Place) (lines rest : List Entry)
             → self.pending ≡ open_after line self.pending
@@ -166,8 +165,8 @@ impl<K: CommitAt> Forward<K> {
         }
     }
 
-    /// Carries out the open command, if there is one.
-    fn close(self) -> (Result<(), OpeningFault>, Forward<K>)
+    /// Carries out the open deed, if there is one.
+    fn close(self, alloc: Global) -> (Result<(), OpeningFault>, Forward<K>)
         ensures went { (R : Register) (place : Place) (lines rest : List Entry) → IsGood R
             → AreAnswered R lines → withdraws rest ≡ false
             → HasCome K.has_place R place lines self.desk.book.register (K.kept self.desk.store)
@@ -179,7 +178,7 @@ impl<K: CommitAt> Forward<K> {
             → Survives (K.kept self.desk.store) (K.kept result.1.desk.store)
             (AreFurther K.has_place self.desk.book.register (K.kept self.desk.store) self.at
             self.pending rest) }
-        ensures led { LeadsTo K.kept K.takes K.hears self.desk result.1.desk }
+        ensures led { GoesOn K.kept K.takes K.hears K.has_place self.desk result.1.desk }
         ensures fault { IfErr result.0 (IsOfCarrying K.fails []) }
     {
         let Forward { desk, at, pending } = self;
@@ -192,11 +191,11 @@ impl<K: CommitAt> Forward<K> {
                     pending: None,
                 },
             ),
-            Some(one) => carry_out(desk, at, one),
+            Some(one) => carry_out(alloc, desk, at, one),
         }
     }
 
-    /// Ends at the last line: with its command, if that is open, or by a move of the place.
+    /// Ends at the last line: with its deed, if that is open, or by a move of the place.
     fn arrive(self, alloc: Global) -> (Result<(), OpeningFault>, Desk<K>, Place)
         ensures went { (R : Register) (place : Place) (lines : List Entry) → IsGood R
             → AreAnswered R lines
@@ -213,7 +212,7 @@ impl<K: CommitAt> Forward<K> {
         match pending {
             None => move_to(alloc, desk, at),
             Some(one) => {
-                let (came, forward) = carry_out(desk, at, one);
+                let (came, forward) = carry_out(alloc, desk, at, one);
                 (came, forward.desk, forward.at)
             }
         }
@@ -245,8 +244,9 @@ fn move_to<K: CommitAt>(
     }
 }
 
-/// Carries out a command.
+/// Carries out the deed of a line.
 fn carry_out<K: CommitAt>(
+    alloc: Global,
     desk: Desk<K>,
     at: Place,
     one: Carried,
@@ -260,22 +260,22 @@ fn carry_out<K: CommitAt>(
     ensures left { (rest : List Entry) → withdraws rest ≡ false
         → Survives (K.kept desk.store) (K.kept result.1.desk.store)
         (AreFurther K.has_place desk.book.register (K.kept desk.store) at (Some one) rest) }
-    ensures led { LeadsTo K.kept K.takes K.hears desk result.1.desk }
+    ensures led { GoesOn K.kept K.takes K.hears K.has_place desk result.1.desk }
     ensures fault { IfErr result.0 (IsOfCarrying K.fails []) }
 {
-    let (came, desk, at) = carry_at(desk, one.command, at);
+    let (came, desk, at) = carry_deed(alloc, desk, one.deed, at);
     let forward = Forward {
         desk,
         at,
         pending: None,
     };
     match came {
-        Ok(_) => (Ok(()), forward),
+        Ok(()) => (Ok(()), forward),
         Err(fault) => (Err(OpeningFault::Desk(fault)), forward),
     }
 }
 
-/// The command of a line, if it was accepted.
+/// The deed of a line, if it was accepted.
 fn opened_by(line: Line) -> Option<Carried>
     ensures { result ≡ opened_by line }
 {

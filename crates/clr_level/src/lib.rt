@@ -3,6 +3,7 @@
 #![tactic(auto)]
 
 mod brief;
+mod deed;
 mod fault;
 mod forward;
 mod keeper;
@@ -13,9 +14,11 @@ mod lines;
 mod noting;
 mod opening;
 mod placing;
+mod renewing;
 mod trying;
 
 pub use fault::OpeningFault;
 pub use keeper::Keeper;
 pub use last::Last;
 pub use opening::{ahead_of, with_journal};
+pub use renewing::renew;

@@ -8,15 +8,17 @@ ghost use Rattle.clr_chain.specs.Sums.{sum_after};
 ghost use Rattle.clr_level.specs.Journaling.{DoubtHasCause, IsDurable, IsKept, IsNoted};
 ghost use Rattle.clr_level.specs.Journaling.{IsOfJournal, IsSound, IsUnnoted, IsUnwritten};
 ghost use Rattle.clr_level.specs.Journaling.{IsWithdrawn, StaySafe, end_said, is_doubtful};
-ghost use Rattle.clr_level.specs.Journaling.{line_of, said};
+ghost use Rattle.clr_level.specs.Journaling.{IsDeedNoted, IsDeedUnwritten, line_of, said};
+ghost use Rattle.clr_deeds.specs.Deeds.{deed_of};
+ghost use Rattle.clr_journal.specs.Line.{carried, done};
 
 use crate::brief::{brief, is_accepted};
 use crate::keeper::Keeper;
 use crate::last::Last;
 use crate::lines::append;
-use clr_chain::{Clock, Link, print_carried, print_withdrawn};
+use clr_chain::{Clock, Link, print_archived, print_carried, print_updated, print_withdrawn};
 use clr_desk::{CommitAt, DeskFault};
-use clr_journal::{Journal, Receipt};
+use clr_journal::{Deed, Journal, Receipt};
 use clr_rules::{Command, Reply};
 use std::alloc::AllocError;
 
@@ -77,6 +79,96 @@ impl<K: CommitAt, J: Journal + Drop, C: Clock> Keeper<K, J, C> {
         self.note(command, reply)?;
         self.sync()?;
         Ok(())
+    }
+
+    /// Adds the line of an update or of an archive, after the withdrawal that is owed, and syncs it.
+    /// All other lines are synced before it. Where its own sync fails it is in doubt.
+    pub(crate) fn note_deed(&mut self, deed: &Deed) -> Result<(), DeskFault>
+        ensures keeper { self.new.keeper ≡ self.old.keeper }
+        ensures noted { OnOk result
+            (IsDeedNoted C.shows J.text self.old (deed_of deed.now) self.new) }
+        ensures settled { OnOk result (self.new.last ≡ Last.Settled) }
+        ensures durable { OnOk result (IsDurable J.text J.may_leave self.new.journal) }
+        ensures unwritten { OnErr result
+            (IsDeedUnwritten C.shows J.text self.old (deed_of deed.now) self.new) }
+        ensures sound { IsSound J.text J.found J.may_leave self.old
+            → IsSound J.text J.found J.may_leave self.new }
+        ensures safe { StaySafe J.text J.may_leave self.old.journal self.new.journal }
+        ensures withdrawn { IsWithdrawn J.text J.may_leave self.old self.new }
+        ensures fault { IfErr result IsOfJournal }
+    {
+        self.add_deed(deed)?;
+        self.sync()?;
+        Ok(())
+    }
+
+    /// The same, and the line is not synced.
+    fn add_deed(&mut self, deed: &Deed) -> Result<(), DeskFault>
+        ensures keeper { self.new.keeper ≡ self.old.keeper }
+        ensures noted { OnOk result
+            (IsDeedNoted C.shows J.text self.old (deed_of deed.now) self.new) }
+        ensures settled { OnOk result (self.new.last ≡ Last.Settled) }
+        ensures whole { OnOk result (J.found self.new.journal ≡ J.text self.new.journal) }
+        ensures usable { OnOk result (IsTrue (J.is_usable self.new.journal)) }
+        ensures none { OnErr result (IsUnnoted J.text self.old self.new) }
+        ensures sound { IsSound J.text J.found J.may_leave self.old
+            → IsSound J.text J.found J.may_leave self.new }
+        ensures safe { StaySafe J.text J.may_leave self.old.journal self.new.journal }
+        ensures withdrawn { IsWithdrawn J.text J.may_leave self.old self.new }
+        ensures fault { IfErr result IsOfJournal }
+    {
+        self.make_ready(true)?;
+        let receipt = self.bare_receipt()?;
+        let number = receipt.number;
+        let Link { text, sum } = self.deed_line(&receipt, deed)?;
+        self.is_synced = false;
+        append(&mut self.journal, text)?;
+        self.at.number = number;
+        self.at.sum = sum;
+        Ok(())
+    }
+
+    /// The receipt of an update or of an archive, which has no login.
+    fn bare_receipt(&mut self) -> Result<Receipt, DeskFault>
+        ensures number { IfOk result (λ receipt. receipt.number ≡ self.old.at.number + 1) }
+        ensures login { IfOk result (λ receipt. receipt.login ≡ None) }
+        ensures received { IfOk result (λ receipt. C.shows self.new.clock receipt.received) }
+        ensures passed { OnOk result (self.new.login ≡ None) }
+        ensures clock { self.new.clock ≡ self.old.clock }
+        ensures keeper { self.new.keeper ≡ self.old.keeper }
+        ensures journal { self.new.journal ≡ self.old.journal }
+        ensures at { self.new.at ≡ self.old.at }
+        ensures synced { self.new.is_synced ≡ self.old.is_synced }
+        ensures last { self.new.last ≡ self.old.last }
+        ensures fault { IfErr result IsOfJournal }
+    {
+        let receipt = self.receipt()?;
+        Ok(Receipt {
+            number: receipt.number,
+            received: receipt.received,
+            login: None,
+        })
+    }
+
+    /// The line of an update or of an archive. A command has another (`line`).
+    fn deed_line(&self, receipt: &Receipt, deed: &Deed) -> Result<Link, DeskFault>
+        ensures text { IfOk result (λ link. string_bytes link.text
+            ≡ link_text (carried receipt.now (deed_of deed.now) done) link.sum) }
+        ensures sum { IfOk result (λ link. link.sum
+            ≡ sum_after self.now.at.sum (carried receipt.now (deed_of deed.now) done)) }
+        ensures fault { IfErr result IsOfJournal }
+    {
+        match deed {
+            Deed::Update(changes) => {
+                let link = print_updated(self.alloc, &self.at.sum, receipt, changes)?;
+                Ok(link)
+            }
+            Deed::Archive(before) => {
+                let link = print_archived(self.alloc, &self.at.sum, receipt, *before)?;
+                Ok(link)
+            }
+            Deed::Command(_) => Err(DeskFault::Journal),
+        }
     }
 
     /// Makes the journal ready for a line: the withdrawal that is owed is written, and synced; for

@@ -38,15 +38,15 @@ pub fn ahead_of(found: Found) -> Result<Ahead, OpeningFault>
     }
 }
 
-/// Gives a desk its journal. The register has the commands up to its place; what was accepted in
-/// the lines after it, and not withdrawn, is carried out first, in order, each command with the
-/// place at its line. Where lines come after the last command of these, the place is moved to the
-/// last of them, so that the next opening begins there.
+/// Gives a desk its journal. The register has the deeds up to its place; what was accepted in the
+/// lines after it, and not withdrawn, is carried out first, in order, each deed with the place at
+/// its line. Where lines come after the last deed of these, the place is moved to the last of them,
+/// so that the next opening begins there.
 ///
-/// `Differs` where a command is answered otherwise than its line says. All commands are tried first,
-/// so none is carried out then, and the desk is given back as it was. `BadLine` where the reply of a
+/// `Differs` where a deed is answered otherwise than its line says. All deeds are tried first, so
+/// none is carried out then, and the desk is given back as it was. `BadLine` where the reply of a
 /// line has a number that is no whole number, as no line that an opening finds has. `Desk` where a
-/// command is not carried out, the place is not moved, or memory runs out. There is no other fault.
+/// deed is not carried out, the place is not moved, or memory runs out. There is no other fault.
 /// It gives the desk back, as far as it has come, and the journal, in which nothing was written.
 pub fn with_journal<K: CommitAt, J: Journal + Drop, C: Clock>(
     alloc: Global,

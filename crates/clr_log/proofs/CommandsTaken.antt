@@ -4,12 +4,11 @@ use Rattle.std.proofs.lemmas.List.{append-nil, map-append}
 use Rattle.std.specs.Prelude.{not}
 use Rattle.serde_json.specs.Data.{Data}
 use Rattle.serde_json.specs.View.{view}
+use Rattle.clr_deeds.specs.Deeds.{Deed, commands_among, deed_of}
 use Rattle.clr_rules.specs.Id.{Id}
-use Rattle.clr_rules.specs.declared.command.Command.{Command}
 use Rattle.clr_journal.specs.Journals.{carried_out, onto_some, own_pair, withdraws}
 use Rattle.clr_journal.specs.Line.{Entry, carried, withdrawn, is_accepted}
 use Rattle.clr_journal.specs.declared.line.Carried.{Carried}
-use Rattle.clr_wayback.specs.Text.{command_line}
 use Rattle.clr_verify.specs.Replay.{Answered, IsAccepted, answered_in, answered_of, open_entries, own_answered}
 use Rattle.clr_chain.specs.Walking.{holds, seen_step}
 use Rattle.clr_chain.specs.declared.walk.Step.{Step as SeenStep}
@@ -17,7 +16,7 @@ use Rattle.clr_log.specs.About.{clearance_of, is_wanted}
 use Rattle.clr_log.specs.Commands.{commands_text, wanted_of}
 use Rattle.clr_log.specs.Log.{if_wanted}
 use Rattle.clr_log.specs.Walked.{last_accepted, older_with, pair_of}
-use Rattle.clr_log.proofs.Wanted.{one_wanted}
+use Rattle.clr_log.proofs.Wanted.{one_wanted, text_of_deed}
 
 -- what was carried out, of the lines that were answered
 pub carried_out-answered : (entries : List Entry) → carried_out entries ≡ map pair_of (answered_in entries)
@@ -28,32 +27,35 @@ carried_out-answered (carried receipt q reply ∷ rest) = at (is_accepted reply 
   where
     at : (b : Bool) → carried_out rest ≡ map pair_of (answered_in rest)
         → onto_some (if b then Some (q, reply) else None) (carried_out rest)
-        ≡ map pair_of (onto_some (if b then Some (record { number = receipt.number; command = q; reply = reply }) else None) (answered_in rest))
+        ≡ map pair_of (onto_some (if b then Some (record { number = receipt.number; deed = q; reply = reply }) else None) (answered_in rest))
     at true more = ap (λ rest. (q, reply) ∷ rest) more
     at false more = more
 
 abbrev pub text_over : Option Id → List Answered → List ℕ
 text_over wanted answered = commands_text (wanted_of wanted (map pair_of answered))
 
-one_alone : (wanted : Option Id) (q : Command) (reply : Data) → commands_text (wanted_of wanted ((q, reply) ∷ [])) ≡ if_wanted (is_wanted wanted (clearance_of q reply)) (command_line q)
-one_alone wanted q reply = one_wanted wanted q reply [] ∙ append-nil _
+one_alone : (wanted : Option Id) (deed : Deed) (reply : Data) → commands_text (wanted_of wanted ((deed, reply) ∷ [])) ≡ if_wanted (is_wanted wanted (clearance_of deed reply)) (text_of_deed deed)
+unfolding commands_among
+one_alone wanted deed reply = one_wanted wanted deed reply [] ∙ append-nil _
 
 text_over-cons : (wanted : Option Id) (one : Answered) (rest : List Answered) → text_over wanted (one ∷ rest) ≡ text_over wanted (one ∷ []) ++ text_over wanted rest
 text_over-cons wanted one rest =
-    one_wanted wanted one.command one.reply (map pair_of rest) ∙ ap (λ text. text ++ text_over wanted rest) (sym (one_alone wanted one.command one.reply))
+    one_wanted wanted one.deed one.reply (map pair_of rest) ∙ ap (λ text. text ++ text_over wanted rest) (sym (one_alone wanted one.deed one.reply))
 
 -- a command was written, if there was one and it is wanted
 pub push_none : (wanted : Option Id) (text : List ℕ) → text ≡ text ++ text_over wanted []
+unfolding commands_among
 push_none wanted text = sym (append-nil text)
 
-pub push_some : (wanted : Option Id) (one : Carried) → if_wanted (is_wanted wanted (clearance_of one.command (view one.reply))) (command_line one.command) ≡ text_over wanted (answered_of (Some one))
-push_some wanted one = sym (one_alone wanted one.command (view one.reply))
+pub push_some : (wanted : Option Id) (one : Carried) → if_wanted (is_wanted wanted (clearance_of (deed_of one.deed) (view one.reply))) (text_of_deed (deed_of one.deed)) ≡ text_over wanted (answered_of (Some one))
+push_some wanted one = sym (one_alone wanted (deed_of one.deed) (view one.reply))
 
 -- the commands of some lines and of the lines after them
 text_over-append : (wanted : Option Id) (done : Option Carried) (rest : List Answered) → text_over wanted (answered_of done ++ rest) ≡ text_over wanted (answered_of done) ++ text_over wanted rest
+unfolding commands_among
 text_over-append wanted None rest = refl
 text_over-append wanted (Some one) rest =
-    text_over-cons wanted (record { number = one.receipt.number; command = one.command; reply = view one.reply }) rest
+    text_over-cons wanted (record { number = one.receipt.number; deed = deed_of one.deed; reply = view one.reply }) rest
 
 -- a line was taken, and what was carried out before it was written
 pub one_taken : (wanted : Option Id) (done : Option Carried) (before after : List ℕ) (entries later : List Entry)
@@ -73,8 +75,8 @@ unfolding carried_out
 open_answered None is = refl
 open_answered (Some one) is = at (is_accepted (view one.reply)) is
   where
-    pair : Command × Data
-    pair = (one.command, view one.reply)
+    pair : Deed × Data
+    pair = (deed_of one.deed, view one.reply)
 
     at : (b : Bool) → b ≡ true → pair ∷ [] ≡ onto_some (if b && true then Some pair else None) []
     at true e = refl
@@ -92,7 +94,7 @@ last_accepted-of (Some one) is = is
 -- ---- what is written on the way
 
 pub wrote_some : {T E : Type 0} (result : Result T E) (wanted : Option Id) (done : Option Carried) (one : Carried) (before after : List ℕ) → done ≡ Some one
-    → OnOk result (after ≡ before ++ if_wanted (is_wanted wanted (clearance_of one.command (view one.reply))) (command_line one.command))
+    → OnOk result (after ≡ before ++ if_wanted (is_wanted wanted (clearance_of (deed_of one.deed) (view one.reply))) (text_of_deed (deed_of one.deed)))
     → OnOk result (after ≡ before ++ text_over wanted (answered_of done))
 wrote_some (Ok value) wanted done one before after is more =
     more ∙ ap (λ text. before ++ text) (push_some wanted one) ∙ ap (λ d. before ++ text_over wanted (answered_of d)) (sym is)

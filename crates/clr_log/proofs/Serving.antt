@@ -6,6 +6,7 @@ use Rattle.std.specs.Prelude.{is_some}
 use Rattle.serde_json.specs.Data.{Data}
 use Rattle.serde_json.specs.View.{view}
 use Rattle.clr_order.specs.Step.{Task}
+use Rattle.clr_deeds.specs.Deeds.{Deed, archive, command, deed_of, update}
 use Rattle.clr_rules.specs.Id.{Id, same_id_equiv}
 use Rattle.clr_rules.specs.declared.command.Command.{Command}
 use Rattle.clr_rules.specs.declared.command.Kind.{Kind}
@@ -19,8 +20,8 @@ use Rattle.clr_chain.specs.Walking.{holds, seen_step}
 use Rattle.clr_chain.specs.declared.walk.Step.{Step as SeenStep}
 use Rattle.clr_log.specs.About.{clearance_of, is_wanted, last_clearance, line_clearance, named_or}
 use Rattle.clr_log.specs.Log.{carried_line, entry_line, given_columns, id_or_dash, if_wanted, reply_words, said_columns, withdrawn_line}
-use Rattle.clr_log.specs.Steps.{amended_by, given_by, given_or, is_amend, is_withdrawn, left_if, step_at, step_before, step_known, steps_ordered}
-use Rattle.clr_log.specs.Walked.{Serve, held_entries, idle_at_end, is_amending, is_remembered, step_text}
+use Rattle.clr_log.specs.Steps.{amended_by, deed_steps, given_by, given_or, is_amend, is_amend_deed, is_withdrawn, left_if, step_at, step_before, step_known}
+use Rattle.clr_log.specs.Walked.{Serve, held_entries, idle_at_end, is_amending, is_amending_deed, is_remembered, step_text}
 use Rattle.clr_log.specs.Words.{flags_said, names_said, step_words, steps_said, verb}
 use Rattle.clr_rules.specs.Command.{named_clearance}
 
@@ -54,7 +55,7 @@ same_amended c k amended held older same =
     amended_since c k false amended held ∙ ap (option_map (left_if amended)) same ∙ sym (amended_since c k false amended older)
 
 -- and with one more command
-with_carried : (receipt : Receipt) (q : Command) (reply : Data) (c : Id) (k : ℕ) (held older : List Entry) → step_known held c k ≡ step_known older c k
+with_carried : (receipt : Receipt) (q : Deed) (reply : Data) (c : Id) (k : ℕ) (held older : List Entry) → step_known held c k ≡ step_known older c k
     → step_known (carried receipt q reply ∷ held) c k ≡ step_known (carried receipt q reply ∷ older) c k
 unfolding step_before
 with_carried receipt q reply c k held older same =
@@ -71,6 +72,11 @@ amend_only : (k : ℕ) (what : Kind) → is_amending what ≡ false → is_amend
 amend_only k (kind.Amend c step) is = absurd (cc is)
 amend_only k _ is = refl
 
+amend_deed_only : (k : ℕ) (deed : Deed) → is_amending_deed deed ≡ false → is_amend_deed k deed ≡ false
+amend_deed_only k (command q) is = amend_only k q.kind is
+amend_deed_only k (update of) is = refl
+amend_deed_only k (archive before) is = refl
+
 idle : (accepted own : Bool) (ordered : Option (List Task)) (amending amend of_wanted : Bool) → (own ≡ true → of_wanted ≡ true) → (amending ≡ false → amend ≡ false)
     → (accepted && ((is_some ordered || amending) && of_wanted)) ≡ false
     → ((if accepted && own then ordered else None) ≡ None) × (((accepted && own) && amend) ≡ false)
@@ -80,13 +86,13 @@ idle true true (Some steps) amending amend of_wanted up only unasked = let is = 
 idle true true None true amend of_wanted up only unasked = let is = up refl in absurd (cc (is, unasked))
 idle true true None false amend of_wanted up only unasked = (refl, only refl)
 
-not_looked_at : (wanted : Option Id) (c : Id) (k : ℕ) (receipt : Receipt) (q : Command) (reply : Data) (older : List Entry) → is_remembered wanted q reply ≡ false
+not_looked_at : (wanted : Option Id) (c : Id) (k : ℕ) (receipt : Receipt) (q : Deed) (reply : Data) (older : List Entry) → is_remembered wanted q reply ≡ false
     → is_wanted wanted (Some c) ≡ true → step_known (carried receipt q reply ∷ older) c k ≡ step_known older c k
 unfolding step_before
 not_looked_at wanted c k receipt q reply older unasked is =
     let found = clearance_of q reply in
-    let both = idle _ (is_wanted (Some c) found) (steps_ordered q.kind) (is_amending q.kind) (is_amend k q.kind) (is_wanted wanted found)
-    (λ own. wanted_too wanted c found is own) (amend_only k q.kind) unasked in
+    let both = idle _ (is_wanted (Some c) found) (deed_steps q) (is_amending_deed q) (is_amend_deed k q) (is_wanted wanted found)
+    (λ own. wanted_too wanted c found is own) (amend_deed_only k q) unasked in
     λ i. given_or k false (both.0 i) (step_before c k false (both.1 i) older)
 
 -- what is given up is not looked at
@@ -109,7 +115,7 @@ pub Serve-none : (wanted : Option Id) (held : List Entry) → held ≡ [] → Se
 Serve-none wanted held none = rw none (record { last = refl; steps = λ c is k. refl; next = λ n c is k. refl })
 
 -- a command, after which what no later line looks at was given up
-pub Serve-carried : (wanted : Option Id) (held older : List Entry) (receipt : Receipt) (q : Command) (reply : Data) → Serve wanted held older
+pub Serve-carried : (wanted : Option Id) (held older : List Entry) (receipt : Receipt) (q : Deed) (reply : Data) → Serve wanted held older
     → Serve wanted (carried receipt q reply ∷ drop (idle_at_end wanted held) held) (carried receipt q reply ∷ older)
 unfolding step_before
 Serve-carried wanted held older receipt q reply serve = record {
@@ -141,7 +147,7 @@ steps_said_alike wanted held older (kind.Amend c k) other serve is = numbered_al
 steps_said_alike wanted held older _ other serve is = refl
 
 said_alike : (wanted : Option Id) (held older : List Entry) (q : Command) (reply : Data) → Serve wanted held older
-    → is_wanted wanted (clearance_of q reply) ≡ true → said_columns held q reply ≡ said_columns older q reply
+    → is_wanted wanted (clearance_of (command q) reply) ≡ true → said_columns held q reply ≡ said_columns older q reply
 unfolding said_columns
 said_alike wanted held older q reply serve is =
     ap (λ steps. (verb q.kind ++ steps ++ names_said q.kind ++ flags_said q.kind) ++ codes "  " ++ reply_words reply ++ codes "\n")
@@ -156,9 +162,11 @@ pub printed_alike : (wanted : Option Id) (offset : ℤ) (held older : List Entry
 unfolding withdrawn_line
 printed_alike wanted offset held older (withdrawn n) serve =
     ap (λ last. if_wanted (is_wanted wanted last) (decimal n ++ codes "  -  " ++ id_or_dash last ++ codes "  -  -  withdrawn\n")) serve.last
-printed_alike wanted offset held older (carried receipt q reply) serve = at (is_wanted wanted (clearance_of q reply)) refl
+printed_alike wanted offset held older (carried receipt (update of) reply) serve = refl
+printed_alike wanted offset held older (carried receipt (archive before) reply) serve = refl
+printed_alike wanted offset held older (carried receipt (command q) reply) serve = at (is_wanted wanted (clearance_of (command q) reply)) refl
   where
-    at : (b : Bool) → is_wanted wanted (clearance_of q reply) ≡ b
+    at : (b : Bool) → is_wanted wanted (clearance_of (command q) reply) ≡ b
         → if_wanted b (carried_line offset held receipt q reply) ≡ if_wanted b (carried_line offset older receipt q reply)
     at true is = ap (λ said. given_columns offset receipt q reply ++ said) (said_alike wanted held older q reply serve is)
     at false is = refl
@@ -209,7 +217,7 @@ left_held wanted lines now n is_taken is =
 pub way_made : (wanted wanted' : Option Id) (held held' older : List Entry) (shown : Line) (one : Carried) → shown ≡ line.Carried one → wanted' ≡ wanted
     → held' ≡ drop (idle_at_end wanted held) held → Serve wanted held older → Serve wanted' (entry_of shown ∷ held') (entry_of shown ∷ older)
 way_made wanted wanted' held held' older shown one line_is wanted_is held_is serve =
-    rw (line_is, wanted_is, held_is) (Serve-carried wanted held older one.receipt one.command (view one.reply) serve)
+    rw (line_is, wanted_is, held_is) (Serve-carried wanted held older one.receipt (deed_of one.deed) (view one.reply) serve)
 
 pub way_kept : (wanted : Option Id) (held older : List Entry) (shown : Line) (n : ℕ) → shown ≡ line.Withdrawn n → Serve wanted held older
     → Serve wanted (entry_of shown ∷ held) (entry_of shown ∷ older)

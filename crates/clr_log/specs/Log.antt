@@ -2,13 +2,18 @@
 -- apart: the number, the moment, the clearance, who, what, and the reply.
 --
 --     7  1970-01-01 00:01:46 +00:00  JONES/1  OPS  instruct 1 OPEN S2  accepted
+--
+-- An update has lines of its changes after its own, as `update` prints them.
 use Rattle.std.specs.Prelude.{ℕ, nat_le, Bool, true, false, ◌&&◌, List, [], ◌∷◌, ◌++◌, filter}
 use Rattle.std.specs.Prelude.{Option, None, Some, codes, decimal, ℤ, if◌then◌else◌}
 use Rattle.std.specs.Prelude.{option_and_then, bytes_eq}
 use Rattle.serde_json.specs.Data.{Data}
 use Rattle.serde_json.specs.Find.{as_str, get}
 use Rattle.clr_print.specs.Moments.{moment_text}
+use Rattle.clr_changes.specs.Lines.{change_lines}
+use Rattle.clr_deeds.specs.Deeds.{archive, command, update}
 use Rattle.clr_rules.specs.Id.{Id, id_text}
+use Rattle.clr_rules.specs.Moment.{new_moment}
 use Rattle.clr_rules.specs.declared.command.Command.{Command}
 use Rattle.clr_rules.specs.declared.command.Kind.{Kind}
 use Rattle.clr_rules.specs.declared.command.Kind.TheVariants.{Show, Jumper}
@@ -16,6 +21,7 @@ use Rattle.clr_journal.specs.Line.{Entry, carried, withdrawn, is_accepted}
 use Rattle.clr_journal.specs.declared.line.Receipt.{Receipt}
 use Rattle.clr_log.specs.About.{clearance_of, is_wanted, last_clearance, line_clearance}
 use Rattle.clr_log.specs.Words.{words}
+use Rattle.clr_update.specs.Changes.{Changes}
 
 -- a moment; a dash for `show` and `jumper`, which state none
 abbrev pub when : Kind → ℕ → ℤ → List ℕ
@@ -57,7 +63,7 @@ reply_words reply =
 unfoldable pub given_columns : ℤ → Receipt → Command → Data → List ℕ
 given_columns offset receipt q reply =
     decimal receipt.number ++ codes "  " ++ when q.kind q.moment offset ++ codes "  "
-    ++ id_or_dash (clearance_of q reply) ++ codes "  " ++ who q receipt ++ codes "  "
+    ++ id_or_dash (clearance_of (command q) reply) ++ codes "  " ++ who q receipt ++ codes "  "
 
 -- the others: what, and the reply
 unfoldable pub said_columns : List Entry → Command → Data → List ℕ
@@ -68,6 +74,28 @@ abbrev pub carried_line : ℤ → List Entry → Receipt → Command → Data �
 carried_line offset older receipt q reply =
     given_columns offset receipt q reply ++ said_columns older q reply
 
+-- when a line was received; a dash after the end of 2099
+abbrev pub received_text : ℤ → Option ℕ → List ℕ
+received_text offset None = codes "-"
+received_text offset (Some seconds) = moment_text seconds offset
+
+-- the first columns of a line that has no caller: the number, and when it was received
+unfoldable pub received_columns : ℤ → Receipt → List ℕ
+received_columns offset receipt =
+    decimal receipt.number ++ codes "  " ++ received_text offset (new_moment receipt.received)
+    ++ codes "  -  -  "
+
+-- THE LINES OF AN UPDATE: its own, and one for each thing that changes
+unfoldable pub updated_lines : ℤ → Receipt → Changes → List ℕ
+updated_lines offset receipt of =
+    received_columns offset receipt ++ codes "update  accepted\n" ++ change_lines of
+
+-- THE LINE OF AN ARCHIVE
+unfoldable pub archived_line : ℤ → Receipt → ℕ → List ℕ
+archived_line offset receipt before =
+    received_columns offset receipt ++ codes "archive before " ++ moment_text before offset
+    ++ codes "  accepted\n"
+
 -- one that withdraws
 unfoldable pub withdrawn_line : List Entry → ℕ → List ℕ
 withdrawn_line older n =
@@ -75,7 +103,11 @@ withdrawn_line older n =
     ++ codes "  -  -  withdrawn\n"
 
 abbrev pub entry_line : ℤ → List Entry → Entry → List ℕ
-entry_line offset older (carried receipt q reply) = carried_line offset older receipt q reply
+entry_line offset older (carried receipt (command q) reply) =
+    carried_line offset older receipt q reply
+entry_line offset older (carried receipt (update of) reply) = updated_lines offset receipt of
+entry_line offset older (carried receipt (archive before) reply) =
+    archived_line offset receipt before
 entry_line offset older (withdrawn n) = withdrawn_line older n
 
 abbrev pub if_wanted : Bool → List ℕ → List ℕ

@@ -3,18 +3,18 @@
 use Rattle.std.specs.Prelude.{ℕ, zero, suc, Bool, true, false, not, ◌&&◌, ◌||◌, ◌==◌, List, []}
 use Rattle.std.specs.Prelude.{◌∷◌, Option, None, Some, if◌then◌else◌, option_map, slice_get}
 use Rattle.serde_json.specs.Data.{Data}
+use Rattle.clr_deeds.specs.Deeds.{Deed, archive, command, update}
 use Rattle.clr_order.specs.Step.{Task}
 use Rattle.clr_order.specs.declared.action.Action.TheVariants.{Leave}
 use Rattle.clr_rules.specs.Id.{Id}
-use Rattle.clr_rules.specs.declared.command.Command.{Command}
 use Rattle.clr_rules.specs.declared.command.Kind.{Kind}
 use Rattle.clr_rules.specs.declared.command.Kind.TheVariants.{Order, Restore, Switch, Amend}
 use Rattle.clr_journal.specs.Line.{Entry, carried, withdrawn, is_accepted}
 use Rattle.clr_log.specs.About.{clearance_of, is_wanted}
 
--- the command was carried out, and is about the clearance
-abbrev pub is_done_for : Id → Command → Data → Bool
-is_done_for c q reply = is_accepted reply && is_wanted (Some c) (clearance_of q reply)
+-- the deed was carried out, and is about the clearance
+abbrev pub is_done_for : Id → Deed → Data → Bool
+is_done_for c deed reply = is_accepted reply && is_wanted (Some c) (clearance_of deed reply)
 
 -- the steps that a command orders
 abbrev pub steps_ordered : Kind → Option (List Task)
@@ -23,26 +23,37 @@ steps_ordered (Restore c steps) = Some steps
 steps_ordered (Switch steps) = Some steps
 steps_ordered kind = None
 
+-- and those that a deed orders: an update or an archive orders none
+abbrev pub deed_steps : Deed → Option (List Task)
+deed_steps (command q) = steps_ordered q.kind
+deed_steps (update of) = None
+deed_steps (archive before) = None
+
 -- a step of this number was turned into a Leave
 abbrev pub is_amend : ℕ → Kind → Bool
 is_amend k (Amend c step) = k == step
 is_amend k kind = false
 
+abbrev pub is_amend_deed : ℕ → Deed → Bool
+is_amend_deed k (command q) = is_amend k q.kind
+is_amend_deed k (update of) = false
+is_amend_deed k (archive before) = false
+
 -- the steps that a line gave a clearance, unless the line after it withdraws it
 abbrev pub given_by : Bool → Id → Entry → Option (List Task)
 given_by withdraws c (withdrawn n) = None
-given_by withdraws c (carried receipt q reply) =
-    if not withdraws && is_done_for c q reply then steps_ordered q.kind else None
+given_by withdraws c (carried receipt deed reply) =
+    if not withdraws && is_done_for c deed reply then deed_steps deed else None
 
 -- whether it turned a step into a Leave, unless the line after it withdraws it
 abbrev pub amended_by : Bool → Id → ℕ → Entry → Bool
 amended_by withdraws c k (withdrawn n) = false
-amended_by withdraws c k (carried receipt q reply) =
-    not withdraws && (is_done_for c q reply && is_amend k q.kind)
+amended_by withdraws c k (carried receipt deed reply) =
+    not withdraws && (is_done_for c deed reply && is_amend_deed k deed)
 
 abbrev pub is_withdrawn : Entry → Bool
 is_withdrawn (withdrawn n) = true
-is_withdrawn (carried receipt q reply) = false
+is_withdrawn (carried receipt deed reply) = false
 
 -- the step of a number, counted from 1
 abbrev pub step_at : ℕ → List Task → Option Task

@@ -3,8 +3,8 @@
 use Rattle.std.specs.Prelude.{◌≡◌, ℕ, ℤ, Bool, true, false, ◌&&◌, List, [], ◌∷◌, ◌++◌, map, reverse}
 use Rattle.std.specs.Prelude.{Option, None, Some, codes, decimal, if◌then◌else◌, is_some, ◌||◌}
 use Rattle.serde_json.specs.Data.{Data}
+use Rattle.clr_deeds.specs.Deeds.{Deed, archive, command, update}
 use Rattle.clr_rules.specs.Id.{Id}
-use Rattle.clr_rules.specs.declared.command.Command.{Command}
 use Rattle.clr_rules.specs.declared.command.Kind.{Kind}
 use Rattle.clr_rules.specs.declared.command.Kind.TheVariants.{Amend}
 use Rattle.clr_journal.specs.Line.{Entry, carried, withdrawn, entry_of, is_accepted}
@@ -15,7 +15,7 @@ use Rattle.clr_chain.specs.Walking.{Step, holds, bad}
 use Rattle.clr_log.specs.About.{clearance_of, is_wanted, last_clearance, line_clearance}
 use Rattle.clr_log.specs.Commands.{commands_about, commands_text}
 use Rattle.clr_log.specs.Log.{entry_line, if_wanted}
-use Rattle.clr_log.specs.Steps.{step_known, steps_ordered}
+use Rattle.clr_log.specs.Steps.{deed_steps, step_known}
 use Rattle.clr_verify.specs.Replay.{Answered}
 
 -- ---- the log
@@ -52,23 +52,29 @@ abbrev pub is_amending : Kind → Bool
 is_amending (Amend c step) = true
 is_amending kind = false
 
-abbrev pub is_remembered : Option Id → Command → Data → Bool
-is_remembered wanted q reply = is_accepted reply
-    && ((is_some (steps_ordered q.kind) || is_amending q.kind)
-    && is_wanted wanted (clearance_of q reply))
+abbrev pub is_amending_deed : Deed → Bool
+is_amending_deed (command q) = is_amending q.kind
+is_amending_deed (update of) = false
+is_amending_deed (archive before) = false
+
+abbrev pub is_remembered : Option Id → Deed → Data → Bool
+is_remembered wanted deed reply = is_accepted reply
+    && ((is_some (deed_steps deed) || is_amending_deed deed)
+    && is_wanted wanted (clearance_of deed reply))
 
 -- a line that withdraws, with the command before it, if that is there
 abbrev pub withdrawn_with : List Entry → ℕ
 withdrawn_with [] = 1
 withdrawn_with (withdrawn n ∷ older) = 1
-withdrawn_with (carried receipt q reply ∷ older) = 2
+withdrawn_with (carried receipt deed reply ∷ older) = 2
 
 -- how many of the newest lines no later line looks at but the next: one that withdraws, with the
 -- command before it; or one that is not remembered
 abbrev pub idle_at_end : Option Id → List Entry → ℕ
 idle_at_end wanted [] = 0
 idle_at_end wanted (withdrawn n ∷ older) = withdrawn_with older
-idle_at_end wanted (carried receipt q reply ∷ older) = if is_remembered wanted q reply then 0 else 1
+idle_at_end wanted (carried receipt deed reply ∷ older) =
+    if is_remembered wanted deed reply then 0 else 1
 
 -- LINES SERVE FOR ALL that held before, of which the newest come first: the last is the same, and
 -- each step of a clearance that is wanted is known by them as by all
@@ -90,9 +96,9 @@ abbrev pub last_accepted : Option Carried → Bool
 last_accepted None = true
 last_accepted (Some one) = is_accepted (view one.reply)
 
--- the command of a line, with its reply
-abbrev pub pair_of : Answered → Command × Data
-pair_of answered = (answered.command, answered.reply)
+-- the deed of a line, with its reply
+abbrev pub pair_of : Answered → Deed × Data
+pair_of answered = (answered.deed, answered.reply)
 
 -- the lines that hold their sums
 unfoldable pub holding : List Step → List Entry

@@ -3,11 +3,12 @@ ghost use Rattle.std.specs.Prelude.{◌≡◌, map, option_and_then, reverse};
 ghost use Rattle.clr_rules.specs.IdText.{read_id};
 ghost use Rattle.serde_json.specs.Find.{as_str, get};
 ghost use Rattle.serde_json.specs.View.{view};
+ghost use Rattle.clr_deeds.specs.Deeds.{command as of_command, deed_of};
 ghost use Rattle.clr_journal.specs.Line.{entry_of};
 ghost use Rattle.clr_log.specs.About.{card_clearance, clearance_of, is_wanted, last_clearance};
 ghost use Rattle.clr_log.specs.About.{line_clearance};
 
-use clr_journal::{Carried, Line};
+use clr_journal::{Carried, Deed, Line};
 use clr_rules::{ClearanceId, Command};
 use serde_json::Value;
 
@@ -32,15 +33,19 @@ pub(crate) fn last_clearance(before: &[Line]) -> Option<ClearanceId>
     }
 }
 
-/// The clearance of a command with its reply.
+/// The clearance of a deed with its reply: an update or an archive is about none.
 pub(crate) fn carried_clearance(carried: &Carried) -> Option<ClearanceId>
-    ensures { result ≡ clearance_of carried.now.command (view carried.now.reply) }
+    ensures { result ≡ clearance_of (deed_of carried.now.deed) (view carried.now.reply) }
 {
-    clearance_of(&carried.command, &carried.reply)
+    match &carried.deed {
+        Deed::Command(command) => clearance_of(command, &carried.reply),
+        Deed::Update(_) | Deed::Archive(_) => None,
+    }
 }
 
-fn clearance_of(command: &Command, reply: &Value) -> Option<ClearanceId>
-    ensures { result ≡ clearance_of command.now (view reply.now) }
+/// The clearance of a command with its reply.
+pub(crate) fn clearance_of(command: &Command, reply: &Value) -> Option<ClearanceId>
+    ensures { result ≡ clearance_of (of_command command.now) (view reply.now) }
 {
     match command.kind.clearance() {
         Some(clearance) => Some(clearance),

@@ -5,7 +5,6 @@ ghost use Rattle.clr_text.specs.CommandText.{has_its_moment};
 ghost use Rattle.clr_wayback.specs.Text.{command_line, commands_read, reads_back};
 ghost use Rattle.clr_log.specs.Commands.{commands_text};
 
-use clr_journal::Carried;
 use clr_rules::Command;
 use clr_text::{can_be_sent, command_text};
 use std::alloc::{AllocError, Global};
@@ -26,20 +25,20 @@ pub(crate) fn push_command(
 
 /// The lines of commands read as these commands, so `run` takes them; a `show` or `jumper` only where
 /// its moment is 0, as it is in each journal that was read. A law, with nothing to do.
-pub fn commands_read_back(lines: &[&Carried])
-    ensures { list_all has_its_moment (map (λ one. one.now.command) lines.now) ≡ true
-        → commands_read (commands_text (map (λ one. one.now.command) lines.now))
-        ≡ map (λ one. one.now.command) lines.now }
+pub fn commands_read_back(commands: &[&Command])
+    ensures { list_all has_its_moment (map (λ one. one.now) commands.now) ≡ true
+        → commands_read (commands_text (map (λ one. one.now) commands.now))
+        ≡ map (λ one. one.now) commands.now }
 {
-    all_read_back(lines);
+    all_read_back(commands);
 }
 
 /// Each command that has its moment is read from its text: a law, with nothing to do.
-fn all_read_back(lines: &[&Carried])
-    ensures { IsTrue (list_all reads_back (map (λ one. one.now.command) lines.now)) }
+fn all_read_back(commands: &[&Command])
+    ensures { IsTrue (list_all reads_back (map (λ one. one.now) commands.now)) }
 {
-    for carried in lines {
-        reads_back(&carried.command);
+    for command in commands {
+        reads_back(command);
     }
 }
 

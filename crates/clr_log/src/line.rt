@@ -2,17 +2,23 @@
 ghost use Rattle.std.specs.Prelude.{◌≡◌, ◌++◌, IfOk, OnOk, map, reverse, Some};
 ghost use Rattle.std.specs.Prelude.{string_bytes};
 ghost use Rattle.serde_json.specs.View.{view};
-ghost use Rattle.clr_journal.specs.Line.{entry_of};
-ghost use Rattle.clr_log.specs.Log.{carried_line, entry_line, given_columns, login_words};
-ghost use Rattle.clr_log.specs.Log.{reply_words, said_columns, when, who, withdrawn_line};
+ghost use Rattle.clr_deeds.specs.Deeds.{deed_of};
+ghost use Rattle.clr_journal.specs.Line.{carried, entry_of};
+ghost use Rattle.clr_log.specs.Log.{archived_line, carried_line, entry_line, given_columns};
+ghost use Rattle.clr_log.specs.Log.{login_words, received_columns, received_text, reply_words};
+ghost use Rattle.clr_log.specs.Log.{said_columns};
+ghost use Rattle.clr_rules.specs.Moment.{new_moment};
+ghost use Rattle.clr_log.specs.Log.{updated_lines, when, who, withdrawn_line};
+ghost use Rattle.clr_update.specs.Shown.{as_changes};
 
-use crate::about::{carried_clearance, last_clearance};
+use crate::about::{clearance_of, last_clearance};
 use crate::moments::{ClockOffset, moment_text};
 use crate::texts::{push_id, push_number, push_plain};
 use crate::words::push_words;
-use clr_journal::{Carried, Line, Receipt, is_accepted};
+use clr_changes::print_changes;
+use clr_journal::{Carried, Changes, Deed, Line, Receipt, is_accepted};
 use clr_net::Name;
-use clr_rules::{Command, Kind};
+use clr_rules::{Command, Kind, Moment};
 use serde_json::Value;
 use std::alloc::{AllocError, Global};
 
@@ -28,8 +34,27 @@ pub(crate) fn push_line(
         ++ entry_line clock (reverse (map entry_of before.now)) (entry_of line.now)) }
 {
     match line {
-        Line::Carried(carried) => push_carried(alloc, out, before, carried, clock),
+        Line::Carried(carried) => push_deed(alloc, out, before, carried, clock),
         Line::Withdrawn(number) => push_withdrawn(alloc, out, before, *number),
+    }
+}
+
+/// Writes the line of a deed and its reply.
+fn push_deed(
+    alloc: Global,
+    out: &mut String,
+    before: &[Line],
+    one: &Carried,
+    clock: ClockOffset,
+) -> Result<(), AllocError>
+    ensures { OnOk result (string_bytes out.new ≡ string_bytes out.old
+        ++ entry_line clock (reverse (map entry_of before.now))
+        (carried one.now.receipt (deed_of one.now.deed) (view one.now.reply))) }
+{
+    match &one.deed {
+        Deed::Command(command) => push_carried(alloc, out, before, one, command, clock),
+        Deed::Update(changes) => push_updated(alloc, out, &one.receipt, changes, clock),
+        Deed::Archive(moment) => push_archived(alloc, out, &one.receipt, *moment, clock),
     }
 }
 
@@ -39,49 +64,156 @@ fn push_carried(
     out: &mut String,
     before: &[Line],
     one: &Carried,
+    command: &Command,
     clock: ClockOffset,
 ) -> Result<(), AllocError>
     ensures { OnOk result (string_bytes out.new ≡ string_bytes out.old
         ++ carried_line clock (reverse (map entry_of before.now))
-        one.now.receipt one.now.command (view one.now.reply)) }
+        one.now.receipt command.now (view one.now.reply)) }
 {
-    let given = given_columns(alloc, one, clock)?;
+    let given = given_columns(alloc, one, command, clock)?;
     out.push_str(given.as_str())?;
-    let said = said_columns(alloc, before, one)?;
+    let said = said_columns(alloc, before, command, &one.reply)?;
     out.push_str(said.as_str())
+}
+
+/// Writes the lines of an update.
+fn push_updated(
+    alloc: Global,
+    out: &mut String,
+    receipt: &Receipt,
+    changes: &Changes,
+    clock: ClockOffset,
+) -> Result<(), AllocError>
+    ensures { OnOk result (string_bytes out.new ≡ string_bytes out.old
+        ++ updated_lines clock receipt.now (as_changes changes.now)) }
+{
+    let lines = updated_lines(alloc, receipt, changes, clock)?;
+    out.push_str(lines.as_str())
+}
+
+/// The lines of an update: its own, and one for each thing that changes.
+#[tactic(auto, unfolding(crate::specs::Log::updated_lines))]
+fn updated_lines(
+    alloc: Global,
+    receipt: &Receipt,
+    changes: &Changes,
+    clock: ClockOffset,
+) -> Result<String, AllocError>
+    ensures { IfOk result (λ text. string_bytes text
+        ≡ updated_lines clock receipt.now (as_changes changes.now)) }
+{
+    let lines = print_changes(alloc, changes)?;
+    let mut text = received_columns(alloc, receipt, clock)?;
+    text.push_str("update  accepted\n")?;
+    text.push_str(lines.as_str())?;
+    Ok(text)
+}
+
+/// Writes the line of an archive.
+fn push_archived(
+    alloc: Global,
+    out: &mut String,
+    receipt: &Receipt,
+    before: Moment,
+    clock: ClockOffset,
+) -> Result<(), AllocError>
+    ensures { OnOk result (string_bytes out.new ≡ string_bytes out.old
+        ++ archived_line clock receipt.now before) }
+{
+    let line = archived_line(alloc, receipt, before, clock)?;
+    out.push_str(line.as_str())
+}
+
+/// The line of an archive.
+#[tactic(auto, unfolding(crate::specs::Log::archived_line))]
+fn archived_line(
+    alloc: Global,
+    receipt: &Receipt,
+    before: Moment,
+    clock: ClockOffset,
+) -> Result<String, AllocError>
+    ensures { IfOk result (λ text. string_bytes text
+        ≡ archived_line clock receipt.now before) }
+{
+    let moment = moment_text(alloc, before, clock)?;
+    let mut text = received_columns(alloc, receipt, clock)?;
+    text.push_str("archive before ")?;
+    text.push_str(moment.as_str())?;
+    text.push_str("  accepted\n")?;
+    Ok(text)
+}
+
+/// The first four columns of a line that has no caller.
+#[tactic(auto, unfolding(crate::specs::Log::received_columns))]
+fn received_columns(
+    alloc: Global,
+    receipt: &Receipt,
+    clock: ClockOffset,
+) -> Result<String, AllocError>
+    ensures { IfOk result (λ text. string_bytes text ≡ received_columns clock receipt.now) }
+{
+    let mut text = String::new(alloc);
+    push_number(alloc, &mut text, receipt.number)?;
+    text.push_str("  ")?;
+    let moment = received_text(alloc, receipt.received, clock)?;
+    text.push_str(moment.as_str())?;
+    text.push_str("  -  -  ")?;
+    Ok(text)
 }
 
 /// The first four columns of a line.
 #[tactic(auto, unfolding(crate::specs::Log::given_columns))]
-fn given_columns(alloc: Global, one: &Carried, clock: ClockOffset) -> Result<String, AllocError>
+fn given_columns(
+    alloc: Global,
+    one: &Carried,
+    command: &Command,
+    clock: ClockOffset,
+) -> Result<String, AllocError>
     ensures { IfOk result (λ text. string_bytes text ≡ given_columns clock
-        one.now.receipt one.now.command (view one.now.reply)) }
+        one.now.receipt command.now (view one.now.reply)) }
 {
-    let moment = when_text(alloc, &one.command, clock)?;
+    let moment = when_text(alloc, command, clock)?;
     let mut text = String::new(alloc);
     push_number(alloc, &mut text, one.receipt.number)?;
     text.push_str("  ")?;
     text.push_str(moment.as_str())?;
     text.push_str("  ")?;
-    push_id(alloc, &mut text, carried_clearance(one))?;
+    push_id(alloc, &mut text, clearance_of(command, &one.reply))?;
     text.push_str("  ")?;
-    push_who(&mut text, &one.command, &one.receipt)?;
+    push_who(&mut text, command, &one.receipt)?;
     text.push_str("  ")?;
     Ok(text)
 }
 
 /// The others.
 #[tactic(auto, unfolding(crate::specs::Log::said_columns))]
-fn said_columns(alloc: Global, before: &[Line], one: &Carried) -> Result<String, AllocError>
+fn said_columns(
+    alloc: Global,
+    before: &[Line],
+    command: &Command,
+    reply: &Value,
+) -> Result<String, AllocError>
     ensures { IfOk result (λ text. string_bytes text
-        ≡ said_columns (reverse (map entry_of before.now)) one.now.command (view one.now.reply)) }
+        ≡ said_columns (reverse (map entry_of before.now)) command.now (view reply.now)) }
 {
     let mut text = String::new(alloc);
-    push_words(alloc, &mut text, before, &one.command.kind)?;
+    push_words(alloc, &mut text, before, &command.kind)?;
     text.push_str("  ")?;
-    push_reply(&mut text, &one.reply)?;
+    push_reply(&mut text, reply)?;
     text.push('\n')?;
     Ok(text)
+}
+
+/// When a line was received.
+fn received_text(alloc: Global, received: u64, clock: ClockOffset) -> Result<String, AllocError>
+    ensures { IfOk result (λ text. string_bytes text
+        ≡ received_text clock (new_moment received)) }
+{
+    match Moment::new(received) {
+        Some(moment) => moment_text(alloc, moment, clock),
+        None => String::from_str(alloc, "-"),
+    }
 }
 
 /// Writes the line that withdraws the command before it.

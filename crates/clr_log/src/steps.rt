@@ -3,11 +3,13 @@ ghost use Rattle.std.specs.Prelude.{◌≡◌, map, option_map, reverse};
 ghost use Rattle.serde_json.specs.View.{view};
 ghost use Rattle.clr_order.specs.Step.{task};
 ghost use Rattle.clr_journal.specs.Line.{entry_of};
-ghost use Rattle.clr_log.specs.Steps.{amended_by, given_by, is_amend, is_done_for};
+ghost use Rattle.clr_deeds.specs.Deeds.{deed_of};
+ghost use Rattle.clr_log.specs.Steps.{amended_by, deed_steps, given_by, is_amend, is_amend_deed};
+ghost use Rattle.clr_log.specs.Steps.{is_done_for};
 ghost use Rattle.clr_log.specs.Steps.{is_withdrawn, left_if, step_at, step_known, steps_ordered};
 
 use crate::about::{carried_clearance, is_wanted};
-use clr_journal::{Carried, Line, is_accepted};
+use clr_journal::{Carried, Deed, Line, is_accepted};
 use clr_order::{Action, Step};
 use clr_rules::{ClearanceId, Kind, Tasks};
 
@@ -38,7 +40,7 @@ fn given(withdraws: bool, line: &Line, clearance: ClearanceId) -> Option<&Tasks>
     match line {
         Line::Carried(carried) => {
             if !withdraws && is_done_for(carried, clearance) {
-                steps_ordered(&carried.command.kind)
+                deed_steps(&carried.deed)
             } else {
                 None
             }
@@ -53,7 +55,7 @@ fn is_amended(withdraws: bool, line: &Line, clearance: ClearanceId, number: u16)
 {
     match line {
         Line::Carried(carried) => {
-            let amends = is_amend(&carried.command.kind, number);
+            let amends = is_amend_deed(&carried.deed, number);
             !withdraws && (is_done_for(carried, clearance) && amends)
         }
         Line::Withdrawn(_) => false,
@@ -70,17 +72,27 @@ fn is_withdrawn(line: &Line) -> bool
     }
 }
 
-/// Whether a command was carried out and is about a clearance.
+/// Whether a deed was carried out and is about a clearance.
 fn is_done_for(carried: &Carried, clearance: ClearanceId) -> bool
     ensures { result
-        ≡ is_done_for clearance carried.now.command (view carried.now.reply) }
+        ≡ is_done_for clearance (deed_of carried.now.deed) (view carried.now.reply) }
 {
     let found = carried_clearance(carried);
     is_accepted(&carried.reply) && is_wanted(&Some(clearance), found)
 }
 
+/// The steps that a deed orders.
+pub(crate) fn deed_steps(deed: &Deed) -> Option<&Tasks>
+    ensures { option_map (λ steps. steps.now) result ≡ deed_steps (deed_of deed.now) }
+{
+    match deed {
+        Deed::Command(command) => steps_ordered(&command.kind),
+        Deed::Update(_) | Deed::Archive(_) => None,
+    }
+}
+
 /// The steps that a command orders.
-pub(crate) fn steps_ordered(kind: &Kind) -> Option<&Tasks>
+fn steps_ordered(kind: &Kind) -> Option<&Tasks>
     ensures { option_map (λ steps. steps.now) result ≡ steps_ordered kind.now }
 {
     match kind {
@@ -88,6 +100,16 @@ pub(crate) fn steps_ordered(kind: &Kind) -> Option<&Tasks>
             Some(steps)
         }
         _ => None,
+    }
+}
+
+/// Whether a deed turns a step of this number into a Leave.
+fn is_amend_deed(deed: &Deed, number: u16) -> bool
+    ensures { result ≡ is_amend_deed number (deed_of deed.now) }
+{
+    match deed {
+        Deed::Command(command) => is_amend(&command.kind, number),
+        Deed::Update(_) | Deed::Archive(_) => false,
     }
 }
 

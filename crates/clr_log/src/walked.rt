@@ -6,12 +6,13 @@ ghost use Rattle.serde_json.specs.View.{view};
 ghost use Rattle.clr_journal.specs.Journals.{carried_out};
 ghost use Rattle.clr_journal.specs.Line.{Entry, entry_of};
 ghost use Rattle.clr_chain.specs.Walking.{seen_step};
-ghost use Rattle.clr_wayback.specs.Text.{command_line};
 ghost use Rattle.clr_log.specs.About.{clearance_of, is_wanted, line_clearance};
+ghost use Rattle.clr_deeds.specs.Deeds.{commands_among, deed_of};
 ghost use Rattle.clr_log.specs.Commands.{commands_text, wanted_of};
 ghost use Rattle.clr_log.specs.Log.{entry_line, if_wanted};
 ghost use Rattle.clr_log.specs.Walked.{Serve, bad_line, held_entries, idle_at_end, is_amending};
-ghost use Rattle.clr_log.specs.Walked.{is_remembered, last_accepted, older_with, pair_of};
+ghost use Rattle.clr_log.specs.Walked.{is_amending_deed, is_remembered, last_accepted, older_with};
+ghost use Rattle.clr_log.specs.Walked.{pair_of};
 ghost use Rattle.clr_log.specs.Walked.{step_text, withdrawn_with};
 ghost use Rattle.clr_verify.specs.Replay.{answered_of, open_entries};
 
@@ -19,10 +20,10 @@ use crate::about::{carried_clearance, is_wanted, line_clearance};
 use crate::commands::push_command;
 use crate::line::push_line;
 use crate::moments::ClockOffset;
-use crate::steps::steps_ordered;
+use crate::steps::deed_steps;
 use crate::texts::push_number;
 use clr_chain::Step;
-use clr_journal::{Carried, Line, is_accepted};
+use clr_journal::{Carried, Deed, Line, is_accepted};
 use clr_rules::{ClearanceId, Kind};
 use std::alloc::{AllocError, Global};
 
@@ -161,12 +162,22 @@ fn withdrawn_with(before: &[Line]) -> usize
 
 /// Whether later lines may look at a line.
 fn is_remembered(wanted: &Option<ClearanceId>, one: &Carried) -> bool
-    ensures { result ≡ is_remembered wanted.now one.now.command (view one.now.reply) }
+    ensures { result ≡ is_remembered wanted.now (deed_of one.now.deed) (view one.now.reply) }
 {
-    let kind = &one.command.kind;
+    let deed = &one.deed;
     is_accepted(&one.reply)
-        && ((steps_ordered(kind).is_some() || is_amending(kind))
+        && ((deed_steps(deed).is_some() || is_amending_deed(deed))
             && is_wanted(wanted, carried_clearance(one)))
+}
+
+/// Whether a deed turns a step into a Leave.
+fn is_amending_deed(deed: &Deed) -> bool
+    ensures { result ≡ is_amending_deed (deed_of deed.now) }
+{
+    match deed {
+        Deed::Command(command) => is_amending(&command.kind),
+        Deed::Update(_) | Deed::Archive(_) => false,
+    }
 }
 
 /// Whether a command turns a step into a Leave.
@@ -237,6 +248,7 @@ impl WalkedCommands {
     }
 
     /// Writes a command, if there is one that is wanted.
+    #[tactic(auto, unfolding(clr_deeds::specs::Deeds::commands_among))]
     fn push(&self, alloc: Global, out: &mut String, done: Option<Carried>) -> Result<(), AllocError>
         ensures { OnOk result (string_bytes out.new ≡ string_bytes out.old
             ++ commands_text (wanted_of self.now.wanted (map pair_of (answered_of done)))) }
@@ -247,17 +259,20 @@ impl WalkedCommands {
         }
     }
 
-    /// Writes a command, if it is wanted.
+    /// Writes a command, if it is wanted. An update or an archive is passed over.
+    #[tactic(auto, unfolding(clr_deeds::specs::Deeds::commands_among))]
     fn push_one(&self, alloc: Global, out: &mut String, one: &Carried) -> Result<(), AllocError>
         ensures { OnOk result (string_bytes out.new ≡ string_bytes out.old
             ++ if_wanted (is_wanted self.now.wanted
-            (clearance_of one.now.command (view one.now.reply)))
-            (command_line one.now.command)) }
+            (clearance_of (deed_of one.now.deed) (view one.now.reply)))
+            (commands_text (commands_among (deed_of one.now.deed ∷ [])))) }
     {
-        if is_wanted(&self.wanted, carried_clearance(one)) {
-            push_command(alloc, out, &one.command)
-        } else {
-            Ok(())
+        if !is_wanted(&self.wanted, carried_clearance(one)) {
+            return Ok(());
+        }
+        match &one.deed {
+            Deed::Command(command) => push_command(alloc, out, command),
+            Deed::Update(_) | Deed::Archive(_) => Ok(()),
         }
     }
 }

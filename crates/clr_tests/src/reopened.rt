@@ -4,7 +4,7 @@ use clr_chain::{
     ChainFault, Link, NewFault, OpenedChain, Place, first_sum, new_chain, open_chain,
     print_carried, print_withdrawn,
 };
-use clr_journal::{Journal, OnDisk, Receipt};
+use clr_journal::{Deed, Journal, OnDisk, Receipt};
 use clr_net::Name;
 use clr_rules::{Card, ClearanceId, Phase, Reply, Text};
 use clr_text::{command_of, command_text};
@@ -200,7 +200,10 @@ fn lines_are_read_after_a_crash(rt: HostRuntime) -> Result<(), Fail> {
     let commands = ahead.commands(alloc)?;
     assert_eq!(rt; commands.len(), 1);
     for carried in &commands {
-        let command = command_text(alloc, &carried.command)?;
+        let Deed::Command(command) = &carried.deed else {
+            return Err(Fail::new("what was carried out is no command"));
+        };
+        let command = command_text(alloc, command)?;
         assert_eq!(rt; command.as_str(), JONES_ASKS);
     }
     assert_eq!(rt; journal.into_disk().bytes(), text.as_bytes());

@@ -8,11 +8,12 @@ use Rattle.serde_json.specs.Find.{as_bool, get, get_member}
 use Rattle.serde_json.specs.Read.{read}
 use Rattle.serde_json.proofs.Nesting.{depth-read}
 use Rattle.clr_result.specs.Results.{◌>>=◌}
-use Rattle.clr_rules.specs.declared.reply.Reply.{Reply}
+use Rattle.clr_deeds.specs.Deeds.{archive, command, update}
+use Rattle.clr_delta.specs.Delta.{changes_in}
 use Rattle.clr_text.specs.Reading.{value_of}
-use Rattle.clr_text.specs.Replies.{reply_data}
+use Rattle.clr_text.specs.Values.{moment_in}
 use Rattle.clr_journal.specs.Journals.{JournalFault, bad_line, if_next, is_next, lines_read, next_line, next_place, onto_some, read_journal, turn_after, withdraws}
-use Rattle.clr_journal.specs.Line.{Entry, at_key, carried, carried_in, command_at, if_withdrawn, is_accepted, line_in, read_line, receipt_in, withdrawn, withdrawn_in}
+use Rattle.clr_journal.specs.Line.{Entry, archived_in, at_key, bare_receipt_in, carried, carried_in, command_at, done, if_withdrawn, is_accepted, line_in, read_line, receipt_in, updated_in, withdrawn, withdrawn_in}
 use Rattle.clr_journal.specs.declared.reading.Turn.{Turn}
 use Rattle.clr_verify.specs.Replay.{Answered, answered_in, due_answered}
 use Rattle.clr_verify.specs.Replies.{AreReplies}
@@ -63,7 +64,7 @@ each_map P Q next each (Some a) is = each a is
 
 carried_is_flat : (d : Data) → depth d ≤ 127 → IfSome (carried_in d) IsFlat
 carried_is_flat d within =
-    each_then IsFlat _ (λ receipt. each_then IsFlat _ (λ q. each_map (λ (reply : Data). depth reply ≤ 127) IsFlat (carried receipt q) (λ reply is. is) (get (codes "reply") d)
+    each_then IsFlat _ (λ receipt. each_then IsFlat _ (λ q. each_map (λ (reply : Data). depth reply ≤ 127) IsFlat (carried receipt (command q)) (λ reply is. is) (get (codes "reply") d)
     (at_key_is_flat (codes "reply") d 127 within)) (command_at d)) (receipt_in d)
 
 withdrawn_is_flat : (d : Data) → IfSome (withdrawn_in d) IsFlat
@@ -77,12 +78,25 @@ withdrawn_is_flat d = each_then IsFlat (λ is. if_withdrawn is d) by (at_key as_
         numbered (Some n) = tt
     by false = tt
 
+each_made : {A : Type 0} (next : A → Entry) → ((a : A) → IsFlat (next a)) → (o : Option A) → IfSome (option_map next o) IsFlat
+each_made next each None = tt
+each_made next each (Some a) = each a
+
+updated_is_flat : (d : Data) → IfSome (updated_in d) IsFlat
+updated_is_flat d = each_then IsFlat _ (λ receipt. each_made (λ of. carried receipt (update of) done) (λ of. omega arith) (at_key changes_in (codes "updated") d)) (bare_receipt_in d)
+
+archived_is_flat : (d : Data) → IfSome (archived_in d) IsFlat
+archived_is_flat d = each_then IsFlat _ (λ receipt. each_made (λ before. carried receipt (archive before) done) (λ before. omega arith) (at_key (at_key moment_in (codes "before")) (codes "archived") d))
+    (bare_receipt_in d)
+
 line_is_flat : (d : Data) → depth d ≤ 127 → IfSome (line_in d) IsFlat
-line_is_flat d within = by (is_some (get (codes "withdrawn") d))
+line_is_flat d within = by (is_some (get (codes "withdrawn") d)) (is_some (get (codes "updated") d)) (is_some (get (codes "archived") d))
   where
-    by : (b : Bool) → IfSome (if b then withdrawn_in d else carried_in d) IsFlat
-    by true = withdrawn_is_flat d
-    by false = carried_is_flat d within
+    by : (a b c : Bool) → IfSome (if a then withdrawn_in d else if b then updated_in d else if c then archived_in d else carried_in d) IsFlat
+    by true b c = withdrawn_is_flat d
+    by false true c = updated_is_flat d
+    by false false true = archived_is_flat d
+    by false false false = carried_is_flat d within
 
 value_is_flat : (text : List ℕ) (d : Data) → value_of text ≡ Some d → depth d ≤ 127
 unfolding value_of
@@ -134,7 +148,7 @@ answered_are_flat (carried receipt q reply ∷ rest) flat = by (is_accepted repl
   where
     by : (b : Bool) → depth reply ≤ 127 → Each (λ (line : Answered). depth line.reply ≤ 127) (answered_in rest)
         → Each (λ (line : Answered). depth line.reply ≤ 127)
-        (onto_some (if b then Some (record { number = receipt.number; command = q; reply = reply }) else None) (answered_in rest))
+        (onto_some (if b then Some (record { number = receipt.number; deed = q; reply = reply }) else None) (answered_in rest))
     by true here more = (here, more)
     by false here more = more
 
@@ -145,14 +159,14 @@ each_read bytes entries is =
 pub read_are_flat : (bytes : List ℕ) (entries : List Entry) → read_journal bytes ≡ Ok entries → All (λ (line : Answered). depth line.reply ≤ 127) (answered_in entries)
 read_are_flat bytes entries is = as_all _ (answered_in entries) (each_read bytes entries is)
 
-each_exact : (lines : List Answered) (replies : List Reply) → Each (λ (line : Answered). depth line.reply ≤ 127) lines → AreReplies (map due_answered lines) replies
-    → map (λ (line : Answered). line.reply) lines ≡ map reply_data replies
+each_exact : (lines : List Answered) (replies : List Data) → Each (λ (line : Answered). depth line.reply ≤ 127) lines → AreReplies (map due_answered lines) replies
+    → map (λ (line : Answered). line.reply) lines ≡ replies
 each_exact [] [] flat are = refl
 each_exact [] (reply ∷ replies) flat are = absurd are
 each_exact (line ∷ lines) [] flat are = absurd are
 each_exact (line ∷ lines) (reply ∷ replies) flat are =
     ap₂ (λ (d : Data) (ds : List Data). d ∷ ds) (are.0 flat.0) (each_exact lines replies flat.1 are.1)
 
-pub exact : (bytes : List ℕ) (entries : List Entry) (replies : List Reply) → read_journal bytes ≡ Ok entries → AreReplies (map due_answered (answered_in entries)) replies
-    → map (λ (line : Answered). line.reply) (answered_in entries) ≡ map reply_data replies
+pub exact : (bytes : List ℕ) (entries : List Entry) (replies : List Data) → read_journal bytes ≡ Ok entries → AreReplies (map due_answered (answered_in entries)) replies
+    → map (λ (line : Answered). line.reply) (answered_in entries) ≡ replies
 exact bytes entries replies is are = each_exact (answered_in entries) replies (each_read bytes entries is) are

@@ -1,11 +1,9 @@
 -- LAWS: a difference that is named is one, and replies that are those of lines are exactly those.
 use Rattle.std.specs.Prelude.{◌≡◌, ◌≢◌, ◌≤◌, ℕ, All, List, Ok, Some, map}
-use Rattle.serde_json.specs.Data.{depth}
+use Rattle.serde_json.specs.Data.{Data, depth}
 use Rattle.clr_rules.specs.Register.{Register}
-use Rattle.clr_rules.specs.declared.reply.Reply.{Reply}
 use Rattle.clr_tables.specs.TableLaws.{IsToldByTables}
 use Rattle.clr_tables.specs.Tables.{tables_of}
-use Rattle.clr_text.specs.Replies.{reply_data}
 use Rattle.clr_journal.specs.Journals.{read_journal}
 use Rattle.clr_journal.specs.Line.{Entry}
 use Rattle.clr_verify.specs.Registers.{IsFirstDifference}
@@ -26,7 +24,7 @@ NestsNoDeeper = (bytes : List ℕ) (entries : List Entry) → read_journal bytes
 
 -- SO THE REPLIES ARE EXACTLY THOSE OF THE LINES, where they are compared with lines that were read
 abbrev pub RepliesAreExact : Type 0
-RepliesAreExact = (bytes : List ℕ) (entries : List Entry) (replies : List Reply)
+RepliesAreExact = (bytes : List ℕ) (entries : List Entry) (replies : List Data)
     → read_journal bytes ≡ Ok entries
     → AreReplies (map due_answered (answered_in entries)) replies
-    → map (λ line. line.reply) (answered_in entries) ≡ map reply_data replies
+    → map (λ line. line.reply) (answered_in entries) ≡ replies

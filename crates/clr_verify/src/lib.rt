@@ -11,5 +11,5 @@ mod table_row;
 pub use difference::first_difference;
 pub use registers::{Difference, compare};
 pub use replay::after_line;
-pub use replies::is_reply;
+pub use replies::{is_done, is_not_done, is_reply};
 pub use table_row::{PointNow, TableRow};

@@ -236,7 +236,7 @@ pub fn verify<'a>(alloc: Global) -> Result<Command<'a>, AllocError>
     .end()
 }
 
-/// `update DB SECTIONS POINTS STAFF [--dry-run] [--without JUMPER]...`
+/// `update DB SECTIONS POINTS STAFF [--journal FILE] [--dry-run] [--without JUMPER]...`
 pub fn update<'a>(alloc: Global) -> Result<Command<'a>, AllocError>
     ensures { IfOk result (λ c. app_of c ≡ update) }
 {
@@ -249,6 +249,7 @@ pub fn update<'a>(alloc: Global) -> Result<Command<'a>, AllocError>
     .arg(required(alloc, "SECTIONS", "The file of sections"))
     .arg(required(alloc, "POINTS", "The file of switching points"))
     .arg(required(alloc, "STAFF", "The file of the staff"))
+    .arg(option(alloc, "journal", "FILE", "The journal of the register"))
     .arg(flag(
         alloc,
         "dry-run",
@@ -263,7 +264,7 @@ pub fn update<'a>(alloc: Global) -> Result<Command<'a>, AllocError>
     .end()
 }
 
-/// `archive DB --before MOMENT`
+/// `archive DB [--journal FILE] --before MOMENT`
 pub fn archive<'a>(alloc: Global) -> Result<Command<'a>, AllocError>
     ensures { IfOk result (λ c. app_of c ≡ archive) }
 {
@@ -273,6 +274,7 @@ pub fn archive<'a>(alloc: Global) -> Result<Command<'a>, AllocError>
         "Prints the steps of records that were closed before a moment, then removes them",
     )
     .arg(required(alloc, "DB", "The database of the register"))
+    .arg(option(alloc, "journal", "FILE", "The journal of the register"))
     .arg(moment_before(alloc))
     .end()
 }

@@ -1,16 +1,18 @@
+use Rattle.std.proofs.Common.{IfErr, subst, sym}
 use Rattle.sqlite.specs.Held.{state}
-use Rattle.clr_edge.proofs.Databases.{IsOfLine-of_command}
-use Rattle.clr_commands.proofs.Taken.{of_err, of_ok, taken_by}
+use Rattle.clr_desk.specs.Faults.{FailsAsStore}
+use Rattle.clr_edge.specs.Visit.{Done}
+use Rattle.clr_commands.specs.Archive.{TakesOut}
+use Rattle.clr_commands.specs.Faults.{IsOfDesk}
+use Rattle.clr_commands.proofs.Taken.{done_of-fault, taken_by}
 use Rattle.clr_commands.proofs.archive.take_out.Goals as goal
 
-pub returns-in-Ok-clause-taken : goal.returns-in-Ok-clause-taken
-returns-in-Ok-clause-taken g c =
-    let e = c.archive-done.ensures in
-    taken_by g.S.Store c.args.before c.args.desk.book.register c.args.desk.store c.archive-done.result.1 c.archive-done.result.0 _
-    (of_ok c.archive-done.result.0 _ c.in-Ok.is) (λ P holds. tt) e.archived e.saved e.none e.crash
+pub returns-clause-taken : goal.returns-clause-taken
+returns-clause-taken g c =
+    let e = c.archive-came.ensures in
+    subst (λ (told : Done). TakesOut (state g.S.Store) c.args.before c.args.desk.book.register told c.args.desk.store c.archive-came.result.1) (sym c.done_of.ensures)
+    (taken_by (state g.S.Store) c.args.before c.args.desk.book.register c.args.desk.store c.archive-came.result.1 c.archive-came.result.0 e.archived e.saved e.none e.crash)
 
-pub returns-in-Err-clause-taken : goal.returns-in-Err-clause-taken
-returns-in-Err-clause-taken g c =
-    let e = c.archive-done.ensures in
-    taken_by g.S.Store c.args.before c.args.desk.book.register c.args.desk.store c.archive-done.result.1 c.archive-done.result.0 _
-    (λ P holds. tt) (of_err c.archive-done.result.0 _ c.in-Err.is) e.archived e.saved e.none e.crash
+pub returns-clause-fault : goal.returns-clause-fault
+returns-clause-fault g c =
+    subst (λ (told : Done). IfErr told (IsOfDesk FailsAsStore)) (sym c.done_of.ensures) (done_of-fault FailsAsStore c.archive-came.result.0 c.archive-came.ensures.cause)

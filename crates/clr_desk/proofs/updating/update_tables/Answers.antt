@@ -1,7 +1,6 @@
-use Rattle.std.proofs.Common.{◌≡◌, ◌∙◌, ap, arith, inl, refl, subst, sym, None, Some, OnOk}
+use Rattle.std.proofs.Common.{◌∙◌, ap, arith, inl, refl, subst, sym}
 use Rattle.sqlite.proofs.StateLemmas.{survives_weaker}
 use Rattle.sqlite.specs.Held.{state}
-use Rattle.clr_changes.specs.Lines.{change_lines}
 use Rattle.clr_changes.specs.Outcome.{IsOutcome}
 use Rattle.clr_changes.specs.Shown.{as_update}
 use Rattle.clr_changes.specs.declared.outcome.Outcome.{Outcome}

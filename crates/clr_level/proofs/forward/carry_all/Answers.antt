@@ -1,9 +1,9 @@
 use Rattle.std.proofs.Common.{[], ◌++◌, ◌∷◌, map, reverse, rules}
-use Rattle.clr_desk.proofs.Givings.{leads_on}
 use Rattle.clr_journal.specs.Line.{entry_of}
 use Rattle.clr_level.proofs.Forwarding.{at_its_end, at_last, at_line, goes_on, in_lines, none_yet, of_more, on_ok, one_before, one_of_all, stops_on}
 use Rattle.clr_level.specs.Crash.{KeepsTables}
 use Rattle.clr_level.proofs.Fronts.{keeps_tables, left_on}
+use Rattle.clr_level.proofs.Deeds.{goes_further, goes_keep}
 use Rattle.clr_level.proofs.Rolling.{rolls_by, rolls_on}
 use Rattle.clr_level.proofs.forward.carry_all.Goals as goal
 
@@ -53,14 +53,17 @@ loop-line-preserved g c =
       tables =
           keeps_tables g.K.Commit.kept c.args.desk l.forward.desk next.desk l.invariant.tables
           (on_ok c.line-came.result.0 c.in_default-came.field-0 (KeepsTables g.K.Commit.kept l.forward.desk next.desk) c.in_default-came.is c.line-came.ensures.tables)
-          l.invariant.led.keeps.good c.line-came.ensures.led.keeps.clean;
+          (goes_keep g.K.Commit.kept g.K.Commit.takes g.K.Commit.hears g.K.CommitAt.has_place c.args.desk l.forward.desk l.invariant.led).good
+          (goes_keep g.K.Commit.kept g.K.Commit.takes g.K.Commit.hears g.K.CommitAt.has_place l.forward.desk next.desk c.line-came.ensures.led).clean;
       crash =
           left_on g.K.Commit.kept g.K.CommitAt.has_place c.args.desk c.args.place (map entry_of c.args.lines.items) l.forward.desk next.desk l.forward.at
           l.forward.pending (entry_of c.in-Some.line ∷ rest) l.invariant.crash l.invariant.tables
           (at_line g.K.Commit.kept g.K.Commit.takes g.K.Commit.hears g.K.CommitAt.has_place c.args.desk c.args.place c.args.lines.items l.forward.desk
           l.forward.at l.forward.pending l.left.items c.pop.new.self.items c.in-Some.line (search rules) l.invariant)
           (c.line-came.ensures.left rest);
-      led = leads_on g.K.Commit.kept g.K.Commit.takes g.K.Commit.hears c.args.desk l.forward.desk next.desk l.invariant.led c.line-came.ensures.led;
+      led =
+          goes_further g.K.Commit.kept g.K.Commit.takes g.K.Commit.hears g.K.CommitAt.has_place c.args.desk l.forward.desk next.desk l.invariant.led
+          c.line-came.ensures.led;
       before = l.invariant.before ++ c.in-Some.line ∷ [];
       all =
           one_before g.K.Commit.kept g.K.Commit.takes g.K.Commit.hears g.K.CommitAt.has_place c.args.desk c.args.place c.args.lines.items l.forward.desk

@@ -1,5 +1,5 @@
 use Rattle.std.proofs.Common.{map, refl, rules}
-use Rattle.clr_rules.specs.Run.{after}
+use Rattle.clr_deeds.specs.Deeds.{after_deed, deed_of}
 use Rattle.clr_journal.specs.Line.{entry_of}
 use Rattle.clr_level.proofs.Tried.{differs_at, tried_all, tried_none, tried_one}
 use Rattle.clr_level.proofs.trying.first_differing.Goals as goal
@@ -16,8 +16,8 @@ returns-then-branch c = λ good shallow.
     let lines = map entry_of c.args.lines.now in
     let rest = map entry_of c.in-Some.rest.now in
     let one = c.in-Some.one.now in
-    tried_all R (after R one.command) lines rest
-    (tried_one R R (after R one.command) lines lines rest one c.in_ok-is_answer-in-None-next_due.field-0 (search rules) shallow (tried_none R lines)
+    tried_all R (after_deed R (deed_of one.deed)) lines rest
+    (tried_one R R (after_deed R (deed_of one.deed)) lines lines rest one c.in_ok-is_answer-in-None-next_due.field-0 (search rules) shallow (tried_none R lines)
     c.in-Some.ensures.next (c.in_ok-is_answer-in-None-next_due.ensures good) refl)
     c.in-None-next_due.ensures.none
 

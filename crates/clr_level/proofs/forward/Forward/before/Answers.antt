@@ -1,9 +1,9 @@
 use Rattle.std.proofs.Common.{◌∷◌}
-use Rattle.clr_desk.proofs.Givings.{leads_itself}
 use Rattle.clr_journal.specs.Line.{entry_of}
 use Rattle.clr_level.specs.Crash.{AreFurther}
 use Rattle.clr_level.proofs.Crashes.{left_itself}
 use Rattle.clr_level.proofs.Forwarding.{carried_kept, went_closed}
+use Rattle.clr_level.proofs.Deeds.{goes_itself}
 use Rattle.clr_level.proofs.Fronts.{keeps_itself}
 use Rattle.clr_level.proofs.forward.Forward.before.Goals as goal
 
@@ -15,7 +15,7 @@ returns-in-Carried-clause-went g c = λ R place lines rest good answered come.
     (c.close.ensures.went R place lines left good answered (carried_kept c.args.line.now _ rest c.in-Carried.is) come)
 
 pub returns-in-Withdrawn-clause-led : goal.returns-in-Withdrawn-clause-led
-returns-in-Withdrawn-clause-led g c = leads_itself g.K.Commit.kept g.K.Commit.takes g.K.Commit.hears c.args.self.desk
+returns-in-Withdrawn-clause-led g c = goes_itself g.K.Commit.kept g.K.Commit.takes g.K.Commit.hears g.K.CommitAt.has_place c.args.self.desk
 
 pub returns-in-Carried-clause-left : goal.returns-in-Carried-clause-left
 returns-in-Carried-clause-left g c = λ rest.

@@ -1,16 +1,16 @@
 use Rattle.std.proofs.Common.{Option, subst, sym}
 use Rattle.sqlite.specs.State.{Survives}
-use Rattle.clr_desk.proofs.Givings.{leads_itself}
 use Rattle.clr_journal.specs.declared.line.Carried.{Carried}
 use Rattle.clr_level.specs.Crash.{AreFurther}
 use Rattle.clr_level.specs.Forward.{HasCome}
 use Rattle.clr_level.proofs.Crashes.{left_itself}
 use Rattle.clr_level.proofs.Forwarding.{went_on}
+use Rattle.clr_level.proofs.Deeds.{goes_itself}
 use Rattle.clr_level.proofs.Fronts.{keeps_itself}
 use Rattle.clr_level.proofs.forward.Forward.close.Goals as goal
 
 pub returns-in-None-clause-led : goal.returns-in-None-clause-led
-returns-in-None-clause-led g c = leads_itself g.K.Commit.kept g.K.Commit.takes g.K.Commit.hears c.args.self.desk
+returns-in-None-clause-led g c = goes_itself g.K.Commit.kept g.K.Commit.takes g.K.Commit.hears g.K.CommitAt.has_place c.args.self.desk
 
 pub returns-in-Some-clause-went : goal.returns-in-Some-clause-went
 returns-in-Some-clause-went g c = λ R place lines rest good answered kept come.
