@@ -24,7 +24,7 @@ STANDINS = {
                  'echo "$1" > ask.new; mv ask.new ask; for _ in $(seq 600); do [ -e ask ] || exit 0; sleep 0.05; done; exit 1',
 }
 # The package's programs, which run here as the caller, over the folder in which the lines run.
-PROGRAMS = ("gridclear-setup", "serve", "finish", "verify", "forward", "log", "follow")
+PROGRAMS = ("gridclear-setup", "serve", "finish", "verify", "forward", "log", "follow", "backup")
 USERS = f"printf '{LOGIN[0]}:%s\\n' \"$(openssl passwd -6)\" > /etc/gridclear/users\n"
 
 
@@ -90,6 +90,7 @@ class Place:
         for name, beside in (("normal.csv", "normal.csv"), ("journal", "journal"), ("beside", ".")):
             (self.srv / "desk" / "files" / name).symlink_to(self.own / beside)
         (self.etc / "network").mkdir()
+        (self.folder / "backups" / "register").mkdir(parents=True)
         for file in files:
             shutil.copy(file, self.etc / "network")
         self.bin, self.lib = self.folder / "bin", self.folder / "lib"
@@ -117,6 +118,7 @@ class Place:
                             ("/usr/share/gridclear/", f"{self.srv}/desk/"), ("/var/log/gridclear/", f"{self.srv}/desk/run/"),
                             ("127.0.0.1:8080", f"127.0.0.1:{self.register_port}"), ("127.0.0.1:8090", f"127.0.0.1:{self.page}"),
                             ("listen 443", f"listen 127.0.0.1:{self.tls}"), ("/usr/bin/gridclear", GRIDCLEAR), ("/usr/lib/gridclear", self.lib), ("/etc/gridclear", self.etc),
+                            ("/var/backups/gridclear", self.folder / "backups"),
                             ("openssl passwd -6", f"openssl passwd -6{password}")):
             text = text.replace(there, str(here))
         return text

@@ -131,22 +131,22 @@ class Bench:
         return self.run(folder, [*OPENED, "--journal", journal]) == Ended(0, "", "")
 
 
-def to_archive(bench, shift):
+def to_archive(bench, shift, journal=()):
     """The words of an archive of all that is closed, and a folder with the register after the whole shift."""
-    folder = bench.new(shift.opening)
-    bench.run(folder, ["run", "--db", "room.db"], shift.lines)
-    return ["archive", "room.db", "--before", "4102444799"], folder
+    folder = bench.new(shift.begun(journal))
+    bench.run(folder, ["run", "--db", "room.db", *journal], shift.lines)
+    return ["archive", "room.db", *journal, "--before", "4102444799"], folder
 
 
-def to_update(bench, shift):
+def to_update(bench, shift, journal=()):
     """The words of an update that lets an employee and a section come, and a folder with the register in a shift."""
-    folder = bench.new(shift.opening)
-    bench.run(folder, ["run", "--db", "room.db"], shift.lines[:10])
+    folder = bench.new(shift.begun(journal))
+    bench.run(folder, ["run", "--db", "room.db", *journal], shift.lines[:10])
     files = [os.path.join(bench.folder, f"coming-{name}.csv") for name in ("sections", "points", "staff")]
     for path, old, row in zip(files, FILES, ("L9,no\n", "", "ADA,charge,\n")):
         with open(old, encoding="ascii") as file, open(path, "w", encoding="ascii") as new:
             new.write(file.read() + row)
-    return ["update", "room.db", *files], folder
+    return ["update", "room.db", *files, *journal], folder
 
 
 def whole_lines(folder, name="journal"):

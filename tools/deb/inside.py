@@ -282,13 +282,17 @@ def update(root, tally):
     tally.check("nobody speaks as who is gone", root.run("gridclear-setup --logins")[1] == "DAY: KIM\n", root.run("gridclear-setup --logins"))
     normal = root.path(f"{DATA}/normal.csv").read_text()
     tally.check("normal positions stay, and the new point has its own", "S1,G,L1,yes,no,closed\n" in normal and "S5,L1,L4,yes,no,open\n" in normal, normal)
+    status, out = root.run("gridclear-setup --login DAY KIM ADA; systemctl restart gridclear", "a word\n")
+    tally.check("the new employee has a login", status == 0 and root.run("gridclear-setup --logins")[1] == "DAY: KIM ADA\n", out)
+    lines = root.path(f"{DATA}/journal").read_text()
+    tally.check("the update is a line of the journal", lines.count('"updated":') == 1 and not list(root.path(DATA).glob("before-*")), lines[-2000:])
     status, out = root.run(f"systemctl stop gridclear; cd /{DATA} && runuser -u gridclear -- /usr/lib/gridclear/verify; s=$?; systemctl start gridclear; exit $s")
-    tally.check("verify goes from the copy", status == 0 and "verified " in out, out)
+    tally.check("verify goes through it, from the three files on", status == 0 and "verified " in out and "from began.db" not in out, out)
     status, out = root.run("rm -f /run/gridclear-backup.out; sleep 1; systemctl start gridclear-backup; s=$?; cat /run/gridclear-backup.out; exit $s")
     tally.check("so does a backup", status == 0 and "verified " in out and "made from the journal" not in out, out)
-    aside = list(root.path(DATA).glob("before-*"))
-    status, out = root.run(f"cd /{DATA}/{aside[0].name if aside else '.'} && runuser -u gridclear -- /usr/lib/gridclear/verify")
-    tally.check("the register from before is whole, with its journal", len(aside) == 1 and status == 0 and "verified " in out, out)
+    status, out = root.run("gridclear-setup --update")
+    tally.check("given again it changes nothing", status == 0 and root.path(f"{DATA}/journal").read_text().count('"updated":') == 1, out)
+    archived(root, tally)
     for name, text in was.items():
         (network / f"{name}.csv").write_text(text)
     status, out = root.run("gridclear-setup --update")
@@ -297,10 +301,28 @@ def update(root, tally):
     (network / "sections.csv").write_text(was["sections"] + "L4,no\n")
     (network / "points.csv").write_text(was["points"] + "S5,L1,L4,yes,no,open\n")
     status, out = root.run("gridclear-setup --update")
-    tally.check("once more, over the second journal", status == 0 and "employee EVE comes" in out, out)
+    tally.check("once more", status == 0 and "employee EVE comes" in out, out)
     for name, text in was.items():
         (network / f"{name}.csv").write_text(text)
     root.run("rm -f /etc/gridclear/users /etc/gridclear/logins.csv; systemctl restart gridclear gridclear-desk")
+
+
+def archived(root, tally):
+    """The steps of closed records go into a file, after a backup; the journal has a line for it."""
+    board = root.run("curl -s http://127.0.0.1:8080/board")[1]
+    for days, found in (("4000000", "no record with steps"), ("x", "is no number")):
+        status, out = root.run(f"sed -i s/^ARCHIVE_DAYS=.*/ARCHIVE_DAYS={days}/ /{ETC}/gridclear.conf; gridclear-setup --archive")
+        tally.check(f"after {days} days", (status == 0) == (days != "x") and found in out, out)
+    root.run(f"sed -i s/^ARCHIVE_DAYS=.*/ARCHIVE_DAYS=0/ /{ETC}/gridclear.conf")
+    copies = len(list(root.path(BACKUPS).iterdir()))
+    status, out = root.run("sleep 1; gridclear-setup --archive")
+    files = list(root.path("var/backups/gridclear/archived").glob("*.jsonl"))
+    tally.check("an archive, after a backup", status == 0 and len(files) <= 1 and len(list(root.path(BACKUPS).iterdir())) == copies + 1, f"{out} {files}")
+    tally.check("it is a line of the journal", root.path(f"{DATA}/journal").read_text().count('"archived":') == 2)
+    tally.check("the register is served again, as before", root.run("sleep 1; curl -s http://127.0.0.1:8080/board")[1] == board, board)
+    status, out = root.run(f"systemctl stop gridclear; cd /{DATA} && runuser -u gridclear -- /usr/lib/gridclear/verify; s=$?; systemctl start gridclear; exit $s")
+    tally.check("verify goes through it", status == 0 and "verified " in out, out)
+    root.run(f"sed -i s/^ARCHIVE_DAYS=.*/ARCHIVE_DAYS=400/ /{ETC}/gridclear.conf")
 
 
 def port_443(root, tally):

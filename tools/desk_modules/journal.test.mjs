@@ -4,7 +4,9 @@ import assert from "node:assert/strict";
 import test from "node:test";
 
 import { ageWords } from "../../desk/page/board/ages.js";
+import { lacking, noteLacking } from "../../desk/page/log/board-lacks.js";
 import { earlier, hasEarlier, isWhole, journal, newest } from "../../desk/page/log/journal.js";
+import { logRows, replyWords, whoWords } from "../../desk/page/log/log-words.js";
 import { isBegun, readBackTo } from "../../desk/page/log/reading-back.js";
 
 const files = new Map(); // path: text, as a proxy serves it
@@ -65,6 +67,29 @@ test("another register's journal is read from its end, and back as far as a reco
   assert.equal(journal.entries.find(({ number }) => number === 8).withdrawn, true);
   await earlier();
   assert.deepEqual([numbers(), isWhole(), hasEarlier()], [upTo(10), true, false]);
+});
+
+test("an update and an archive are entries, between commands and as the last lines of a part", async () => {
+  const none = { come: [], go: [] }, updated = { points: none, sections: { come: [{ name: "X9", source: false }], go: [] }, staff: { come: [{ name: "KIM" }], go: [{ name: "KIM" }, { name: "DALE" }] } };
+  const changed = (number, what) => `${JSON.stringify({ ...what, number, received: 7000, sum: sum(number, 6000) })}\n`;
+  files.clear();
+  files.set("journal", first(0, 6000) + changed(1, { updated }) + line(2, 6000));
+  await newest();
+  assert.deepEqual([numbers(), isWhole()], [upTo(2), true]);
+  files.set("journal", files.get("journal") + changed(3, { archived: { before: 6000 } }) + line(4, 6000) + changed(5, { updated: { points: none, sections: none, staff: none } }));
+  await newest();
+  assert.deepEqual([numbers(), isWhole(), journal.last.number], [upTo(5), true, 5]);
+  noteLacking();
+  noteLacking();
+  assert.equal(lacking.entry, null);
+  files.set("journals/journal-2026-01-01T000000Z", files.get("journal"));
+  files.set("journal", first(5, 6000) + line(6, 6000));
+  await newest();
+  assert.deepEqual([numbers(), isWhole()], [upTo(6), true]);
+  const rows = logRows();
+  assert.deepEqual([rows[0].what, rows[4].what], ["update: section X9 comes, employee KIM changes, employee DALE goes", "update: nothing changes"]);
+  assert.match(rows[2].what, /^archive of what was closed before /);
+  assert.deepEqual([rows[0].id, rows[0].at, whoWords(rows[0].entry), replyWords(rows[0].entry)], [null, 7000, "–", "accepted"]);
 });
 
 test("a part that is gone", async () => {

@@ -6,7 +6,8 @@
 What goes out and the rows that are left are together the rows from before. Each Closed record whose last
 moment is before the one that is named has a line with its steps, and these steps alone are gone. Random
 commands after it, and more archives among them, are answered as in a copy that was never archived, but for a
-view of a record that gave up its steps. Where standard output is full, closed or unread, no row goes.
+view of a record that gave up its steps. Where standard output is full, closed or unread, no row goes. With a journal an
+archive is one line of it; a copy from before is carried on by that line, and verify says yes of all.
 A line counts what was tried. GRIDCLEAR names another program than tools/gridclear."""
 
 import collections
@@ -22,7 +23,7 @@ import tempfile
 import threading
 
 from looks import FILES, GRIDCLEAR, TOP, Server, copied, look, main, run, same
-from random_registers import BEGIN, Moves, Step, Tables, made, text_of
+from random_registers import BEGIN, Logged, Moves, Step, Tables, commands_follow, made, text_of
 
 COUNT = 2_000 if "--full" in sys.argv[1:] else int((sys.argv[1:] or ["60"])[0])
 SEED = int((sys.argv[2:] or ["20261128"])[0])
@@ -167,6 +168,47 @@ def archives(_):
     look(tried, not counts["differ"] and counts["some"], f"{counts['differ']} differ")
 
 
+def look_at_logged(logged, before):
+    """One archive of a register with a journal. Returns how many records gave up their steps."""
+    tables, lines = Tables(logged.path), logged.lines()
+    gone, held = past(tables, before), copied(logged.path, logged.path.with_name("held.db"))
+    found = run("archive", logged.path, "--before", before, "--journal", logged.journal)
+    wanted = "".join(line_of(tables, name) for name in gone)
+    expect(found == (0, wanted, ""), f"before {before}: {found}, to print {wanted!r}")
+    more = [json.loads(line) for line in logged.more(lines)]
+    expect([list(line) for line in more] == [["archived", "number", "received", "sum"]], f"its lines: {more}")
+    expect(more[0]["archived"] == {"before": before}, f"its line: {more}")
+    left = {key: step for key, step in tables.steps.items() if key[:2] not in gone}
+    for path in (logged.path, logged.carried_on(held)):
+        after = Tables(path)
+        expect(after.steps == left and without_steps(after) == without_steps(tables), f"{path.name} has other rows")
+    return len(gone)
+
+
+def years_logged(seed):
+    """Archives of a register with a journal and the commands between them."""
+    chance, outcomes = random.Random(seed), []
+    with tempfile.TemporaryDirectory(prefix="archives-") as place:
+        path, _, at = made(pathlib.Path(place), chance)
+        try:
+            logged = Logged(path)
+            for _ in range(EACH):
+                outcomes.append(look_at_logged(logged, moment(Tables(path), chance)))
+                at = commands_follow(path, chance, at, logged.journal)
+                expect(logged.verified(), f"verify: {logged.verify()}")
+        except Differs as found:
+            look("an archive with a journal", False, f"register {seed}, archive {len(outcomes)}: {found}")
+            outcomes.append(None)
+    return outcomes
+
+
+def logged(_):
+    with concurrent.futures.ThreadPoolExecutor(os.cpu_count()) as pool:
+        found = [one for outcomes in pool.map(years_logged, range(SEED, SEED + -(-COUNT // 4))) for one in outcomes]
+    tried = f"{len(found)} archives with a journal, of {sum(one or 0 for one in found)} records"
+    look(tried, None not in found and any(found), f"{found.count(None)} differ")
+
+
 def large(folder):
     """A register of which an archive is longer than a pipe holds."""
     words = [str(TOP / "bench" / "shift"), str(LARGE), "40", "1", "20", str(folder)]
@@ -254,4 +296,4 @@ def refused(folder):
 
 if os.access("/dev/shm", os.W_OK):
     tempfile.tempdir = "/dev/shm"  # a disk would sync each command twice
-main(archives, outputs, refused)
+main(archives, logged, outputs, refused)

@@ -602,6 +602,8 @@ def refused(folder):
             option = ["--journal", named] if named else []
             same(f"serve, {title}", run("serve", database, "--port", 18081, "--count", 1, *option), (1, "", wanted))
             same(f"run, {title}", run("run", "--db", database, *option, lines=[shift(3)[2]]), (1, "", wanted))
+            same(f"update, {title}", run("update", database, *FILES, *option), (1, "", wanted))
+            same(f"archive, {title}", run("archive", database, "--before", 1, *option), (1, "", wanted))
             same(f"{title}: the register is unchanged", database.read_bytes() == before, True)
             same(f"{title}: so is the journal", (named.read_bytes() if named and named.is_file() else None) == held_bytes, True)
             same(f"{title}: no file is made", sorted(one.name for one in folder.iterdir() if not one.name.endswith("-wal")), names)

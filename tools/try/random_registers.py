@@ -8,7 +8,7 @@ import contextlib
 import json
 import sqlite3
 
-from looks import look, run
+from looks import copied, look, run
 
 Point = collections.namedtuple("Point", "from_end, to_end, lockable, remote, position, hand, jumper")
 Employee = collections.namedtuple("Employee", "role, supervisor")
@@ -298,6 +298,40 @@ def made(folder, chance):
     for _ in range(chance.randint(3, 14)):
         at = commands_follow(path, chance, at)
     return path, files, at
+
+
+class Logged:
+    """A register that is given a journal, as it began with it, and what the journal has."""
+
+    def __init__(self, path):
+        self.path, self.journal, self.began = path, path.with_name("journal"), path.with_name("began.db")
+        status, _, errors = run("migrate", path, "--journal", self.journal)
+        if status:
+            look("a journal begins", False, errors)
+        copied(path, self.began)
+
+    def lines(self):
+        return self.journal.read_text(encoding="ascii").splitlines()
+
+    def more(self, before):
+        """The lines that came since; all, where those from before are not its first."""
+        lines = self.lines()
+        return lines[len(before):] if lines[: len(before)] == before else lines
+
+    def carried_on(self, copy):
+        """A copy of the register from before, which an opening carries on to the end of the journal."""
+        found = run("run", "--db", copy, "--journal", self.journal)
+        if found != (0, "", ""):
+            look("an opening carries a copy on", False, found)
+        return copy
+
+    def verify(self):
+        return run("verify", self.path, self.journal, "--from", self.began)
+
+    def verified(self):
+        """Whether `verify` says yes, of as many lines as the journal has."""
+        count = len(self.lines()) - 1
+        return self.verify() == (0, f"verified {count} commands\n", "")
 
 
 def commands_follow(path, chance, at, journal=None):

@@ -7,8 +7,9 @@ Of each update the reckoning says, by the rows alone, what is first in its way, 
 rows come of it. The program has to report the same, with --dry-run too, which changes no byte, and to leave
 the same rows. After an update that is accepted an opening finds the register good, and each clearance has
 its fence. The commands of what is open are answered as in a copy that was not updated, and each open record
-has a way back. Files that `init` refuses are refused with the same line. A line counts what was tried; of
-2,000 each obstacle has some. TRY_SECONDS, if it is set, is when the last register begins. GRIDCLEAR names another
+has a way back. Files that `init` refuses are refused with the same line. With a journal an accepted update is
+one line of it, and a refused one none; a copy from before is carried on by that line, and verify says yes of all. A line
+counts what was tried; of 2,000 each obstacle has some. TRY_SECONDS, if it is set, is when the last register begins. GRIDCLEAR names another
 program than tools/gridclear."""
 
 import hashlib
@@ -23,7 +24,7 @@ import tempfile
 
 from looks import GRIDCLEAR, Server, copied, look, main, outcomes_counted, run, same
 from random_registers import BEGIN, IN_FORCE, OPEN, OPEN_PHASES, YES, Employee, Files, Moves, Tables
-from random_registers import commands_follow, made, random_files, reached, text_of
+from random_registers import Logged, commands_follow, made, random_files, reached, text_of
 from random_updates import Chosen
 
 COUNT = 10_000 if "--full" in sys.argv[1:] else int((sys.argv[1:] or ["300"])[0])
@@ -302,6 +303,54 @@ def updates(_):
     look("each obstacle came up", not missing or sum(counts.values()) < ENOUGH, missing)
 
 
+def try_logged(logged, chosen, folder):
+    """One update of a register with its journal. Returns the word."""
+    paths = chosen.files.written(folder / "files", chosen.chance)
+    reckoning = Reckoning(chosen.tables, chosen.files, chosen.without)
+    wanted, outcome = wanted_of(reckoning, paths)
+    words = ["update", logged.path, *chosen.words(paths), "--journal", logged.journal]
+    held, lines = copied(logged.path, logged.path.with_name("held.db")), logged.lines()
+    found = run(*words, "--dry-run")
+    expect(found == wanted, f"--dry-run: {found}, to be {wanted}")
+    expect(logged.lines() == lines and vars(Tables(logged.path)) == vars(chosen.tables), "--dry-run writes")
+    found = run(*words)
+    expect(found == wanted, f"it reports {found}, to be {wanted}")
+    more, is_accepted = logged.more(lines), outcome == "accepted"
+    expect([list(json.loads(line)) for line in more] == [["number", "received", "sum", "updated"]] * is_accepted, f"its lines: {more}")
+    all_wanted = reckoning.tables_after() if is_accepted else vars(chosen.tables)
+    for path in (logged.path, logged.carried_on(held)):
+        after = vars(Tables(path))
+        for name, rows_wanted in all_wanted.items():
+            expect(after[name] == rows_wanted, f"{path.name}, {name}: {after[name]}, to be {rows_wanted}")
+    return outcome
+
+
+def years_logged(seed):
+    """The same over a register with a journal, which is verified at the end."""
+    chance, outcomes = random.Random(seed), []
+    with tempfile.TemporaryDirectory(prefix="updates-") as place:
+        folder = pathlib.Path(place)
+        path, files, at = made(folder, chance)
+        logged = Logged(path)
+        for number in range(EACH):
+            chosen = Chosen(Tables(path), files, chance)
+            try:
+                outcomes.append(try_logged(logged, chosen, folder))
+                if outcomes[-1] == "accepted":
+                    files = chosen.files
+                at = commands_follow(path, chance, at, logged.journal)
+                expect(logged.verified(), f"verify: {logged.verify()}")
+            except Differs as found:
+                return [*outcomes, f"differs: register {seed}, update {number}, {chosen.words([])}: {found}"]
+    return outcomes
+
+
+def logged(_):
+    counts, _ = outcomes_counted("an update with a journal", years_logged, range(SEED, SEED + -(-COUNT // (4 * EACH))))
+    tried = f"{sum(counts.values())} updates with a journal: accepted {counts['accepted']}"
+    look(tried, not counts["differs"] and counts["accepted"], f"{counts['differs']} differ")
+
+
 def too_large(folder):
     """As many sections as a network may have, and a jumper that leads to another; then one section less."""
     chance, path = random.Random(SEED), folder / "room.db"
@@ -330,6 +379,8 @@ def words_and_files(folder):
             ("--without nothing", (path, *paths, "--without", ""), "name Empty"),
             ("no file", (path, paths[0], none, paths[2]), "points ReadFailed"),
             ("the database as a file", (path, *paths[:2], path), "staff SameFile"),
+            ("the database as its journal", (path, *paths, "--journal", path), "journal SameFile"),
+            ("a journal that is not there", (path, *paths, "--journal", none), "journal OtherRegister"),
             ("no register", (none, *paths), "store Sql"),
             ("a database that is none", (text, *paths), "store Sql")):
         same(title, run("update", *words), (1, "", f"fault: {wanted}\n"))
@@ -357,4 +408,4 @@ def unread(folder):
 
 if os.access("/dev/shm", os.W_OK):
     tempfile.tempdir = "/dev/shm"  # a disk would sync each command twice
-main(updates, too_large, words_and_files, unread)
+main(updates, logged, too_large, words_and_files, unread)

@@ -11,6 +11,7 @@ let known = 0; // the number of the newest entry that was read when the board be
 // Whether a board that was read after this accepted entry, the newest, does not have it.
 export function isLacking({ command, reply: { card } }, { board, jumpers }) {
   if (command.do === "jumper") return !jumpers.some(({ point }) => point === command.point);
+  if (!card) return false; // an update or an archive
   const row = board.find(({ id }) => id === card.clearance);
   if (card.phase === "Closed") return row !== undefined;
   return row?.last !== command.at || row.phase !== card.phase || row.holder !== card.holder;

@@ -1,6 +1,7 @@
 // The register's journal, as the proxy serves it where this desk has one: read from its end backwards, a piece at a time, and
 // on through its parts. Each entry is a line of it: { command, login, number, received, reply, sum }, and `withdrawn` where a
-// later line says so. The first line of each part has the number and the sum of the line before it, and is no entry.
+// later line says so. An update and an archive are entries too, as commands of nobody that were accepted. The first line of
+// each part has the number and the sum of the line before it, and is no entry.
 
 import { bytesOf, NEWEST, partFiles } from "./journal-files.js";
 
@@ -17,20 +18,28 @@ let withdrawn = new Set();
 let turn = Promise.resolve();
 let missed = -AGAIN; // when it was not there
 
-function entryIn(line) {
+function lineIn(text) {
   try {
-    return JSON.parse(line);
+    return JSON.parse(text);
   } catch {
     return null; // a line that no register wrote
   }
 }
 
+// The entry that a line is, if it is one.
+function entryOf(line) {
+  const { updated, archived } = line;
+  if (updated) return { ...line, command: { do: "update", ...updated }, login: null, reply: { reply: "accepted" } };
+  if (archived) return { ...line, command: { do: "archive", ...archived }, login: null, reply: { reply: "accepted" } };
+  return line.command ? line : null;
+}
+
 // What whole lines say: their entries, the first line of a part where that is among them, the last of them, and whether one
 // does not read. A withdrawal is put to what it withdraws.
 function saidBy(bytes) {
-  const texts = new TextDecoder().decode(bytes).split("\n").filter(Boolean), lines = texts.map(entryIn).filter(Boolean);
+  const texts = new TextDecoder().decode(bytes).split("\n").filter(Boolean), lines = texts.map(lineIn).filter(Boolean);
   for (const { number } of lines.filter((one) => one.withdrawn)) withdrawn.add(number);
-  return { found: lines.filter((one) => one.command), head: lines.find((one) => one.journal) ?? null, last: lines.at(-1) ?? null, isTorn: lines.length < texts.length };
+  return { found: lines.map(entryOf).filter(Boolean), head: lines.find((one) => one.journal) ?? null, last: lines.at(-1) ?? null, isTorn: lines.length < texts.length };
 }
 
 function keep(entries) {

@@ -1,6 +1,6 @@
 // The journal as a log: what each entry says in words, with the texts of steps, and the story of a record.
 
-import { shortTime, span } from "../shared/moments.js";
+import { shortTime, span, wholeTime } from "../shared/moments.js";
 import { isLackedByBoard } from "./board-lacks.js";
 import { journal } from "./journal.js";
 
@@ -8,6 +8,16 @@ const LATE = 60; // seconds from the stated moment to that of the machine that a
 const numbered = ({ step }, text) => (text ? `${step} ${text}` : `${step}`);
 const points = (c) => c.points.map((point) => ` ${point}`).join("");
 const steps = (c) => c.steps.map((step) => `, ${step}`).join("");
+
+const KINDS = { sections: "section", points: "point", staff: "employee" };
+
+// The rows that an update changed, by name.
+function changedWords(changes) {
+  return Object.entries(KINDS).flatMap(([key, kind]) => {
+    const [come, go] = [changes[key].come, changes[key].go].map((rows) => rows.map(({ name }) => name));
+    return [...go.map((name) => `${kind} ${name} ${come.includes(name) ? "changes" : "goes"}`), ...come.filter((name) => !go.includes(name)).map((name) => `${kind} ${name} comes`)];
+  });
+}
 
 // What a command says: the words of `gridclear journal`.
 const WORDS = {
@@ -21,6 +31,7 @@ const WORDS = {
   sign_on: (c) => `sign on ${c.crew}`, sign_off: (c) => `sign off ${c.crew}`,
   transfer: (c) => `${c.emergency ? "emergency transfer" : "transfer"} to ${c.to}`,
   release: (c) => `release, ${c.notified ? "notified" : "not notified"}, ${c.clear ? "clear" : "not clear"}`,
+  update: (c) => `update: ${changedWords(c).join(", ") || "nothing changes"}`, archive: (c) => `archive of what was closed before ${wholeTime(c.before)}`,
   jumper: (c) => `jumper ${c.point} from ${c.from} to ${c.to}${c.lockable ? ", lockable" : ""}${c.remote ? ", remote" : ""}`,
 };
 
@@ -61,7 +72,7 @@ function rowsOf(entries) {
 
 // Who gave it, with the login where that is another.
 export function whoWords({ command, login }) {
-  return login && login !== command.by ? `${command.by} (login ${login})` : command.by;
+  return login && login !== command.by ? `${command.by} (login ${login})` : command.by ?? "–";
 }
 
 // An accepted entry that the board lacks is not carried out yet.
