@@ -330,7 +330,7 @@ class Logged:
 
     def verified(self):
         """Whether `verify` says yes, of as many as were carried out."""
-        done = ('"reply":"accepted"', '"updated":', '"archived":')
+        done = ('"reply":"accepted"', '"reply":"added"', '"updated":', '"archived":')
         count = sum(any(word in line for word in done) for line in self.lines())
         return self.verify() == (0, f"verified {count} commands\n", "")
 
