@@ -9,3 +9,4 @@ mod states;
 
 pub use book::Book;
 pub use book::rows::{all_rows, filled};
+pub use near::groups::rows_in;

@@ -1,6 +1,6 @@
 //! What a command looks at, found among the rows of the book.
 mod fence;
-mod groups;
+pub(crate) mod groups;
 mod named;
 mod network;
 mod points;

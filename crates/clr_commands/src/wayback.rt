@@ -34,19 +34,19 @@ pub fn wayback<R: Databases>(
 {
     let desk = open_desk(alloc, rt, args.database)?;
     let (book, store) = desk.parted();
-    let printed = wayback_of(alloc, book, args.clearance);
+    let printed = wayback_of(alloc, &book, args.clearance);
     let _closed = close(rt, store.end());
     printed
 }
 
-/// The way back of the clearance that a word names, in a good book, which is used up.
+/// The way back of the clearance that a word names, in a good book.
 ///
 /// `NoSuch` where the word names no clearance, or the book has no such clearance; `NoWay` where one
 /// of the commands would be refused. Of a book that is staffed too, that is only where a step of the
 /// clearance is given out and the staff has no field employee.
 pub fn wayback_of<P, C, T, H>(
     alloc: Global,
-    book: Book<P, C, T, H>,
+    book: &Book<P, C, T, H>,
     clearance: &str,
 ) -> Result<String, Fault>
 where
@@ -54,11 +54,11 @@ where
     C: Shelf<Record>,
     T: Shelf<StepRow>,
     H: Shelf<Hold>,
-    requires { IsGood book.register }
+    requires { IsGood book.now.register }
     ensures answer { GivesText IsMemory
-        (way_back_to book.register (read_id clearance.now)) result }
-    ensures back { IsStaffed book.register → Prints IsMemory (λ known.
-        GivesBackTo book.register (read_id clearance.now)) result }
+        (way_back_to book.now.register (read_id clearance.now)) result }
+    ensures back { IsStaffed book.now.register → Prints IsMemory (λ known.
+        GivesBackTo book.now.register (read_id clearance.now)) result }
     ensures faults { IfErr result IsOfWayBack }
 {
     let Ok(id) = ClearanceId::read(clearance) else {

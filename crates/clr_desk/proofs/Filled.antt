@@ -47,7 +47,7 @@ use Rattle.clr_rules.specs.declared.step_row.StepRow.{StepRow}
 use Rattle.clr_desk.specs.Shelving.{put_all, shelved}
 use Rattle.clr_tables.specs.RowsRead.{with_its_position}
 use Rattle.clr_tables.specs.Tables.{state_at}
-use Rattle.clr_desk.specs.Filling.{filling, hand_edit}
+use Rattle.clr_desk.specs.Filling.{filling, grid_now, hand_edit}
 use Rattle.clr_desk.specs.Opening.{OpensAgain, bad_network, bad_staff}
 
 abbrev first_or : {X : Type 0} → X → List X → X
@@ -55,7 +55,7 @@ first_or x [] = x
 first_or x (y ∷ ys) = y
 
 -- a point in nobody's hand
-abbrev unhanded : PointState → PointState
+abbrev pub unhanded : PointState → PointState
 unhanded state = record state { hand = None }
 
 -- ---- rows put one after the other, in the order of their keys, are those rows
@@ -130,7 +130,7 @@ first_set state rest ordered =
     ap (λ found. changed_state found (λ s. record s { hand = state.hand }) (unhanded state ∷ rest)) (found_first (unhanded state) rest tied)
     ∙ with_row-over name_cmp state_key nat_list_cmp_total state (unhanded state) rest ordered tied
 
-hands_are : (states : List PointState) → in_key_order name_cmp state_key states ≡ true → set_hands states (map unhanded states) ≡ states
+pub hands_are : (states : List PointState) → in_key_order name_cmp state_key states ≡ true → set_hands states (map unhanded states) ≡ states
 unfolding set_hands
 hands_are [] ordered = refl
 hands_are (state ∷ states) ordered =
@@ -218,9 +218,6 @@ firsts_are all (state ∷ states) (p ∷ points) same read =
     let here : state_at all p ≡ state = ap (λ found. unwrap_or found (first_state p)) (ap (state_of all) (sym name) ∙ read.0) in
     (λ i. record { point = sym name i; position = PointState.position (here i); hand = None } ∷ firsts_are all states points (ap (drop 1) same) read.1 i)
 
-abbrev grid_now : Register → Grid
-grid_now R = record { sections = Grid.sections R.net; points = map (with_its_position R.states) (Grid.points R.net) }
-
 placed_names : (all : List PointState) (points : List PointRow) → point_names (map (with_its_position all) points) ≡ point_names points
 placed_names all [] = refl
 placed_names all (p ∷ points) = ap (λ names. p.name ∷ names) (placed_names all points)
@@ -229,7 +226,7 @@ unplaced_placed : (all : List PointState) (points : List PointRow) → map unpla
 unplaced_placed all [] = refl
 unplaced_placed all (p ∷ points) = ap (λ l. unplaced p ∷ l) (unplaced_placed all points)
 
-opening_now : (R : Register) → IsGood R
+pub opening_now : (R : Register) → IsGood R
     → opening (grid_now R) R.staff ≡ record { net = R.net; staff = R.staff; states = map unhanded R.states; records = []; steps = []; holds = [] }
 opening_now R good =
     let all = R.states in
@@ -261,7 +258,7 @@ filled R good =
     })
 
 -- its network stays one
-now_is_network : (R : Register) → IsNetwork R.net → IsNetwork (grid_now R)
+pub now_is_network : (R : Register) → IsNetwork R.net → IsNetwork (grid_now R)
 now_is_network R net = record {
   some_section = net.some_section;
   sections_fit = net.sections_fit;
@@ -284,7 +281,7 @@ module _ {Row : Type 0} (name_of : Row → List ℕ) where
   in_order (row ∷ rows) rising =
       rw (all_above row rows (sorted_head name_cmp (name_of row) (map name_of rows) rising), in_order rows (sorted_tail name_cmp (name_of row) (map name_of rows) rising)) refl
 
-  one_list : (rows sorted : List Row) → IsPermutation rows sorted → IsStrictlySortedBy name_cmp (map name_of rows)
+  pub one_list : (rows sorted : List Row) → IsPermutation rows sorted → IsStrictlySortedBy name_cmp (map name_of rows)
       → IsStrictlySortedBy name_cmp (map name_of sorted) → sorted ≡ rows
   one_list rows sorted same rising rising_too =
       sym (same_from_permutation name_cmp name_of nat_list_cmp_total rows sorted (in_order rows rising) (in_order sorted rising_too) same)

@@ -68,8 +68,8 @@ where
     })
 }
 
-/// The rows of a shelf, in key order.
-fn copied<R: Row + Copy, S: Shelf<R>>(alloc: Global, shelf: &S) -> Result<Vec<R>, AllocError>
+/// Copies of the rows of a shelf, in key order.
+pub fn copied<R: Row + Copy, S: Shelf<R>>(alloc: Global, shelf: &S) -> Result<Vec<R>, AllocError>
     ensures { IfOk result (λ rows. rows.items ≡ S.rows shelf.now) }
 {
     let rows = all_rows(alloc, shelf)?;
@@ -109,7 +109,7 @@ fn filled<R: Row + Copy, F: Fill<R>>(alloc: Global, rows: &[&R]) -> Result<F, Al
 }
 
 /// Switching points of a book, each in its present position.
-fn points_now<P, C, T, H>(
+pub fn points_now<P, C, T, H>(
     alloc: Global,
     book: &Book<P, C, T, H>,
     points: &[PointRow],

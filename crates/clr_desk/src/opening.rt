@@ -42,7 +42,7 @@ pub(crate) type LoadedShelves = Loaded<
 >;
 
 /// The edits that put each point into the hand that it is in.
-pub(crate) fn hand_edits(alloc: Global, states: &[PointState]) -> Result<Vec<Edit>, AllocError>
+pub fn hand_edits(alloc: Global, states: &[PointState]) -> Result<Vec<Edit>, AllocError>
     ensures { IfOk result (λ edits. edits.items ≡ map hand_edit states.now) }
 {
     let hands = states.iter().map(|state| Edit::SetHand {

@@ -5,7 +5,7 @@ ghost use Rattle.clr_desk.proofs.Givings.{leads_itself, leads_on};
 ghost use Rattle.clr_http.specs.Desks.{DeskHears, DeskTakes};
 
 use crate::registrar::Registrar;
-use clr_desk::{Commit, Desk, copy_of};
+use clr_desk::{Commit, Desk};
 use clr_print::{print_board, print_order};
 use clr_rules::{ClearanceId, Command, Reply, Text};
 use clr_view::network_text;
@@ -60,9 +60,7 @@ impl<K: Commit> Registrar for Desk<K> {
         network_text(alloc, self.book())
     }
 
-    // The commands are tried in a copy, since they change it.
     fn way_back(&self, alloc: Global, id: &ClearanceId) -> Result<WayBack, AllocError> {
-        let book = copy_of(alloc, self.book())?;
-        way_back(alloc, book, id)
+        way_back(alloc, self.book(), id)
     }
 }

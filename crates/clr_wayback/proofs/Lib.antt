@@ -2,6 +2,9 @@ pub mod Callers
 pub mod Closing
 pub mod Found
 pub mod Hanging
+pub mod Lacking
+pub mod LackingMoves
 pub mod Moments
+pub mod OpenPart
 pub mod SentBack
 pub mod Walking

@@ -1,11 +1,10 @@
 -- A walk along the way back: the commands so far, and the register after them.
-use Rattle.std.proofs.Common.{◌≡◌, ◌∙◌, ◌++◌, ◌+◌, ◌-◌, ◌<◌, ◌&&◌, ℕ, Bool, true, false, List, [], ◌∷◌, Some, None, refl, ap, sym, suc, append_assoc, arith, zero}
+use Rattle.std.proofs.Common.{◌≡◌, ◌∙◌, ◌++◌, ◌+◌, ◌-◌, ◌<◌, ◌&&◌, ℕ, Bool, true, false, List, [], ◌∷◌, Some, None, refl, ap, sym, subst, suc, append_assoc, arith, zero}
 use Rattle.std.specs.List.{list_any}
 use Rattle.std.proofs.lemmas.List.{append-nil}
 use Rattle.clr_rules.proofs.edits.Runs.{runs_go_on}
 use Rattle.clr_rules.specs.Answer.{Answer, answer}
 use Rattle.clr_rules.specs.Checks.{employee}
-use Rattle.clr_rules.specs.Good.{IsGood}
 use Rattle.clr_rules.specs.Id.{Id}
 use Rattle.clr_rules.specs.Register.{Register}
 use Rattle.clr_rules.specs.Run.{after, after_all}
@@ -14,7 +13,10 @@ use Rattle.clr_rules.specs.declared.command.Command.{Command}
 use Rattle.clr_rules.specs.laws.WayBack.{is_accepted}
 use Rattle.clr_staff.specs.declared.employee.StaffRow.{StaffRow}
 use Rattle.clr_wayback.proofs.Callers.{by_nobody_refused, staff_goes_on}
+use Rattle.clr_rules.specs.Command.{named_clearance}
+use Rattle.clr_wayback.proofs.LackingMoves.{next_name, same_moves}
 use Rattle.clr_wayback.specs.Answer.{are_accepted, given, is_by_nobody, tried}
+use Rattle.clr_wayback.specs.Open.{AllNameAnother, LacksOnly, NamesAnother}
 
 -- somebody gives each command
 pub given_all : (commands given_ones : List Command) → Some given_ones ≡ given commands → (given_ones ≡ commands) × (list_any is_by_nobody commands ≡ false)
@@ -51,73 +53,121 @@ accepted-append R (q ∷ earlier) later =
     and-assoc true b c = refl
     and-assoc false b c = refl
 
--- k turns of n are walked: the register is good and the one after the commands so far, each of which
--- was accepted, and with those of the turns that are left they are all
-pub record Walked (R S : Register) (c : Id) (n k : ℕ) (commands : List Command) : Type 0 where
-  pub good : IsGood S
+-- k turns of n are walked: each of the commands so far was accepted, and with those of the turns
+-- that are left they are all; the book's register is the one after them, but for what is closed
+pub record Walked (gone : Id → Bool) (R S : Register) (c : Id) (n k : ℕ) (commands : List Command) : Type 0 where
+  pub lacks : LacksOnly gone (after_all R commands) S
   pub accepted : are_accepted R commands ≡ true
-  pub now : S ≡ after_all R commands
-  pub all : commands ++ turns (n - k) S c ≡ turns n R c
+  pub all : commands ++ turns (n - k) (after_all R commands) c ≡ turns n R c
 
-pub walk_begins : (R : Register) (c : Id) (n : ℕ) → IsGood R → Walked R R c n 0 []
+pub walk_begins : (gone : Id → Bool) (R S : Register) (c : Id) (n : ℕ) → LacksOnly gone R S → Walked gone R S c n 0 []
 unfolding are_accepted after_all
-walk_begins R c n good = record {
-  good = good;
+walk_begins gone R S c n lacks = record {
+  lacks = lacks;
   accepted = refl;
-  now = refl;
   all = let same : n - 0 ≡ n = omega arith in ap (λ m. turns m R c) same;
 }
 
 whole_is_tried : (R : Register) (commands whole : List Command) → are_accepted R commands ≡ true → commands ≡ whole → Some commands ≡ tried R whole
 whole_is_tried R commands whole accepted is = rw accepted refl ∙ ap (tried R) is
 
-pub walk_ends : (R S : Register) (c : Id) (n : ℕ) (commands : List Command) → Walked R S c n n commands → Some commands ≡ tried R (turns n R c)
-unfolding turns
-walk_ends R S c n commands w =
-    let none : n - n ≡ 0 = omega arith in
-    whole_is_tried R commands (turns n R c) w.accepted (sym (append-nil commands) ∙ ap (λ m. commands ++ turns m S c) (sym none) ∙ w.all)
-
-pub walk_is_done : (R S : Register) (c : Id) (n k : ℕ) (commands : List Command) → Walked R S c n k commands → next_moves S c ≡ [] → Some commands ≡ tried R (turns n R c)
-walk_is_done R S c n k commands w done =
-    whole_is_tried R commands (turns n R c) w.accepted (sym (append-nil commands) ∙ ap (λ more. commands ++ more) (sym (turns_end (n - k) S c done)) ∙ w.all)
-
 -- a turn more
-turn_more : (S : Register) (c : Id) (n k : ℕ) → k < n → turns (n - k) S c ≡ next_moves S c ++ turns (n - (k + 1)) (after_all S (next_moves S c)) c
+turn_more : (T : Register) (c : Id) (n k : ℕ) → k < n → turns (n - k) T c ≡ next_moves T c ++ turns (n - (k + 1)) (after_all T (next_moves T c)) c
 unfolding turns
-turn_more S c n k within = let next : n - k ≡ suc (n - (k + 1)) = omega (arith, within) in rw next refl
+turn_more T c n k within = let next : n - k ≡ suc (n - (k + 1)) = omega (arith, within) in rw next refl
 
-pub walk_goes_on : (R S T : Register) (c : Id) (n k : ℕ) (commands moves : List Command) → Walked R S c n k commands → k < n
-    → Some moves ≡ given (next_moves S c) → are_accepted S moves ≡ true → T ≡ after_all S moves → IsGood T → Walked R T c n (k + 1) (commands ++ moves)
-walk_goes_on R S T c n k commands moves w within is accepted next good =
-    let some = given_all (next_moves S c) moves is in
-    let more : are_accepted (after_all R commands) moves ≡ true = ap (λ (X : Register). are_accepted X moves) (sym w.now) ∙ accepted in
-    record {
-      good = good;
-      accepted = accepted-append R commands moves ∙ rw (w.accepted, more) refl;
-      now = next ∙ ap (λ (X : Register). after_all X moves) w.now ∙ sym (runs_go_on R commands moves).register;
-      all = append_assoc commands moves (turns (n - (k + 1)) T c)
-          ∙ ap (λ more. commands ++ more) (rw (next, some.0) (sym (turn_more S c n k within)))
-          ∙ w.all;
-    }
+module _ (gone : Id → Bool) (R S : Register) (c : Id) (n k : ℕ) (commands : List Command) (w : Walked gone R S c n k commands) where
+  abbrev T : Register
+  T = after_all R commands
 
--- where one of the next commands is refused, one of all is
-pub walk_is_refused : (R S : Register) (c : Id) (n k : ℕ) (commands : List Command) → Walked R S c n k commands → k < n
-    → are_accepted S (next_moves S c) ≡ false → None ≡ tried R (turns n R c)
-walk_is_refused R S c n k commands w within refused =
-    let rest = turns (n - (k + 1)) (after_all S (next_moves S c)) c in
-    let here : are_accepted S (next_moves S c ++ rest) ≡ false =
-    accepted-append S (next_moves S c) rest ∙ ap (λ b. b && are_accepted (after_all S (next_moves S c)) rest) refused in
-    let later : are_accepted (after_all R commands) (next_moves S c ++ rest) ≡ false =
-    ap (λ (X : Register). are_accepted X (next_moves S c ++ rest)) (sym w.now) ∙ here in
-    let none : are_accepted R (turns n R c) ≡ false =
-    ap (are_accepted R) (sym (sym (ap (λ more. commands ++ more) (turn_more S c n k within)) ∙ w.all))
-    ∙ accepted-append R commands (next_moves S c ++ rest) ∙ rw (w.accepted) later in
-    rw none refl
+  pub walk_ends : k ≡ n → Some commands ≡ tried R (turns n R c)
+  unfolding turns
+  walk_ends last =
+      let none : n - k ≡ 0 = omega (arith, last) in
+      whole_is_tried R commands (turns n R c) w.accepted (sym (append-nil commands) ∙ ap (λ m. commands ++ turns m T c) (sym none) ∙ w.all)
 
--- nobody gives one of the next commands, and so it is refused
-pub walk_is_nobodys : (R S : Register) (c : Id) (n k : ℕ) (commands : List Command) → employee R.staff [] ≡ None → Walked R S c n k commands → k < n
-    → None ≡ given (next_moves S c) → None ≡ tried R (turns n R c)
-walk_is_nobodys R S c n k commands nameless w within is =
-    let staff : Register.staff S ≡ R.staff = ap (λ (X : Register). X.staff) w.now ∙ staff_goes_on R commands in
-    let none : employee S.staff [] ≡ None = ap (λ (rows : List StaffRow). employee rows []) staff ∙ nameless in
-    walk_is_refused R S c n k commands w within (by_nobody_refused S (next_moves S c) none (given_none (next_moves S c) is))
+  module _ (kept : gone c ≡ false) where
+    pub walk_is_done : next_moves S c ≡ [] → Some commands ≡ tried R (turns n R c)
+    walk_is_done done =
+        let none : next_moves T c ≡ [] = sym (same_moves gone T S w.lacks c kept) ∙ done in
+        whole_is_tried R commands (turns n R c) w.accepted (sym (append-nil commands) ∙ ap (λ more. commands ++ more) (sym (turns_end (n - k) T c none)) ∙ w.all)
+
+    -- the next commands name a clearance that is not lacking
+    pub moves_are_named : (moves : List Command) → Some moves ≡ given (next_moves S c) → AllNameAnother gone moves
+    moves_are_named moves is =
+        subst (AllNameAnother gone) (sym ((given_all (next_moves S c) moves is).0 ∙ same_moves gone T S w.lacks c kept)) (next_name gone T S w.lacks c kept)
+
+    pub walk_goes_on : (later : Register) (moves : List Command) → k < n → Some moves ≡ given (next_moves S c) → are_accepted T moves ≡ true
+        → LacksOnly gone (after_all T moves) later → Walked gone R later c n (k + 1) (commands ++ moves)
+    walk_goes_on later moves within is accepted lacks =
+        let all_moves : moves ≡ next_moves T c = (given_all (next_moves S c) moves is).0 ∙ same_moves gone T S w.lacks c kept in
+        let on : after_all R (commands ++ moves) ≡ after_all T moves = (runs_go_on R commands moves).register in
+        record {
+          lacks = subst (λ (X : Register). LacksOnly gone X later) (sym on) lacks;
+          accepted = accepted-append R commands moves ∙ rw (w.accepted, accepted) refl;
+          all = ap (λ (X : Register). (commands ++ moves) ++ turns (n - (k + 1)) X c) on
+              ∙ append_assoc commands moves (turns (n - (k + 1)) (after_all T moves) c)
+              ∙ ap (λ (some : List Command). commands ++ (some ++ turns (n - (k + 1)) (after_all T some) c)) all_moves
+              ∙ ap (λ more. commands ++ more) (sym (turn_more T c n k within))
+              ∙ w.all;
+        }
+
+    -- where one of the next commands is refused, one of all is
+    refused_among : k < n → are_accepted T (next_moves T c) ≡ false → None ≡ tried R (turns n R c)
+    refused_among within refused =
+        let rest = turns (n - (k + 1)) (after_all T (next_moves T c)) c in
+        let here : are_accepted T (next_moves T c ++ rest) ≡ false =
+        accepted-append T (next_moves T c) rest ∙ ap (λ b. b && are_accepted (after_all T (next_moves T c)) rest) refused in
+        let none : are_accepted R (turns n R c) ≡ false =
+        ap (are_accepted R) (sym (sym (ap (λ more. commands ++ more) (turn_more T c n k within)) ∙ w.all))
+        ∙ accepted-append R commands (next_moves T c ++ rest) ∙ rw (w.accepted) here in
+        rw none refl
+
+    pub walk_is_refused : (moves : List Command) → k < n → Some moves ≡ given (next_moves S c) → are_accepted T moves ≡ false → None ≡ tried R (turns n R c)
+    walk_is_refused moves within is refused =
+        let all_moves : moves ≡ next_moves T c = (given_all (next_moves S c) moves is).0 ∙ same_moves gone T S w.lacks c kept in
+        refused_among within (ap (are_accepted T) (sym all_moves) ∙ refused)
+
+    -- nobody gives one of the next commands, and so it is refused
+    pub walk_is_nobodys : employee R.staff [] ≡ None → k < n → None ≡ given (next_moves S c) → None ≡ tried R (turns n R c)
+    walk_is_nobodys nameless within is =
+        let none : employee (Register.staff T) [] ≡ None = ap (λ (rows : List StaffRow). employee rows []) (staff_goes_on R commands) ∙ nameless in
+        refused_among within (by_nobody_refused T (next_moves T c) none
+        (ap (list_any is_by_nobody) (sym (same_moves gone T S w.lacks c kept)) ∙ given_none (next_moves S c) is))
+
+-- ---- commands that are carried out one after the other
+
+-- some of them are left: in the book's register they lead where all do, and are all accepted where all are
+pub record Left (gone : Id → Bool) (R : Register) (commands : List Command) (S : Register) (left : List Command) : Type 0 where
+  pub now : Register
+  pub lacks : LacksOnly gone now S
+  pub names : AllNameAnother gone left
+  pub leads : after_all now left ≡ after_all R commands
+  pub accepted : are_accepted now left ≡ are_accepted R commands
+
+pub all_are_left : (gone : Id → Bool) (R S : Register) (commands : List Command) → LacksOnly gone R S → AllNameAnother gone commands → Left gone R commands S commands
+all_are_left gone R S commands lacks names = record { now = R; lacks = lacks; names = names; leads = refl; accepted = refl }
+
+module _ (gone : Id → Bool) (R : Register) (commands : List Command) (S : Register) (q : Command) (rest : List Command) (some : Left gone R commands S (q ∷ rest)) where
+  pub first_named : NamesAnother gone (named_clearance q.kind)
+  unfolding AllNameAnother
+  first_named = (some.names).0
+
+  pub rest_is_left : (later : Register) → is_accepted (Answer.reply (answer some.now q)) ≡ true → LacksOnly gone (after some.now q) later → Left gone R commands later rest
+  unfolding AllNameAnother after_all are_accepted
+  rest_is_left later accepted lacks = record {
+    now = after some.now q;
+    lacks = lacks;
+    names = (some.names).1;
+    leads = some.leads;
+    accepted = sym (ap (λ b. b && are_accepted (after some.now q) rest) accepted) ∙ some.accepted;
+  }
+
+  pub first_is_refused : is_accepted (Answer.reply (answer some.now q)) ≡ false → are_accepted R commands ≡ false
+  unfolding are_accepted
+  first_is_refused refused = sym some.accepted ∙ ap (λ b. b && are_accepted (after some.now q) rest) refused
+
+pub none_is_left : (gone : Id → Bool) (R : Register) (commands : List Command) (S : Register) → Left gone R commands S []
+    → (are_accepted R commands ≡ true) × LacksOnly gone (after_all R commands) S
+unfolding are_accepted after_all
+none_is_left gone R commands S some = (sym some.accepted, subst (λ (X : Register). LacksOnly gone X S) some.leads some.lacks)

@@ -1,3 +1,4 @@
 pub mod Answer
+pub mod Open
 pub mod Text
 pub mod Undoing

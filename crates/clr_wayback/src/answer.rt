@@ -1,15 +1,20 @@
 //! The commands that give a clearance back.
-ghost use Rattle.std.specs.Prelude.{◌≡◌, [], IfOk, IsTrue, None};
+ghost use Rattle.std.specs.Prelude.{◌≡◌, [], IfOk, IsTrue, None, false};
 ghost use Rattle.std.specs.List.{list_all};
 ghost use Rattle.clr_net.specs.Name.{is_name};
 ghost use Rattle.clr_rules.specs.Good.{IsGood};
 ghost use Rattle.clr_rules.specs.Checks.{employee};
 ghost use Rattle.clr_rules.specs.Fit.{IsFit};
-ghost use Rattle.clr_wayback.specs.Answer.{GivesBack, IsTried, way_back_answer};
+ghost use Rattle.clr_rules.specs.Records.{is_closed};
+ghost use Rattle.clr_rules.specs.WayBack.{way_back};
+ghost use Rattle.clr_wayback.specs.Answer.{GivesBack, IsTried, commands_or_no_way, tried};
+ghost use Rattle.clr_wayback.specs.Answer.{way_back_answer};
+ghost use Rattle.clr_wayback.specs.Open.{over_in};
 
+use crate::open::open_part;
 use crate::walk::walk;
 use clr_book::Book;
-use clr_rules::{ClearanceId, Command, Hold, Items, PointState, Record, StepRow};
+use clr_rules::{ClearanceId, Command, Hold, Items, Phase, PointState, Record, StepRow};
 use clr_shelf::Shelf;
 use clr_staff::StaffRow;
 use std::alloc::{AllocError, Global};
@@ -29,12 +34,12 @@ pub enum WayBack {
 /// phase is, without closing or opening a point. They are all accepted, if they are given one after
 /// the other and no other command between them: `NoWay` where one of them would be refused.
 ///
-/// The book is used up: the commands are tried in it. An opening asks of every register to be good
-/// and staffed. Of such a register there is no way only where a step of the record is given out and
-/// the staff has no field employee.
+/// The commands are tried in a copy of what is open: no closed record and no step of one is looked
+/// at. An opening asks of every register to be good and staffed. Of such a register there is no way
+/// only where a step of the record is given out and the staff has no field employee.
 pub fn way_back<P, C, T, H>(
     alloc: Global,
-    book: Book<P, C, T, H>,
+    book: &Book<P, C, T, H>,
     id: &ClearanceId,
 ) -> Result<WayBack, AllocError>
 where
@@ -42,12 +47,12 @@ where
     C: Shelf<Record>,
     T: Shelf<StepRow>,
     H: Shelf<Hold>,
-    ensures answer { IsGood book.register
-        → IfOk result (λ answer. answer ≡ way_back_answer book.register id.now) }
-    ensures tried { IsGood book.register
-        → IfOk result (IsTried book.register id.now) }
-    ensures closes { IsFit book.register
-        → IfOk result (GivesBack book.register id.now) }
+    ensures answer { IsGood book.now.register
+        → IfOk result (λ answer. answer ≡ way_back_answer book.now.register id.now) }
+    ensures tried { IsGood book.now.register
+        → IfOk result (IsTried book.now.register id.now) }
+    ensures closes { IsFit book.now.register
+        → IfOk result (GivesBack book.now.register id.now) }
 {
     all_named(book.staff().rows());
     let answer = answer_of(alloc, book, id)?;
@@ -57,7 +62,7 @@ where
 /// The way back of a clearance of a book.
 fn answer_of<P, C, T, H>(
     alloc: Global,
-    mut book: Book<P, C, T, H>,
+    book: &Book<P, C, T, H>,
     id: &ClearanceId,
 ) -> Result<WayBack, AllocError>
 where
@@ -65,14 +70,43 @@ where
     C: Shelf<Record>,
     T: Shelf<StepRow>,
     H: Shelf<Hold>,
-    requires { employee book.register.staff [] ≡ None }
-    ensures { IsGood book.register
-        → IfOk result (λ answer. answer ≡ way_back_answer book.register id.now) }
+    requires { employee book.now.register.staff [] ≡ None }
+    ensures { IsGood book.now.register
+        → IfOk result (λ answer. answer ≡ way_back_answer book.now.register id.now) }
 {
-    if book.record(id).is_none() {
-        return Ok(WayBack::NoSuch);
+    match book.record(id) {
+        Some(record) if is_over(record) => Ok(WayBack::Commands(Items::new(Vec::new(alloc)))),
+        Some(_) => walked(alloc, book, id),
+        None => Ok(WayBack::NoSuch),
     }
-    match walk(alloc, &mut book, id)? {
+}
+
+/// Whether a record is closed.
+fn is_over(record: &Record) -> bool
+    ensures { result ≡ is_closed record.now.phase }
+{
+    matches!(record.phase, Phase::Closed)
+}
+
+/// The way back of a clearance whose record is open.
+fn walked<P, C, T, H>(
+    alloc: Global,
+    book: &Book<P, C, T, H>,
+    id: &ClearanceId,
+) -> Result<WayBack, AllocError>
+where
+    P: Shelf<PointState>,
+    C: Shelf<Record>,
+    T: Shelf<StepRow>,
+    H: Shelf<Hold>,
+    requires { employee book.now.register.staff [] ≡ None }
+    ensures { IsGood book.now.register → over_in book.now.register id.now ≡ false
+        → IfOk result (λ answer.
+        answer ≡ commands_or_no_way (tried book.now.register
+        (way_back book.now.register id.now))) }
+{
+    let mut open = open_part(alloc, book)?;
+    match walk(alloc, &mut open, id)? {
         Some(commands) => Ok(WayBack::Commands(Items::new(commands))),
         None => Ok(WayBack::NoWay),
     }

@@ -4,6 +4,7 @@
 mod answer;
 pub mod laws;
 mod moves;
+mod open;
 mod print;
 mod rows;
 mod undoing;

@@ -1,13 +1,18 @@
-//! A way back that is walked: its commands, each carried out before the next are found.
-ghost use Rattle.std.specs.Prelude.{◌≡◌, ◌*◌, ◌+◌, [], IfOk, None, OnOk, filter, length, true};
+//! A way back that is walked: its commands, each carried out before the next are found. The book is
+//! one of what is open: what a closed record would add to it is never looked at.
+ghost use Rattle.std.specs.Prelude.{◌≡◌, ◌*◌, ◌+◌, [], Bool, IfOk, None, OnOk, false, filter, length};
+ghost use Rattle.std.specs.Prelude.{true};
 ghost use Rattle.clr_rules.specs.Answer.{Answer, answer};
 ghost use Rattle.clr_rules.specs.Checks.{employee};
-ghost use Rattle.clr_rules.specs.Good.{IsGood};
+ghost use Rattle.clr_rules.specs.Command.{named_clearance};
+ghost use Rattle.clr_rules.specs.Id.{Id};
+ghost use Rattle.clr_rules.specs.Register.{Register};
 ghost use Rattle.clr_rules.specs.Run.{after, after_all};
 ghost use Rattle.clr_rules.specs.Steps.{is_of_round};
 ghost use Rattle.clr_rules.specs.WayBack.{enough_turns, way_back};
 ghost use Rattle.clr_rules.specs.laws.WayBack.{is_accepted};
 ghost use Rattle.clr_wayback.specs.Answer.{are_accepted, items_of, tried};
+ghost use Rattle.clr_wayback.specs.Open.{AllNameAnother, LacksOnly, NamesAnother};
 
 use crate::moves::next_moves;
 use clr_book::Book;
@@ -27,9 +32,9 @@ where
     C: Shelf<Record>,
     T: Shelf<StepRow>,
     H: Shelf<Hold>,
-    requires { employee book.old.register.staff [] ≡ None }
-    ensures { IsGood book.old.register → IfOk result (λ commands. items_of commands
-        ≡ tried book.old.register (way_back book.old.register id.now)) }
+    ensures { (gone : Id → Bool) (R : Register) → LacksOnly gone R book.old.register
+        → gone id.now ≡ false → employee R.staff [] ≡ None
+        → IfOk result (λ commands. items_of commands ≡ tried R (way_back R id.now)) }
 {
     let mut commands = Vec::new(alloc);
     let turns = enough_turns(book, id)?;
@@ -83,11 +88,12 @@ where
     C: Shelf<Record>,
     T: Shelf<StepRow>,
     H: Shelf<Hold>,
-    ensures accepted { IsGood book.old.register → IfOk result (λ accepted.
-        accepted ≡ are_accepted book.old.register commands.now) }
-    ensures register { IsGood book.old.register → IfOk result (λ accepted. accepted ≡ true
-        → book.new.register ≡ after_all book.old.register commands.now) }
-    ensures good { IsGood book.old.register → OnOk result (IsGood book.new.register) }
+    ensures accepted { (gone : Id → Bool) (R : Register) → LacksOnly gone R book.old.register
+        → AllNameAnother gone commands.now
+        → IfOk result (λ accepted. accepted ≡ are_accepted R commands.now) }
+    ensures lacks { (gone : Id → Bool) (R : Register) → LacksOnly gone R book.old.register
+        → AllNameAnother gone commands.now → IfOk result (λ accepted. accepted ≡ true
+        → LacksOnly gone (after_all R commands.now) book.new.register) }
 {
     for command in commands {
         if !carry_out(book, command)? {
@@ -104,11 +110,13 @@ where
     C: Shelf<Record>,
     T: Shelf<StepRow>,
     H: Shelf<Hold>,
-    ensures accepted { IsGood book.old.register → IfOk result (λ accepted.
-        accepted ≡ is_accepted (Answer.reply (answer book.old.register command.now))) }
-    ensures register { IsGood book.old.register → OnOk result
-        (book.new.register ≡ after book.old.register command.now) }
-    ensures good { IsGood book.old.register → OnOk result (IsGood book.new.register) }
+    ensures accepted { (gone : Id → Bool) (R : Register) → LacksOnly gone R book.old.register
+        → NamesAnother gone (named_clearance command.now.kind)
+        → IfOk result (λ accepted.
+        accepted ≡ is_accepted (Answer.reply (answer R command.now))) }
+    ensures lacks { (gone : Id → Bool) (R : Register) → LacksOnly gone R book.old.register
+        → NamesAnother gone (named_clearance command.now.kind)
+        → OnOk result (LacksOnly gone (after R command.now) book.new.register) }
 {
     let decision = book.answer(command)?;
     let accepted = is_accepted(&decision.reply);

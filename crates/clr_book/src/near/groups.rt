@@ -7,7 +7,7 @@ use clr_shelf::{Row, Shelf};
 use std::alloc::{AllocError, Global};
 
 /// The rows of these groups, in key order.
-pub(crate) fn rows_in<'a, R: Row, S: Shelf<R>>(
+pub fn rows_in<'a, R: Row, S: Shelf<R>>(
     alloc: Global,
     shelf: &'a S,
     groups: &[R::Group],

@@ -8,16 +8,16 @@ use Rattle.clr_wayback.proofs.answer.way_back.Goals as goal
 
 pub answer_of-requires : goal.answer_of-requires
 answer_of-requires g c =
-    let staff : c.rows.result.now ≡ c.args.book.register.staff = search rules in
+    let staff : c.rows.result.now ≡ c.args.book.now.register.staff = search rules in
     subst (λ (rows : List StaffRow). employee rows [] ≡ None) staff (nobody_is_nameless c.rows.result.now c.all_named.ensures)
 
 pub returns-clause-tried : goal.returns-clause-tried
 returns-clause-tried g c good =
-    subst (IsTried c.args.book.register c.args.id.now) (sym (c.in_ok-answer.ensures good)) (answer_is_tried c.args.book.register c.args.id.now)
+    subst (IsTried c.args.book.now.register c.args.id.now) (sym (c.in_ok-answer.ensures good)) (answer_is_tried c.args.book.now.register c.args.id.now)
 
 pub returns-clause-closes : goal.returns-clause-closes
 returns-clause-closes g c fit =
-    let R = c.args.book.register in
+    let R = c.args.book.now.register in
     let id = c.args.id.now in
     let staff : c.rows.result.now ≡ R.staff = search rules in
     subst (GivesBack R id) (sym (c.in_ok-answer.ensures fit.0))

@@ -1,11 +1,10 @@
-use Rattle.std.proofs.Common.{◌≡◌, drop}
-use Rattle.clr_rules.specs.Good.{IsGood}
-use Rattle.clr_rules.specs.Run.{after_all}
-use Rattle.clr_wayback.specs.Answer.{are_accepted}
+use Rattle.std.proofs.Common.{Bool, drop}
+use Rattle.clr_rules.specs.Id.{Id}
+use Rattle.clr_rules.specs.Register.{Register}
+use Rattle.clr_wayback.proofs.Walking.{Left}
+use Rattle.clr_wayback.specs.Open.{AllNameAnother, LacksOnly}
 use Rattle.clr_wayback.proofs.walk.carry_out_all.Given as goal
 
--- the commands that are left lead where all do, and are all accepted where all are
 abbrev pub invariant-loop-command : goal.invariant-loop-command
-invariant-loop-command g l = IsGood l.fn.book.register
-    → IsGood l.book.register × (after_all l.book.register (drop l.command-index l.fn.commands) ≡ after_all l.fn.book.register l.fn.commands)
-    × (are_accepted l.book.register (drop l.command-index l.fn.commands) ≡ are_accepted l.fn.book.register l.fn.commands)
+invariant-loop-command g l = (gone : Id → Bool) (R : Register) → LacksOnly gone R l.fn.book.register → AllNameAnother gone l.fn.commands
+    → Left gone R l.fn.commands l.book.register (drop l.command-index l.fn.commands)
