@@ -23,10 +23,9 @@ use Rattle.clr_text.specs.Json.{optional_data, whole_data}
 use Rattle.clr_text.specs.Reading.{command_in}
 use Rattle.clr_text.specs.Values.{moment_in}
 use Rattle.clr_text.specs.declared.fault.TextFault.{TextFault}
-use Rattle.clr_journal.proofs.LinesRead.{bare}
 use Rattle.clr_journal.proofs.Written.{done_is, same_entry}
 use Rattle.clr_journal.specs.Laws.{is_done, is_no_login, login_is_text}
-use Rattle.clr_journal.specs.Line.{Entry, archive_data, carried, done, withdrawn, line_in, login_in, read_line}
+use Rattle.clr_journal.specs.Line.{Entry, archive_data, bare, carried, done, withdrawn, line_in, login_in, read_line}
 use Rattle.clr_journal.specs.declared.line.Receipt.{Receipt}
 use Rattle.clr_chain.specs.First.{first_data, first_text, first_text_by}
 use Rattle.clr_chain.specs.Laws.{FirstsAreOneLine, LinksAreOneLine, LinksAreOwn, LinksReadBack}

@@ -1,14 +1,17 @@
 //! A line is written.
-ghost use Rattle.std.specs.Prelude.{◌≡◌, IfOk, string_bytes};
+ghost use Rattle.std.specs.Prelude.{◌≡◌, ◌^◌, IfOk, IsTrue, Some, nat_lt, string_bytes, true};
+ghost use Rattle.std.specs.List.{list_all};
 ghost use Rattle.clr_deeds.specs.Deeds.{archive, command as asked, update};
+ghost use Rattle.clr_delta.specs.Rows.{is_open};
 ghost use Rattle.clr_text.specs.Replies.{reply_data};
 ghost use Rattle.clr_update.specs.Shown.{as_changes};
-ghost use Rattle.clr_journal.specs.Line.{carried, done, withdrawn};
-ghost use Rattle.clr_chain.specs.Link.{link_text};
+ghost use Rattle.clr_journal.specs.Line.{bare, carried, done, withdrawn};
+ghost use Rattle.clr_chain.specs.Link.{link_text, read_link};
 ghost use Rattle.clr_chain.specs.Sums.{sum_after};
 
 use crate::sums::sum_of;
 use crate::values::{archived_link, updated_link, withdrawn_link};
+use clr_delta::can_be_said;
 use clr_journal::{Changes, Receipt};
 use clr_rules::{Command, Moment, Reply, Text};
 use serde_json::Value;
@@ -47,7 +50,8 @@ pub fn print_carried(
     Ok(Link { text, sum })
 }
 
-/// The line of an update with these changes, after a sum. A login of the receipt is not written.
+/// The line of an update with these changes, after a sum. A login of the receipt is not written. It
+/// reads as that line without a login, where no point that goes has a position.
 #[tactic(auto, unfolding(crate::specs::Sums::sum_after, crate::specs::Link::link_text))]
 pub fn print_updated(
     alloc: Global,
@@ -59,7 +63,14 @@ pub fn print_updated(
         ≡ link_text (carried receipt.now (update (as_changes changes.now)) done) link.sum) }
     ensures sum { IfOk result (λ link. link.sum
         ≡ sum_after before.now (carried receipt.now (update (as_changes changes.now)) done)) }
+    ensures reads { IfOk result (λ link.
+        IsTrue (list_all (λ p. is_open p.position) changes.now.points_go.items)
+        → read_link link.sum (string_bytes link.text)
+        ≡ Some (carried (bare receipt.now) (update (as_changes changes.now)) done)) }
 {
+    can_be_said(changes);
+    is_number(receipt.number);
+    is_number(receipt.received);
     let line = clr_journal::print_updated(alloc, receipt, changes)?;
     let sum = sum_of(alloc, before.as_str().as_bytes(), line.as_bytes())?;
     let value = updated_link(alloc, receipt, changes, sum.as_str())?;
@@ -67,7 +78,8 @@ pub fn print_updated(
     Ok(Link { text, sum })
 }
 
-/// The line of an archive, after a sum. A login of the receipt is not written.
+/// The line of an archive, after a sum. A login of the receipt is not written. It reads as that line
+/// without a login.
 #[tactic(auto, unfolding(crate::specs::Sums::sum_after, crate::specs::Link::link_text))]
 pub fn print_archived(
     alloc: Global,
@@ -79,12 +91,24 @@ pub fn print_archived(
         ≡ link_text (carried receipt.now (archive moment) done) link.sum) }
     ensures sum { IfOk result (λ link. link.sum
         ≡ sum_after before.now (carried receipt.now (archive moment) done)) }
+    ensures reads { IfOk result (λ link. read_link link.sum (string_bytes link.text)
+        ≡ Some (carried (bare receipt.now) (archive moment) done)) }
 {
+    moment.seconds();
+    is_number(receipt.number);
+    is_number(receipt.received);
     let line = clr_journal::print_archived(alloc, receipt, moment)?;
     let sum = sum_of(alloc, before.as_str().as_bytes(), line.as_bytes())?;
     let value = archived_link(alloc, receipt, moment, sum.as_str())?;
     let text = value.to_string(alloc)?;
     Ok(Link { text, sum })
+}
+
+/// A number has 64 bits: a law, with nothing to do.
+fn is_number(number: u64)
+    ensures { nat_lt number (2 ^ 64) ≡ true }
+{
+    let _number = number;
 }
 
 /// The line that withdraws the deed of a number, after a sum.

@@ -2,18 +2,19 @@
 ghost use Rattle.std.specs.Prelude.{◌≡◌, IfOk, bytes_eq, false};
 ghost use Rattle.serde_json.specs.View.{view};
 ghost use Rattle.serde_json.specs.Written.{has_float};
-ghost use Rattle.serde_json.specs.Data.{string};
 ghost use Rattle.clr_deeds.specs.Deeds.{archive, command as asked, deed_of, update};
-ghost use Rattle.clr_text.specs.Json.{optional_data};
 ghost use Rattle.clr_update.specs.Shown.{as_changes};
-ghost use Rattle.clr_journal.specs.Line.{archive_data, carried, done, entry_data, entry_of};
-ghost use Rattle.clr_journal.specs.Line.{line_text, withdrawn};
+ghost use Rattle.clr_journal.specs.Line.{carried, done, entry_data, entry_of, line_text};
+ghost use Rattle.clr_journal.specs.Line.{withdrawn};
 ghost use Rattle.clr_chain.specs.Link.{has_fraction, is_own, link_data, link_text};
 
 use crate::floats::has_float;
 use clr_delta::changes_value;
-use clr_journal::{Carried, Changes, Deed, Line, Receipt};
-use clr_rules::{Command, Moment, Text};
+use clr_journal::{
+    Carried, Changes, Deed, Line, Receipt, archived_value, before_value, commanded_value,
+    login_value, updated_value, withdrawn_value,
+};
+use clr_rules::{Command, Moment};
 use clr_text::command_value;
 use serde_json::{Value, json};
 use std::alloc::{AllocError, Global};
@@ -82,13 +83,6 @@ pub(crate) fn archived_link(
     })
 }
 
-/// What a line says of an archive.
-fn before_value(alloc: Global, before: Moment) -> Result<Value, AllocError>
-    ensures { IfOk result (λ value. view value ≡ archive_data before) }
-{
-    json!(in alloc; {"before": before.seconds()})
-}
-
 /// The value of a line that withdraws the deed of a number, with its sum.
 pub(crate) fn withdrawn_link(alloc: Global, number: u64, sum: &str) -> Result<Value, AllocError>
     ensures { IfOk result (λ value. view value ≡ link_data (withdrawn number) sum.now) }
@@ -97,23 +91,13 @@ pub(crate) fn withdrawn_link(alloc: Global, number: u64, sum: &str) -> Result<Va
     json!(in alloc; {"number": number, "sum": sum, "withdrawn": true})
 }
 
-/// A login as a JSON value: a text, or null.
-fn login_value(alloc: Global, login: &Option<Text>) -> Result<Value, AllocError>
-    ensures { IfOk result (λ value. view value ≡ optional_data string login.now) }
-{
-    match login {
-        Some(login) => Value::try_from_str(alloc, login.as_str()),
-        None => Ok(Value::Null),
-    }
-}
-
 /// The value of a line that was read, without a sum.
 fn line_value(alloc: Global, line: &Line) -> Result<Value, AllocError>
     ensures { IfOk result (λ value. view value ≡ entry_data (entry_of line.now)) }
 {
     match line {
         Line::Carried(carried) => carried_value(alloc, carried),
-        Line::Withdrawn(number) => json!(in alloc; {"number": *number, "withdrawn": true}),
+        Line::Withdrawn(number) => withdrawn_value(alloc, *number),
     }
 }
 
@@ -125,58 +109,11 @@ fn carried_value(alloc: Global, line: &Carried) -> Result<Value, AllocError>
     match &line.deed {
         Deed::Command(command) => {
             let reply = line.reply.clone()?;
-            command_line(alloc, &line.receipt, command, reply)
+            commanded_value(alloc, &line.receipt, command, reply)
         }
-        Deed::Update(changes) => update_line(alloc, &line.receipt, changes),
-        Deed::Archive(before) => archive_line(alloc, &line.receipt, *before),
+        Deed::Update(changes) => updated_value(alloc, &line.receipt, changes),
+        Deed::Archive(before) => archived_value(alloc, &line.receipt, *before),
     }
-}
-
-/// The value of a command's line without a sum, whose reply is this value.
-fn command_line(
-    alloc: Global,
-    receipt: &Receipt,
-    command: &Command,
-    reply: Value,
-) -> Result<Value, AllocError>
-    ensures { IfOk result (λ value. view value
-        ≡ entry_data (carried receipt.now (asked command.now) (view reply))) }
-{
-    let login = login_value(alloc, &receipt.login)?;
-    let command = command_value(alloc, command)?;
-    json!(in alloc; {
-        "command": command,
-        "login": login,
-        "number": receipt.number,
-        "received": receipt.received,
-        "reply": reply
-    })
-}
-
-/// The value of an update's line without a sum.
-fn update_line(alloc: Global, receipt: &Receipt, changes: &Changes) -> Result<Value, AllocError>
-    ensures { IfOk result (λ value. view value
-        ≡ entry_data (carried receipt.now (update (as_changes changes.now)) done)) }
-{
-    let updated = changes_value(alloc, changes)?;
-    json!(in alloc; {
-        "number": receipt.number,
-        "received": receipt.received,
-        "updated": updated
-    })
-}
-
-/// The value of an archive's line without a sum.
-fn archive_line(alloc: Global, receipt: &Receipt, before: Moment) -> Result<Value, AllocError>
-    ensures { IfOk result (λ value. view value
-        ≡ entry_data (carried receipt.now (archive before) done)) }
-{
-    let archived = before_value(alloc, before)?;
-    json!(in alloc; {
-        "archived": archived,
-        "number": receipt.number,
-        "received": receipt.received
-    })
 }
 
 /// The value of a line that was read, with a sum.

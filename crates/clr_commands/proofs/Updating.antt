@@ -1,22 +1,28 @@
 -- An update over a register that was taken up from a database: what is asked for, and what comes of it.
-use Rattle.std.proofs.Common.{◌≡◌, ◌≢◌, ◌∙◌, ap, inl, inr, refl, subst, sym, ℕ, Bool, List, [], ◌∷◌, ◌++◌, Result, Ok, Err, OnOk, OnErr, IsTrue, append_assoc, if◌then◌else◌}
-use Rattle.std.specs.Prelude.{IfErr, IfOk, IsErrAnd, None, String, string_bytes}
+use Rattle.std.proofs.Common.{◌≡◌, ◌≢◌, ◌∙◌, ap, inl, inr, refl, subst, sym, ℕ, Bool, true, not, List, [], ◌∷◌, ◌++◌, map, Result, Ok, Err, OnOk, OnErr, IsTrue, append_assoc, if◌then◌else◌}
+use Rattle.std.specs.Borrow.{Bor}
+use Rattle.std.specs.List.{list_all, list_any}
+use Rattle.std.specs.Prelude.{IfErr, IfOk, IsErrAnd, None, Option, Some, String, string_bytes}
 use Rattle.std.specs.declared.alloc.Global.{Global}
 use Rattle.std.proofs.lemmas.List.{append-nil}
 use Rattle.sqlite.specs.Held.{Held, state}
 use Rattle.sqlite.specs.State.{HasCleanDisk, State, Survives}
 use Rattle.sqlite.proofs.StateLemmas.{survives_weaker}
 use Rattle.sqlite_trees.specs.declared.store.Store.{Ghosts}
+use Rattle.clr_net.specs.Grid.{Grid, unplaced}
 use Rattle.clr_net.specs.NameText.{read_name}
+use Rattle.clr_net.specs.declared.point.PointRow.{PointRow}
 use Rattle.clr_result.specs.Results.{◌>>=◌}
 use Rattle.clr_rules.specs.Fit.{IsFit}
 use Rattle.clr_rules.specs.Good.{IsGood}
 use Rattle.clr_rules.specs.Register.{Register}
+use Rattle.clr_shelf.proofs.Lists.{list_all-filter}
 use Rattle.clr_rules.specs.Staffed.{IsStaffed}
 use Rattle.clr_update.specs.Changes.{Changes as ChangedRows, changes}
 use Rattle.clr_update.specs.Delta.{after_changes, can_be_made}
 use Rattle.clr_update.specs.DeltaLaws.{ChangesSayAll}
 use Rattle.clr_update.specs.Laws.{IsAccepted, UpdatesKeepGood}
+use Rattle.clr_update.specs.Rows.{same_point}
 use Rattle.clr_update.specs.Shown.{as_changes}
 use Rattle.clr_update.specs.Update.{IsRead, Update as Changed, after_update, in_the_way, unless_obstacle, updated}
 use Rattle.clr_changes.specs.Lines.{change_lines}
@@ -28,6 +34,8 @@ use Rattle.clr_changes.specs.declared.outcome.Outcome.TheVariants.{Accepted, InT
 use Rattle.clr_changes.specs.declared.report.Report.{Report}
 use Rattle.clr_changes.specs.declared.report.Report.TheVariants.{Changes, InTheWay}
 use Rattle.clr_deeds.specs.Deeds.{update}
+use Rattle.clr_delta.specs.Delta.{can_be_said}
+use Rattle.clr_delta.specs.Rows.{is_open}
 use Rattle.clr_tables.specs.Tables.{tables_of}
 use Rattle.clr_load.specs.Stored.{AreTables, HasTables}
 use Rattle.clr_load.specs.declared.fault.StoreFault.{StoreFault}
@@ -59,7 +67,7 @@ use Rattle.clr_update.specs.declared.obstacle.Obstacle.{Obstacle}
 use Rattle.clr_commands.specs.Faults.{IsOfSubcommand}
 use Rattle.clr_commands.specs.Fence.{argument}
 use Rattle.clr_commands.specs.Import.{FileRows}
-use Rattle.clr_commands.specs.Update.{IsDone, IsRenewed, IsUpdated, RefusesUpdate, ReportsUpdate, Texts, UpdatesAlone, UpdatesAt, names_said, reported, text_reported, update_fault}
+use Rattle.clr_commands.specs.Update.{AreSaid, IsDone, IsRenewed, IsUpdated, RefusesUpdate, ReportsUpdate, Texts, UpdatesAlone, UpdatesAt, WithJournal, names_said, reported, text_reported, update_fault}
 use Rattle.clr_commands.proofs.Faults.{line_plain, obstacle_plain, of_desk_plain}
 use Rattle.clr_commands.proofs.PointsNamed.{names_after}
 
@@ -211,6 +219,27 @@ pub can_be_done : (R : Register) (u : Changed) (of : ChangedRows) → ChangesSay
 can_be_done R u of law accepted same =
     ap (λ (b : Bool). if b then done else not_done) (ap (can_be_made R) same ∙ law.made R u accepted)
 
+-- the points that go are those of a good register, which have no position
+abbrev has_none : PointRow → Bool
+has_none p = is_open p.position
+
+unplaced_have_none : (points : List PointRow) → list_all has_none (map unplaced points) ≡ true
+unplaced_have_none [] = refl
+unplaced_have_none (p ∷ points) = unplaced_have_none points
+
+gone_have_none : (R S : Register) → IsGood R → list_all has_none (ChangedRows.points_go (changes R S)) ≡ true
+gone_have_none R S good =
+    let points : map unplaced (Grid.points R.net) ≡ Grid.points R.net = ap (λ (g : Grid). g.points) good.besides.placed in
+    list_all-filter has_none (λ row. not (list_any (same_point row) (Grid.points S.net))) (Grid.points R.net)
+    (subst (λ (ps : List PointRow). list_all has_none ps ≡ true) points (unplaced_have_none (Grid.points R.net)))
+
+-- so what changes can be said
+pub are_said : (R : Register) (u : Changed) (of : ChangedRows) → IsAccepted R u → of ≡ changes R (updated R u)
+    → (IsTrue (list_all (λ p. is_open p.position) of.points_go) → IsTrue (can_be_said of)) → can_be_said (changes R (updated R u)) ≡ true
+are_said R u of accepted same says =
+    let none = ap (λ (rows : ChangedRows). list_all has_none rows.points_go) same ∙ gone_have_none R (updated R u) accepted.good in
+    sym (ap can_be_said same) ∙ says none
+
 module _ {K J C : Type 0} (kept : K → State) (has_place : Placing) (fails : DeskFault → Type 0) (shows : C → ℕ → Type 0) (text found : J → List ℕ)
     (may_leave : J → List ℕ → Type 0) (u : Changed) (of : ChangedRows) (lines : String Global) (old new : Desk (Keeper K J C)) where
   abbrev Q : Register
@@ -228,9 +257,9 @@ module _ {K J C : Type 0} (kept : K → State) (has_place : Placing) (fails : De
       (λ clean trees done has. (none, subst (λ (X : Register). AreTables trees (tables_of X)) is (done.0 good has).0)) left
 
   renewed_as : (came : Came) → IsAccepted Q u → after_changes Q of ≡ updated Q u → of ≡ changes Q (updated Q u) → UpdatesKeepGood
-      → string_bytes lines ≡ change_lines of → RenewsAt kept has_place fails shows text found may_leave old new (update of) came
+      → can_be_said (changes Q (updated Q u)) ≡ true → string_bytes lines ≡ change_lines of → RenewsAt kept has_place fails shows text found may_leave old new (update of) came
       → IsRenewed kept fails old new u (reported lines came)
-  renewed_as (Ok value) accepted is same law said renews = record {
+  renewed_as (Ok value) accepted is same law can said renews = record {
     reports = (accepted.free, said ∙ ap change_lines same);
     is_done = record {
       tables = λ clean has. subst (λ (X : Register). HasTables (below new.store).now (tables_of X)) (renews.register accepted.good ∙ is) (renews.tables clean accepted.good has);
@@ -240,8 +269,9 @@ module _ {K J C : Type 0} (kept : K → State) (has_place : Placing) (fails : De
       none = λ clean is_open. tt;
       crash = renewed_left is accepted.free accepted.good renews.crash;
     };
+    said = inr can;
   }
-  renewed_as (Err cause) accepted is same law said renews = record {
+  renewed_as (Err cause) accepted is same law can said renews = record {
     reports = inr (cause, refl, renews.fault);
     is_done = record {
       tables = λ clean has. tt;
@@ -251,13 +281,14 @@ module _ {K J C : Type 0} (kept : K → State) (has_place : Placing) (fails : De
       none = λ clean is_open. renews.stays.now clean is_open;
       crash = renewed_left is accepted.free accepted.good renews.crash;
     };
+    said = inr can;
   }
 
   pub renewed_with : (came : Came) → UpdatesKeepGood → ChangesSayAll → IsAccepted Q u → of ≡ changes Q (updated Q u)
-      → string_bytes lines ≡ change_lines of → RenewsAt kept has_place fails shows text found may_leave old new (update of) came
+      → can_be_said (changes Q (updated Q u)) ≡ true → string_bytes lines ≡ change_lines of → RenewsAt kept has_place fails shows text found may_leave old new (update of) came
       → IsRenewed kept fails old new u (reported lines came)
-  renewed_with came law says accepted same said renews =
-      renewed_as came accepted (ap (after_changes Q) same ∙ says.same Q u accepted) same law said renews
+  renewed_with came law says accepted same can said renews =
+      renewed_as came accepted (ap (after_changes Q) same ∙ says.same Q u accepted) same law can said renews
 
 -- nothing was done, and why
 pub unrenewed : {K J C : Type 0} (kept : K → State) (fails : DeskFault → Type 0) (old : Desk (Keeper K J C)) (u : Changed) (fault : Fault)
@@ -265,6 +296,7 @@ pub unrenewed : {K J C : Type 0} (kept : K → State) (fails : DeskFault → Typ
 unrenewed {K} {J} {C} kept fails old u fault reports = record {
   reports = reports;
   is_done = not_updated (λ (it : Keeper K J C). kept it.keeper) old.book.register u fault old.store;
+  said = inl refl;
 }
 
 pub levels_alike : {K J C : Type 0} (kept : K → State) (has_place : Placing) (text : J → List ℕ) (d : Desk (Keeper K J C)) → StaysLevel kept has_place text d d
@@ -281,6 +313,16 @@ answer_plain fails R u report closed result reports line is = subst (λ (it : Te
     by (Err fault) closed (inl (cause, is, way)) line = obstacle_plain fault cause is
     by (Err fault) closed (inr (cause, is, of)) line = subst (λ (f : Fault). IsOfSubcommand f) (sym is) (of_desk_plain cause)
 
+-- a register that was taken up without a journal has none named
+none_named : {M J C S : Type 0} (logs : Logs M J C) (g : Ghosts S) (opens : Opening M S) (path : List ℕ) (journal : Option (Bor (List ℕ))) (old new : M) (desk : Desk (Held S)) (So : Type 0)
+    → IsUpWith g opens path logs journal old new (Plain desk) → WithJournal journal So
+none_named logs g opens path None old new desk So up = tt
+none_named logs g opens path (Some journal) old new desk So up = absurd up
+
+where_named : (journal : Option (Bor (List ℕ))) (So : Type 0) → So → WithJournal journal So
+where_named None So so = tt
+where_named (Some journal) So so = so
+
 module _ {M J C S : Type 0} (logs : Logs M J C) (g : Ghosts S) (opens : Opening M S) (shuts : Shutting M) (ends : Ending M S) (args : UpdateArgs) (u : Changed) where
   -- the register of the database at the path was updated, or something was in the way
   pub updated_alone : (report result : Texts) (closed : Done) (old between new : M) (desk : Desk (Held S)) (store after : Held S)
@@ -289,17 +331,18 @@ module _ {M J C S : Type 0} (logs : Logs M J C) (g : Ghosts S) (opens : Opening 
       → result ≡ first_fault report closed → UpdatesAt logs g opens shuts ends args u result old new
   updated_alone report result closed old between new desk store after up reports is_done same ended line is =
       let left : Desk (Held S) = record { book = desk.book; store = store; faults = desk.faults } in
-      worked g opens shuts shuts ends args.database.now (Unit {0}) first_fault logs (UpdatesAlone args.dry_run u) args.journal report result old between between new
-      (Plain desk) (Plain left) closed up (refl, record { reports = reports; is_done = is_done })
+      worked g opens shuts shuts ends args.database.now (Unit {0}) first_fault logs (UpdatesAlone args u) args.journal report result old between between new
+      (Plain desk) (Plain left) closed up
+      (refl, record { reports = reports; is_done = is_done; said = none_named logs g opens args.database.now args.journal old between desk (AreSaid u desk left) up })
       tt (store, between, (refl, refl), subst (λ (h : Held S). Ends ends h closed between new) same ended) line is
 
   -- with its journal, with which it stays level
   pub updated_level : (report result : Texts) (closed : Done) (old between new : M) (desk left : Desk (Keeper (Held S) J C))
       → IsUpWith g opens args.database.now logs args.journal old between (Logged desk) → ReportsUpdate (FailsToo FailsAsStore) desk.book.register u report
-      → IsDone (λ (it : Keeper (Held S) J C). state g it.keeper) args.dry_run desk.book.register u report desk.store left.store
+      → IsDone (λ (it : Keeper (Held S) J C). state g it.keeper) args.dry_run desk.book.register u report desk.store left.store → AreSaid u desk left
       → StaysLevel (state g) store_place logs.log.text desk left → StaysSound logs.log.text logs.log.found logs.log.may_leave desk left
       → IsLetGo ends logs (Logged left) closed between new → IfErr closed IsOfLine → result ≡ first_fault report closed
       → UpdatesAt logs g opens shuts ends args u result old new
-  updated_level report result closed old between new desk left up reports is_done level sound gone line is =
-      worked g opens shuts shuts ends args.database.now (Unit {0}) first_fault logs (UpdatesAlone args.dry_run u) args.journal report result old between between new
-      (Logged desk) (Logged left) closed up (refl, record { reports = reports; is_done = is_done }) (level, sound) gone line is
+  updated_level report result closed old between new desk left up reports is_done said level sound gone line is =
+      worked g opens shuts shuts ends args.database.now (Unit {0}) first_fault logs (UpdatesAlone args u) args.journal report result old between between new
+      (Logged desk) (Logged left) closed up (refl, record { reports = reports; is_done = is_done; said = where_named args.journal (AreSaid u desk left) said }) (level, sound) gone line is

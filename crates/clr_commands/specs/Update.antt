@@ -1,8 +1,9 @@
 -- WHAT `update` DOES: network and staff of the register that a database has become those of three
 -- files, unless something is in the way; and what it prints.
 use Rattle.std.specs.Prelude.{◌≡◌, ◌≢◌, ◌⊎◌, ℕ, Bool, true, false, IsErrAnd, IsTrue}
-use Rattle.std.specs.Prelude.{List, [], ◌∷◌, map, None, OnErr, OnOk, Result, Ok, Err, Some, String}
-use Rattle.std.specs.Prelude.{string_bytes}
+use Rattle.std.specs.Prelude.{List, [], ◌∷◌, map, None, OnErr, OnOk, Option, Result, Ok, Err, Some}
+use Rattle.std.specs.Prelude.{String, string_bytes}
+use Rattle.std.specs.Borrow.{Bor}
 use Rattle.std.specs.declared.alloc.Global.{Global}
 use Rattle.sqlite.specs.Held.{Held}
 use Rattle.sqlite.specs.State.{HasCleanDisk, State, Survives}
@@ -22,6 +23,7 @@ use Rattle.clr_changes.specs.declared.report.Report.TheVariants.{Changes, InTheW
 use Rattle.clr_tables.specs.Tables.{tables_of}
 use Rattle.clr_load.specs.Contract.{IsSaved}
 use Rattle.clr_load.specs.Stored.{HasTables}
+use Rattle.clr_delta.specs.Delta.{can_be_said}
 use Rattle.clr_desk.specs.Updating.{AreUpdated}
 use Rattle.clr_desk.specs.declared.commit.Commit as commit
 use Rattle.clr_desk.specs.declared.desk.Desk.{Desk}
@@ -99,12 +101,19 @@ pub record IsUpdated {K : Type 0} (kept : K → State) (R : Register) (u : Updat
       → OnErr report ((kept after).now ≡ (kept read).now)
   pub crash : Survives (kept read) (kept after) (AreUpdated (kept read).now R u)
 
+-- WHAT CHANGES CAN BE SAID, unless nothing was done: so the line that has it is read from its text,
+-- also where a fault comes after that line (LinksReadBack)
+abbrev pub AreSaid : {K : Type 0} → Update → Desk K → Desk K → Type 0
+AreSaid u taken left = (left ≡ taken)
+    ⊎ (can_be_said (changes taken.book.register (updated taken.book.register u)) ≡ true)
+
 -- the same over a desk with a journal
 pub record IsRenewed {K J C : Type 0} (kept : K → State) (fails : DeskFault → Type 0)
     (taken left : Desk (Keeper K J C)) (u : Update) (report : Texts) : Type 0 where
   pub reports : ReportsUpdate (FailsToo fails) taken.book.register u report
   pub is_done : IsUpdated (λ (it : Keeper K J C). kept it.keeper) taken.book.register u report
       taken.store left.store
+  pub said : AreSaid u taken left
 
 -- WHAT AN UPDATE DOES OVER A DESK: it updates its register, unless something is in the way. In a dry
 -- run nothing is written
@@ -112,23 +121,29 @@ abbrev pub IsDone : {K : Type 0} → (K → State) → Bool → Register → Upd
 IsDone kept true R u report read after = after ≡ read
 IsDone kept false R u report read after = IsUpdated kept R u report read after
 
-pub record UpdatesDesk {K : Type 0} (keeper : commit.Ghosts K) (dry_run : Bool) (u : Update)
+-- what is so where a journal is named
+abbrev pub WithJournal : Option (Bor (List ℕ)) → Type 0 → Type 0
+WithJournal None So = Unit {0}
+WithJournal (Some journal) So = So
+
+pub record UpdatesDesk {K : Type 0} (keeper : commit.Ghosts K) (args : UpdateArgs) (u : Update)
     (report : Texts) (taken left : Desk K) : Type 0 where
   pub reports : ReportsUpdate keeper.fails taken.book.register u report
-  pub is_done : IsDone keeper.kept dry_run taken.book.register u report taken.store left.store
+  pub is_done : IsDone keeper.kept args.dry_run taken.book.register u report taken.store left.store
+  pub said : WithJournal args.journal (AreSaid u taken left)
 
 -- the same, with no step of the machine
-abbrev pub UpdatesAlone : {M : Type 0} → Bool → Update → (K : Type 0) → commit.Ghosts K → Texts
-    → M → M → Desk K → Desk K → Type 0
-UpdatesAlone dry_run u K keeper report old new taken left =
-    (new ≡ old) × UpdatesDesk keeper dry_run u report taken left
+abbrev pub UpdatesAlone : {M : Type 0} → UpdateArgs → Update → (K : Type 0) → commit.Ghosts K
+    → Texts → M → M → Desk K → Desk K → Type 0
+UpdatesAlone args u K keeper report old new taken left =
+    (new ≡ old) × UpdatesDesk keeper args u report taken left
 
 -- with a journal or without one: the register is taken up, updated and let go, and the database
 -- closed. The first fault is the result
 abbrev pub UpdatesOver : {M J C S : Type 0} → Logs M J C → Ghosts S → UpdateArgs → Update → Texts
     → M → Held S → Held S → Done → M → Type 0
 UpdatesOver logs g args u =
-    WorksWith logs g args.journal (Unit {0}) (UpdatesAlone args.dry_run u) first_fault
+    WorksWith logs g args.journal (Unit {0}) (UpdatesAlone args u) first_fault
 
 -- rows and words say no update, or memory ran out, and nothing was opened
 abbrev pub RefusesUpdate : {T : Type 0} → FileRows → List (List ℕ) → Result T Fault → Type 0

@@ -18,7 +18,7 @@ ghost use Rattle.clr_commands.specs.Faults.{IsOfSubcommand};
 ghost use Rattle.clr_commands.specs.Fence.{argument};
 ghost use Rattle.clr_commands.specs.Import.{lists_of};
 ghost use Rattle.clr_edge.specs.Paths.{at_paths};
-ghost use Rattle.clr_commands.specs.Update.{IsDone, IsRenewed, IsUpdateTo, IsUpdated};
+ghost use Rattle.clr_commands.specs.Update.{AreSaid, IsDone, IsRenewed, IsUpdateTo, IsUpdated};
 ghost use Rattle.clr_commands.specs.Update.{RefusesUpdate, ReportsUpdate, UpdatesAt, UpdatesFiles};
 ghost use Rattle.clr_commands.specs.Update.{UpdatesTo, names_said, reported, text_reported};
 ghost use Rattle.clr_keeping.specs.Keeping.{StaysLevel, StaysSound};
@@ -29,6 +29,7 @@ use clr_args::asked::UpdateArgs;
 use clr_chain::Clock;
 use clr_changes::{After, Outcome, Report, Update, outcome_of, print_changes, report_of};
 use clr_deeds::Deed;
+use clr_delta::can_be_said;
 use clr_desk::{Commit, CommitAt, Desk, DeskBook, DeskFault};
 use clr_edge::database::{Databases, close, first_fault};
 use clr_edge::fault::Fault;
@@ -48,7 +49,7 @@ use std::alloc::{AllocError, Global};
 /// What `update DB SECTIONS POINTS STAFF [--journal FILE] [--dry-run] [--without JUMPER]...` prints:
 /// what changes, a line each, once it is in the tables; with `--dry-run` nothing is written. The
 /// database is opened after the files were read. With a journal the changes are a line of it, which
-/// is durable before they are in the tables.
+/// is durable before they are in the tables. They can be said, so that line is read back.
 ///
 /// `Update` names what is in the way.
 pub fn update<'a, R: Databases + Journals, O: Opens<'a>>(
@@ -218,6 +219,7 @@ fn renew_desk<K: CommitAt, J: Journal + Drop, C: Clock>(
         result.0 }
     ensures done { IsDone (⟦<Keeper<K, J, C> as Commit>⟧.kept) dry_run desk.book.register
         (as_update update) result.0 desk.store result.1.store }
+    ensures said { AreSaid (as_update update) desk result.1 }
     ensures level { StaysLevel K.kept K.has_place J.text desk result.1 }
     ensures sound { StaysSound J.text J.found J.may_leave desk result.1 }
 {
@@ -269,6 +271,7 @@ fn renew_by<K: CommitAt, J: Journal + Drop, C: Clock>(
 {
     updates_keep_good();
     changes_say_all();
+    can_be_said(&changes);
     match print_changes(alloc, &changes) {
         Ok(lines) => {
             let (came, desk) = renew(alloc, desk, Deed::Update(changes));

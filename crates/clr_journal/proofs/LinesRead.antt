@@ -19,7 +19,7 @@ use Rattle.clr_text.specs.Values.{moment_in}
 use Rattle.clr_update.specs.Changes.{Changes}
 use Rattle.clr_text.specs.declared.fault.TextFault.{TextFault}
 use Rattle.clr_journal.proofs.Values.{there}
-use Rattle.clr_journal.specs.Line.{Entry, carried, withdrawn, entry_data, done, line_in, login_in, read_line}
+use Rattle.clr_journal.specs.Line.{Entry, bare, carried, withdrawn, entry_data, done, line_in, login_in, read_line}
 use Rattle.clr_journal.specs.declared.line.Receipt.{Receipt}
 
 login_back : (login : Option (List ℕ)) → login_in (optional_data string login) ≡ Some login
@@ -33,9 +33,6 @@ carried_back receipt q reply is =
     option_and_then (λ (r : Receipt). option_and_then (λ (c : Command). Some (carried r (command c) reply)) (result_ok found))
     (option_map (λ (o : Option (List ℕ)). record { number = receipt.number; received = receipt.received; login = o }) login) in
     ap₂ from (login_back receipt.login) is
-
-abbrev pub bare : Receipt → Receipt
-bare receipt = record { number = receipt.number; received = receipt.received; login = None }
 
 pub updated_back : (receipt : Receipt) (of : Changes) (reply : Data) → changes_in (changes_data of) ≡ Some of
     → line_in (entry_data (carried receipt (update of) reply)) ≡ Some (carried (bare receipt) (update of) done)

@@ -17,9 +17,9 @@ use Rattle.clr_text.proofs.PlainTexts.{plain_values_read_back}
 use Rattle.clr_text.specs.CommandLaws.{is_before, is_plain, members_are_plain}
 use Rattle.clr_text.specs.CommandText.{can_be_sent, command_data}
 use Rattle.clr_text.specs.Json.{optional_data, whole_data}
-use Rattle.clr_journal.proofs.LinesRead.{archived_back, bare, carried_back, carried_is_flat, updated_back, withdrawn_back}
+use Rattle.clr_journal.proofs.LinesRead.{archived_back, carried_back, carried_is_flat, updated_back, withdrawn_back}
 use Rattle.clr_journal.specs.Laws.{LinesReadBack, is_done, is_done_member, is_no_login, login_is_text}
-use Rattle.clr_journal.specs.Line.{Entry, carried, withdrawn, archive_data, done, entry_data, line_in, line_text, read_line}
+use Rattle.clr_journal.specs.Line.{Entry, bare, carried, withdrawn, archive_data, done, entry_data, line_in, line_text, read_line}
 use Rattle.clr_journal.specs.declared.line.Receipt.{Receipt}
 
 one_member : (key : List ℕ) (d : Data) (others : Members) → are_ascii key ≡ true → is_before key others ≡ true → is_plain d ≡ true → members_are_plain others ≡ true

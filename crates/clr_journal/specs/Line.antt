@@ -36,6 +36,10 @@ entry_of (Withdrawn n) = withdrawn n
 abbrev pub done : Data
 done = object (member (codes "reply") (string (codes "accepted")) no_members)
 
+-- a receipt without its login, as such a line has it
+abbrev pub bare : Receipt → Receipt
+bare receipt = record { number = receipt.number; received = receipt.received; login = None }
+
 abbrev pub archive_data : ℕ → Data
 archive_data before = object (member (codes "before") (whole_data before) no_members)
 

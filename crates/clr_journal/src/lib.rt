@@ -13,6 +13,9 @@ pub use clr_append::{Journal, OnDisk, WriteFault};
 pub use clr_deeds::{Changes, Deed};
 pub use commands::carried_out;
 pub use line::{Carried, Line, Receipt, is_accepted};
-pub use print::{print_archived, print_carried, print_updated, print_withdrawn};
+pub use print::{
+    archived_value, before_value, commanded_value, login_value, print_archived, print_carried,
+    print_updated, print_withdrawn, updated_value, withdrawn_value,
+};
 pub use read::{done_value, read_line};
 pub use reading::Turn;

@@ -1,18 +1,20 @@
-//! The text of a line.
-ghost use Rattle.std.specs.Prelude.{◌≡◌, IfOk, Some, string_bytes, true};
+//! The text of a line, and its value.
+ghost use Rattle.std.specs.Prelude.{◌≡◌, IfOk, IsTrue, Some, string_bytes, true};
+ghost use Rattle.std.specs.List.{list_all};
 ghost use Rattle.serde_json.specs.View.{view};
 ghost use Rattle.serde_json.specs.Data.{string};
 ghost use Rattle.clr_deeds.specs.Deeds.{archive, command as asked, update};
+ghost use Rattle.clr_delta.specs.Rows.{is_open};
 ghost use Rattle.clr_update.specs.Shown.{as_changes};
 ghost use Rattle.clr_text.specs.CommandText.{has_its_moment};
 ghost use Rattle.clr_text.specs.Json.{optional_data};
 ghost use Rattle.clr_text.specs.Replies.{reply_data};
-ghost use Rattle.clr_journal.specs.Line.{archive_data, carried, done, entry_data, line_text};
+ghost use Rattle.clr_journal.specs.Line.{archive_data, bare, carried, done, entry_data, line_text};
 ghost use Rattle.clr_journal.specs.Line.{read_line, withdrawn};
 
 use crate::line::Receipt;
 use clr_deeds::Changes;
-use clr_delta::changes_value;
+use clr_delta::{can_be_said, changes_value};
 use clr_rules::{Command, Moment, Reply, Text};
 use clr_text::{can_be_sent, command_value, reply_value};
 use serde_json::{Value, json};
@@ -40,31 +42,42 @@ pub fn print_carried(
 }
 
 /// The line of an update with these changes, without a line feed. A login of the receipt is not
-/// written.
+/// written. It reads as that line without a login, where no point that goes has a position.
 pub fn print_updated(
     alloc: Global,
     receipt: &Receipt,
     changes: &Changes,
 ) -> Result<String, AllocError>
-    ensures { IfOk result (λ text. string_bytes text
+    ensures text { IfOk result (λ text. string_bytes text
         ≡ line_text (carried receipt.now (update (as_changes changes.now)) done)) }
+    ensures reads { IfOk result (λ text.
+        IsTrue (list_all (λ p. is_open p.position) changes.now.points_go.items)
+        → read_line (string_bytes text)
+        ≡ Some (carried (bare receipt.now) (update (as_changes changes.now)) done)) }
 {
+    can_be_said(changes);
     let value = updated_value(alloc, receipt, changes)?;
     let text = value.to_string(alloc)?;
+    let _bytes = text.as_str();
     Ok(text)
 }
 
-/// The line of an archive, without a line feed. A login of the receipt is not written.
+/// The line of an archive, without a line feed. A login of the receipt is not written. It reads as
+/// that line without a login.
 pub fn print_archived(
     alloc: Global,
     receipt: &Receipt,
     before: Moment,
 ) -> Result<String, AllocError>
-    ensures { IfOk result (λ text. string_bytes text
+    ensures text { IfOk result (λ text. string_bytes text
         ≡ line_text (carried receipt.now (archive before) done)) }
+    ensures reads { IfOk result (λ text. read_line (string_bytes text)
+        ≡ Some (carried (bare receipt.now) (archive before) done)) }
 {
+    before.seconds();
     let value = archived_value(alloc, receipt, before)?;
     let text = value.to_string(alloc)?;
+    let _bytes = text.as_str();
     Ok(text)
 }
 
@@ -91,9 +104,22 @@ fn carried_value(
     ensures { IfOk result (λ value. view value
         ≡ entry_data (carried receipt.now (asked command.now) (reply_data reply.now))) }
 {
+    let reply = reply_value(alloc, reply)?;
+    commanded_value(alloc, receipt, command, reply)
+}
+
+/// The JSON value of a command whose reply is this value.
+pub fn commanded_value(
+    alloc: Global,
+    receipt: &Receipt,
+    command: &Command,
+    reply: Value,
+) -> Result<Value, AllocError>
+    ensures { IfOk result (λ value. view value
+        ≡ entry_data (carried receipt.now (asked command.now) (view reply))) }
+{
     let login = login_value(alloc, &receipt.login)?;
     let command = command_value(alloc, command)?;
-    let reply = reply_value(alloc, reply)?;
     json!(in alloc; {
         "command": command,
         "login": login,
@@ -104,7 +130,11 @@ fn carried_value(
 }
 
 /// The JSON value of an update.
-fn updated_value(alloc: Global, receipt: &Receipt, changes: &Changes) -> Result<Value, AllocError>
+pub fn updated_value(
+    alloc: Global,
+    receipt: &Receipt,
+    changes: &Changes,
+) -> Result<Value, AllocError>
     ensures { IfOk result (λ value. view value
         ≡ entry_data (carried receipt.now (update (as_changes changes.now)) done)) }
 {
@@ -117,7 +147,7 @@ fn updated_value(alloc: Global, receipt: &Receipt, changes: &Changes) -> Result<
 }
 
 /// The JSON value of an archive.
-fn archived_value(alloc: Global, receipt: &Receipt, before: Moment) -> Result<Value, AllocError>
+pub fn archived_value(alloc: Global, receipt: &Receipt, before: Moment) -> Result<Value, AllocError>
     ensures { IfOk result (λ value. view value
         ≡ entry_data (carried receipt.now (archive before) done)) }
 {
@@ -130,14 +160,14 @@ fn archived_value(alloc: Global, receipt: &Receipt, before: Moment) -> Result<Va
 }
 
 /// What a line says of an archive.
-fn before_value(alloc: Global, before: Moment) -> Result<Value, AllocError>
+pub fn before_value(alloc: Global, before: Moment) -> Result<Value, AllocError>
     ensures { IfOk result (λ value. view value ≡ archive_data before) }
 {
     json!(in alloc; {"before": before.seconds()})
 }
 
 /// A login as a JSON value: a text, or null.
-fn login_value(alloc: Global, login: &Option<Text>) -> Result<Value, AllocError>
+pub fn login_value(alloc: Global, login: &Option<Text>) -> Result<Value, AllocError>
     ensures { IfOk result (λ value. view value ≡ optional_data string login.now) }
 {
     match login {
@@ -147,7 +177,7 @@ fn login_value(alloc: Global, login: &Option<Text>) -> Result<Value, AllocError>
 }
 
 /// The JSON value that withdraws the deed of a number.
-fn withdrawn_value(alloc: Global, number: u64) -> Result<Value, AllocError>
+pub fn withdrawn_value(alloc: Global, number: u64) -> Result<Value, AllocError>
     ensures { IfOk result (λ value. view value ≡ entry_data (withdrawn number)) }
 {
     json!(in alloc; {"number": number, "withdrawn": true})

@@ -29,7 +29,8 @@ use Rattle.clr_desk.specs.declared.desk.Desk.{Desk}
 use Rattle.clr_desk.specs.declared.desk_fault.DeskFault.{DeskFault}
 use Rattle.clr_desk.specs.declared.desk_fault.DeskFault.TheVariants.{Journal, NoMemory, Store}
 use Rattle.clr_desk.proofs.Keeping.{keeps_itself}
-use Rattle.clr_level.specs.Carrying.{AreDoneAt, IsNoCommand}
+use Rattle.clr_level.specs.Carrying.{AreDoneAt}
+use Rattle.clr_level.specs.Forward.{IsNoCommand}
 use Rattle.clr_level.specs.Journaling.{FailsToo, HasText, IsBeside, IsDeedNoted, IsDeedUnwritten, IsDurable, IsOfJournal, IsSafe, IsSound, IsWithdrawn, StaySafe, end_said, said, with_link}
 use Rattle.clr_level.specs.Levelling.{IsKeptLevel, IsLeft}
 use Rattle.clr_level.specs.Placing.{ComesTo, IsAt, StaysShown}
@@ -245,6 +246,7 @@ module _ {K J C : Type 0} (kept : K → State) (takes : Taking K) (hears : Heari
     passed = beside.login ∙ noted.passed;
     clock = beside.clock ∙ noted.clock;
     received = subst (λ (c : C). shows c noted.receipt.received) (sym beside.clock) noted.received;
+    timed = noted.timed;
     text_is = ap text beside.journal ∙ noted.text_is;
     end_is = beside.at ∙ noted.end_is;
     certain = noted.certain;

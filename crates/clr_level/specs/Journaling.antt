@@ -1,4 +1,4 @@
--- A KEEPER WITH A JOURNAL: which line a command has, and when.
+-- A KEEPER WITH A JOURNAL: which line a command, an update or an archive has, and when.
 use Rattle.std.specs.Prelude.{◌≡◌, ◌⊎◌, ◌+◌, ◌^◌, ◌<◌, ◌&&◌, ◌||◌, ℕ, nat_lt, Bool, true, false, not}
 use Rattle.std.specs.Prelude.{List, [], length, Option, Some, None, Ok, Err, if◌then◌else◌}
 use Rattle.sqlite.specs.State.{State}
@@ -116,7 +116,7 @@ pub record IsNoted {K J C : Type 0} (shows : C → ℕ → Type 0) (text : J →
   pub certain : is_doubtful old.last ≡ false
 
 -- THE LINE OF AN UPDATE OR OF AN ARCHIVE that is carried out is added in the same way. It has no
--- login
+-- login, and its numbers have 64 bits
 pub record IsDeedNoted {K J C : Type 0} (shows : C → ℕ → Type 0) (text : J → List ℕ)
     (old : Keeper K J C) (deed : Deed) (new : Keeper K J C) : Type 0 where
   pub receipt : Receipt
@@ -126,6 +126,7 @@ pub record IsDeedNoted {K J C : Type 0} (shows : C → ℕ → Type 0) (text : J
   pub passed : new.login ≡ None
   pub clock : new.clock ≡ old.clock
   pub received : shows new.clock receipt.received
+  pub timed : receipt.received < 2 ^ 64
   pub text_is : text new.journal ≡ with_link (said text old) (end_said old).sum
       (carried receipt deed done)
   pub end_is : new.at ≡ place_with (end_said old) (carried receipt deed done)

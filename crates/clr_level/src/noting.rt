@@ -120,6 +120,7 @@ impl<K: CommitAt, J: Journal + Drop, C: Clock> Keeper<K, J, C> {
         self.make_ready(true)?;
         let receipt = self.bare_receipt()?;
         let number = receipt.number;
+        let _received = receipt.received;
         let Link { text, sum } = self.deed_line(&receipt, deed)?;
         self.is_synced = false;
         append(&mut self.journal, text)?;
@@ -172,7 +173,7 @@ impl<K: CommitAt, J: Journal + Drop, C: Clock> Keeper<K, J, C> {
     }
 
     /// Makes the journal ready for a line: the withdrawal that is owed is written, and synced; for
-    /// a command that is accepted all lines are. A journal in doubt fails.
+    /// a deed that is accepted all lines are. A journal in doubt fails.
     fn make_ready(&mut self, is_accepted: bool) -> Result<(), DeskFault>
         ensures keeper { self.new.keeper ≡ self.old.keeper }
         ensures login { self.new.login ≡ self.old.login }
@@ -327,7 +328,7 @@ impl<K: CommitAt, J: Journal + Drop, C: Clock> Keeper<K, J, C> {
         }
     }
 
-    /// The receipt of the next command. There is none after the greatest number.
+    /// The receipt of the next deed. There is none after the greatest number.
     fn receipt(&mut self) -> Result<Receipt, DeskFault>
         ensures number { IfOk result (λ receipt. receipt.number ≡ self.old.at.number + 1) }
         ensures login { IfOk result (λ receipt. receipt.login ≡ self.old.login) }

@@ -3,7 +3,7 @@ use Rattle.clr_level.specs.Journaling.{FailsToo}
 use Rattle.clr_update.specs.Shown.{as_changes}
 use Rattle.clr_edge.specs.declared.fault.Fault.TheVariants.{Memory}
 use Rattle.clr_commands.specs.Update.{IsRenewed, Texts}
-use Rattle.clr_commands.proofs.Updating.{levels_alike, memory_told, renewed_with, unrenewed}
+use Rattle.clr_commands.proofs.Updating.{are_said, levels_alike, memory_told, renewed_with, unrenewed}
 use Rattle.clr_commands.proofs.update.renew_by.Goals as goal
 
 -- the line was noted, and the changes were made
@@ -12,7 +12,7 @@ returns-in-Ok-clause-renewed g c u accepted same =
     subst (λ (it : Texts). IsRenewed g.K.Commit.kept g.K.Commit.fails c.args.desk c.renew-came.result.1 u it) (sym c.reported.ensures)
     (renewed_with g.K.Commit.kept g.K.CommitAt.has_place g.K.Commit.fails g.C.Clock.shows g.J.Journal.text g.J.Journal.found g.J.Journal.may_leave
     u (as_changes c.args.changes) c.in-Ok.lines c.args.desk c.renew-came.result.1 c.renew-came.result.0 c.updates_keep_good.ensures.good c.changes_say_all.ensures
-    accepted same c.in-Ok.ensures c.renew-came.ensures.renewed)
+    accepted same (are_said c.args.desk.book.register u (as_changes c.args.changes) accepted same c.can_be_said.ensures) c.in-Ok.ensures c.renew-came.ensures.renewed)
 
 pub returns-in-Ok-clause-level : goal.returns-in-Ok-clause-level
 returns-in-Ok-clause-level g c = c.renew-came.ensures.level

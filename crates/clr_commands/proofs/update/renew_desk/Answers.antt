@@ -1,4 +1,4 @@
-use Rattle.std.proofs.Common.{◌≡◌, Bool, ap, refl, subst, sym}
+use Rattle.std.proofs.Common.{◌≡◌, Bool, ap, inl, refl, subst, sym}
 use Rattle.clr_book.specs.Book.{Shelved}
 use Rattle.clr_changes.specs.Shown.{as_update}
 use Rattle.clr_level.specs.Journaling.{FailsToo}
@@ -18,6 +18,9 @@ returns-then-dry_run-clause-done g c =
     subst (λ (dry_run : Bool). IsDone (λ (it : Keeper g.row.K.Denot g.row.J.Denot g.row.C.Denot). g.K.Commit.kept it.keeper) dry_run c.args.desk.book.register (as_update c.args.update)
     c.try_update.result c.args.desk.store c.args.desk.store) (sym c.if-dry_run.true) refl
 
+pub returns-then-dry_run-clause-said : goal.returns-then-dry_run-clause-said
+returns-then-dry_run-clause-said g c = inl refl
+
 pub returns-then-dry_run-clause-level : goal.returns-then-dry_run-clause-level
 returns-then-dry_run-clause-level g c = levels_alike g.K.Commit.kept g.K.CommitAt.has_place g.J.Journal.text c.args.desk
 
@@ -32,3 +35,6 @@ pub returns-else-dry_run-clause-done : goal.returns-else-dry_run-clause-done
 returns-else-dry_run-clause-done g c =
     subst (λ (dry_run : Bool). IsDone (λ (it : Keeper g.row.K.Denot g.row.J.Denot g.row.C.Denot). g.K.Commit.kept it.keeper) dry_run c.args.desk.book.register (as_update c.args.update)
     c.renew_unless.result.0 c.args.desk.store c.renew_unless.result.1.store) (sym c.if-dry_run.false) c.renew_unless.ensures.renewed.is_done
+
+pub returns-else-dry_run-clause-said : goal.returns-else-dry_run-clause-said
+returns-else-dry_run-clause-said g c = c.renew_unless.ensures.renewed.said

@@ -46,7 +46,7 @@ returns-in-Logged-clause-visit g c =
     c.renew_desk-report.result.1
     (subst (λ opened. IsUpWith g.R.Tables.Store g.R.Databases.opens c.args.args.now.database.now by c.args.args.now.journal c.args.rt.now c.take_up.new.rt opened)
     c.in-Logged.is c.in_ok-opened.ensures.up)
-    c.renew_desk-report.ensures.reports c.renew_desk-report.ensures.done c.renew_desk-report.ensures.level c.renew_desk-report.ensures.sound
+    c.renew_desk-report.ensures.reports c.renew_desk-report.ensures.done c.renew_desk-report.ensures.said c.renew_desk-report.ensures.level c.renew_desk-report.ensures.sound
     c.let_go-closed.ensures.gone c.let_go-closed.ensures.fault c.first_fault-in-Logged.ensures
 
 pub returns-in-Logged-clause-faults : goal.returns-in-Logged-clause-faults
@@ -59,7 +59,7 @@ pub returns-in_err-opened-clause-visit : goal.returns-in_err-opened-clause-visit
 returns-in_err-opened-clause-visit g c =
     not_worked g.R.Tables.Store g.R.Databases.opens g.R.Databases.shuts g.R.Databases.shuts g.R.Databases.ends
     c.args.args.now.database.now (Unit {0}) first_fault (logs g.R.Journals g.R.Log.Journal g.R.Time.Clock.shows)
-    (UpdatesAlone c.args.args.now.dry_run (as_update c.args.update)) c.args.args.now.journal _ c.args.rt.now c.take_up.new.rt _
+    (UpdatesAlone c.args.args.now (as_update c.args.update)) c.args.args.now.journal _ c.args.rt.now c.take_up.new.rt _
     c.from_residual.ensures.1 (λ closed. refl) tt (λ shut. shut) c.in_err-opened.ensures.none
 
 pub returns-in_err-opened-clause-faults : goal.returns-in_err-opened-clause-faults
