@@ -38,7 +38,7 @@ use Rattle.clr_desk.proofs.Givings.{leads_itself}
 use Rattle.clr_desk.proofs.Keeping.{keeps_on}
 use Rattle.clr_level.specs.Carrying.{AreDoneAt, CarriesDeed}
 use Rattle.clr_level.specs.Crash.{AreAfterAt, KeepsTables}
-use Rattle.clr_level.specs.Forward.{GoesOn, GoesThrough, IsRenewed}
+use Rattle.clr_level.specs.Forward.{GoesOn, GoesThrough, IsNoCommand, IsRenewed}
 use Rattle.clr_level.specs.Placing.{ComesTo, StaysShown}
 use Rattle.clr_level.proofs.Accepting.{accepted_data}
 use Rattle.clr_level.proofs.Crashes.{left_itself}
@@ -187,7 +187,8 @@ module _ {K : Type 0} (kept : K → State) (takes : Taking K) (hears : Hearing K
 
   -- ---- an update or an archive, which comes to this register
 
-  module _ (So : Type 0) (old new : Desk K) (deed : Deed) (S : Register) (place : Place) (same : So → S ≡ after_deed old.book.register deed) where
+  module _ (So : Type 0) (old new : Desk K) (deed : Deed) (S : Register) (place : Place) (same : So → S ≡ after_deed old.book.register deed)
+      (no : IsNoCommand deed) where
     abbrev T : Register
     T = after_deed old.book.register deed
 
@@ -226,6 +227,7 @@ module _ {K : Type 0} (kept : K → State) (takes : Taking K) (hears : Hearing K
           crash = deed_left left;
           led = goes_renewed kept takes hears has_place old new (record {
             deed = deed;
+            is = no;
             place = place;
             came = Ok tt;
             comes = record {
@@ -266,6 +268,7 @@ module _ {K : Type 0} (kept : K → State) (takes : Taking K) (hears : Hearing K
           crash = deed_left left;
           led = goes_renewed kept takes hears has_place old new (record {
             deed = deed;
+            is = no;
             place = place;
             came = Err fault;
             comes = record {
@@ -299,7 +302,7 @@ module _ {K : Type 0} (kept : K → State) (takes : Taking K) (hears : Hearing K
       → Renews {X = Unit {0}} kept has_place fails ⊤ old new (archived before old.book.register) place came
       → CarriesDeed kept takes hears has_place fails old new (archive before) place came
   archive_done old new before place came comes =
-      renewed ⊤ old new (archive before) (archived before old.book.register) place (λ so. refl) came (always came) comes
+      renewed ⊤ old new (archive before) (archived before old.book.register) place (λ so. refl) tt came (always came) comes
 
   -- ---- changes, and the update that they say
 
@@ -321,11 +324,11 @@ module _ {K : Type 0} (kept : K → State) (takes : Taking K) (hears : Hearing K
     pub update_done : (text : _) → IsUpdatedAt kept has_place fails old new u place (Ok (reported.Changes text))
         → CarriesDeed kept takes hears has_place fails old new (update of) place (Ok tt)
     update_done text (report, comes) =
-        renewed_done (in_the_way R u ≡ None) old new (update of) (updated R u) place so_after report.0 comes
+        renewed_done (in_the_way R u ≡ None) old new (update of) (updated R u) place so_after tt report.0 comes
 
     pub update_missed : (fault : DeskFault) → IsUpdatedAt kept has_place fails old new u place (Err fault)
         → CarriesDeed kept takes hears has_place fails old new (update of) place (Err fault)
-    update_missed fault comes = renewed_missed (in_the_way R u ≡ None) old new (update of) (updated R u) place so_after fault comes
+    update_missed fault comes = renewed_missed (in_the_way R u ≡ None) old new (update of) (updated R u) place so_after tt fault comes
 
     pub update_in_the_way : (obstacle : _) → IsUpdatedAt kept has_place fails old new u place (Ok (reported.InTheWay obstacle))
         → CarriesDeed kept takes hears has_place fails old new (update of) place (Err NoMemory)

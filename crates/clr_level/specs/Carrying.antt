@@ -1,9 +1,9 @@
 -- A DEED AT A DESK: what comes of its register, of what keeps its tables, and of what a crash leaves.
-use Rattle.std.specs.Prelude.{◌≡◌, true, Some, IfErr, OnErr, OnOk, ⊤}
+use Rattle.std.specs.Prelude.{◌≡◌, true, Some, IfErr, OnErr, OnOk}
 use Rattle.sqlite.specs.Effect.{Database}
 use Rattle.sqlite.specs.State.{HasCleanDisk, State, Survives}
 use Rattle.sqlite.specs.Tree.{Trees}
-use Rattle.clr_deeds.specs.Deeds.{Deed, after_deed, archive, command, update}
+use Rattle.clr_deeds.specs.Deeds.{Deed, after_deed}
 use Rattle.clr_rules.specs.Good.{IsGood}
 use Rattle.clr_rules.specs.Register.{Register}
 use Rattle.clr_place.specs.declared.place.Place.{Place}
@@ -18,7 +18,7 @@ use Rattle.clr_desk.specs.Taking.{Came, Hearing, Taking}
 use Rattle.clr_desk.specs.declared.desk.Desk.{Desk}
 use Rattle.clr_desk.specs.declared.desk_fault.DeskFault.{DeskFault}
 use Rattle.clr_level.specs.Crash.{KeepsTables}
-use Rattle.clr_level.specs.Forward.{GoesOn}
+use Rattle.clr_level.specs.Forward.{GoesOn, IsNoCommand}
 use Rattle.clr_level.specs.Placing.{ComesTo, StaysShown}
 
 -- where the database had the tables of a good register, the trees have those after a deed, and this
@@ -29,12 +29,6 @@ AreDoneAt has_place before R deed place trees = IsGood R → HasTables before (t
 
 abbrev pub IsTaken : Register → Deed → Type 0
 IsTaken R deed = IsGood R × (is_accepted (deed_reply R deed) ≡ true)
-
--- it is an update or an archive, which is committed also where it changes nothing
-abbrev pub IsNoCommand : Deed → Type 0
-IsNoCommand (command q) = ⊥
-IsNoCommand (update of) = ⊤
-IsNoCommand (archive before) = ⊤
 
 -- A DEED IS CARRIED OUT, where a good register accepts it, and what keeps its tables shows the place
 -- then; or a fault leaves all as it is. A crash leaves what it left before, or both

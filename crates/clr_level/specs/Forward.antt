@@ -10,7 +10,7 @@ use Rattle.clr_rules.specs.declared.command.Command.{Command}
 use Rattle.clr_rules.specs.declared.reply.Reply.{Reply}
 use Rattle.clr_answer.specs.Decision.{is_accepted as accepts}
 use Rattle.clr_place.specs.declared.place.Place.{Place}
-use Rattle.clr_deeds.specs.Deeds.{Deed, after_deed, deed_of}
+use Rattle.clr_deeds.specs.Deeds.{Deed, after_deed, archive, command, deed_of, update}
 use Rattle.clr_journal.specs.Answered.{deed_reply}
 use Rattle.clr_journal.specs.Journals.{carried_out, next_place, withdraws}
 use Rattle.clr_journal.specs.Line.{Entry, carried, is_accepted, withdrawn}
@@ -195,11 +195,18 @@ abbrev pub IsMoved : {K : Type 0} → (K → State) → Placing → K → K → 
 IsMoved kept has_place old new = (place : Place) × (came : Came)
     × CommitsAt has_place (kept old) (kept new) [] place came
 
--- ITS REGISTER CAME TO THE ONE AFTER A DEED, by an update or an archive, with a place; or a fault
--- left it
+-- a deed is an update or an archive, which is committed also where it changes nothing
+abbrev pub IsNoCommand : Deed → Type 0
+IsNoCommand (command q) = ⊥
+IsNoCommand (update of) = ⊤
+IsNoCommand (archive before) = ⊤
+
+-- ITS REGISTER CAME TO THE ONE AFTER A DEED, which is an update or an archive, with a place; or a
+-- fault left it
 pub record IsRenewed {K : Type 0} (kept : K → State) (has_place : Placing) (old new : Desk K)
     : Type 0 where
   pub deed : Deed
+  pub is : IsNoCommand deed
   pub place : Place
   pub came : Came
   pub comes : Renews kept has_place (λ fault. ⊤) ⊤ old new (after_deed old.book.register deed)

@@ -17,7 +17,8 @@ use Rattle.clr_desk.specs.Placing.{Placing}
 use Rattle.clr_desk.specs.Taking.{Came, Hearing, Taking}
 use Rattle.clr_desk.specs.declared.desk.Desk.{Desk}
 use Rattle.clr_desk.specs.declared.desk_fault.DeskFault.{DeskFault}
-use Rattle.clr_level.specs.Carrying.{AreDoneAt, CarriesDeed, IsNoCommand}
+use Rattle.clr_level.specs.Carrying.{AreDoneAt, CarriesDeed}
+use Rattle.clr_level.specs.Forward.{IsNoCommand}
 use Rattle.clr_level.specs.Crash.{KeepsTables}
 use Rattle.clr_level.specs.Journaling.{FailsToo, IsBeside, IsDeedNoted, IsDeedUnwritten, IsDurable}
 use Rattle.clr_level.specs.Journaling.{IsSafe, IsSound, IsWithdrawn, StaySafe}
