@@ -78,7 +78,7 @@ no-line held (Some bytes) None after keeps end none = absurd keeps
 no-line held (Some bytes) (Some xs) after keeps end none = ap ended_lines (sym keeps ∙ ap (λ t. held ++ t) end ∙ append-nil held) ∙ none
 
 pub too-long : (held : List ℕ) (first known : Option (List ℕ)) → Keeps first (prepend_known held known)
-    → ended_lines held ≡ [] → 1048576 < length held → IfSome first IsTooLong
+    → ended_lines held ≡ [] → 4194304 < length held → IfSome first IsTooLong
 too-long held None known keeps none more = tt
 too-long held (Some bytes) None keeps none more = absurd keeps
 too-long held (Some bytes) (Some xs) keeps none more = (held, xs, sym keeps, none, more)

@@ -23,7 +23,7 @@ IsNextLine (Some line) (Some after) bytes =
 -- what was left has no line feed among its first bytes, and these are more than a line may have
 abbrev pub IsTooLong : List ℕ → Type 0
 IsTooLong bytes = (front : List ℕ) × (rest : List ℕ) × (bytes ≡ front ++ rest)
-    × (ended_lines front ≡ []) × (1048576 < length front)
+    × (ended_lines front ≡ []) × (4194304 < length front)
 
 -- ---- the end of a file
 

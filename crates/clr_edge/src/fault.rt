@@ -76,7 +76,7 @@ pub enum JournalFault {
     OtherRegister,
     /// It ends before the register's number.
     TooShort,
-    /// At this number it has another sum than the register, withdraws the register's command, or
+    /// At this number it has another sum than the register, withdraws the register's deed, or
     /// has another reply than the register gives.
     Differs(u64),
     /// The register has a journal, and none is named.
@@ -96,7 +96,7 @@ pub enum JournalFault {
 pub enum VerifyFault {
     /// The first line of the journal is not of these files.
     Files,
-    /// The command of this number has another reply in the run than in its line.
+    /// The deed of this number has another reply in the run than in its line.
     Reply(u64),
     /// The tables differ, first in this row.
     Differs(Difference),
@@ -275,7 +275,7 @@ pub enum Detail {
     Version(i64),
     /// The table with a row that does not read.
     Table(TableName),
-    /// The number of a line of a journal, or of its command, each counted from 1.
+    /// The number of a line of a journal, or of its deed, each counted from 1.
     Number(u64),
     /// The table and the key of the first row that differs.
     Differs(Difference),

@@ -10,7 +10,7 @@ use clr_stream::{CountedRead, ReadFault};
 use std::alloc::{AllocError, Global};
 
 /// The most bytes of a line.
-pub const MAX_LINE_BYTES: usize = 1_048_576;
+pub const MAX_LINE_BYTES: usize = 4_194_304;
 
 /// How many bytes are asked for at a time.
 const PIECE: usize = 8192;
@@ -22,7 +22,7 @@ pub struct Lines {
     /// How many of these bytes were given.
     given: usize,
     ghost within: { given ≤ length held.items },
-    ghost few: { length held.items ≤ given + 1_048_577 },
+    ghost few: { length held.items ≤ given + 4_194_305 },
 }
 
 impl Lines {
@@ -42,7 +42,7 @@ impl Lines {
     /// The next line, without its line feed. None at the end of the file: what no line feed ends is
     /// none, and stays held.
     ///
-    /// `ReadFailed` where the reader failed, `TooLong` where a line has more than 1,048,576 bytes,
+    /// `ReadFailed` where the reader failed, `TooLong` where a line has more than 4,194,304 bytes,
     /// `NoMemory` where memory ran out.
     pub fn next<R: CountedRead>(
         &mut self,
@@ -52,7 +52,7 @@ impl Lines {
         ensures line { IfOk result (λ line. IfSome (left_of self.old (R.remaining reader.old))
             (IsNextLine line (left_of self.new (R.remaining reader.new)))) }
         ensures short { IfOk result (λ line.
-            IfSome line (λ text. length text.items ≤ 1_048_576)) }
+            IfSome line (λ text. length text.items ≤ 4_194_304)) }
         ensures ends { IfOk result (λ _. IfSome (left_of self.old (R.remaining reader.old))
             (EndsAs (left_of self.new (R.remaining reader.new)))) }
         ensures none { IfOk result (λ line. IfNone line (IsAtEnd (R.remaining reader.new))) }
@@ -95,7 +95,7 @@ impl Lines {
         ensures one { IfOk result (λ line. IfSome line (λ text.
             list_any is_line_feed text.items ≡ false)) }
         ensures short { IfOk result (λ line.
-            IfSome line (λ text. length text.items ≤ 1_048_576)) }
+            IfSome line (λ text. length text.items ≤ 4_194_304)) }
         ensures none { IfOk result (λ line. IfNone line
             ((self.new ≡ self.old) × (ended_lines (held_of self.old) ≡ []))) }
         ensures failed { OnErr result (self.new ≡ self.old) }
@@ -127,7 +127,7 @@ impl Lines {
 
     /// Reads on, and says how many bytes there were: none at the end of the file.
     fn read_on<R: CountedRead>(&mut self, reader: &mut R) -> Result<usize, ReadFault>
-        requires { length (held_of self.old) ≤ 1_048_576 }
+        requires { length (held_of self.old) ≤ 4_194_304 }
         ensures left { IfOk result (λ _. Keeps (left_of self.old (R.remaining reader.old))
             (left_of self.new (R.remaining reader.new))) }
         ensures more { IfOk result (λ count.

@@ -12,4 +12,4 @@ invariant-loop-self g l = record {
 
 -- how many more bytes may be read
 abbrev pub decreases-loop-self : goal.decreases-loop-self
-decreases-loop-self g l = 1048577 - length (held_of l.self)
+decreases-loop-self g l = 4194305 - length (held_of l.self)
