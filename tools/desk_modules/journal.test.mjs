@@ -92,6 +92,24 @@ test("an update and an archive are entries, between commands and as the last lin
   assert.deepEqual([rows[0].id, rows[0].at, whoWords(rows[0].entry), replyWords(rows[0].entry)], [null, 7000, "–", "accepted"]);
 });
 
+test("the line of an update that is longer than a piece", async () => {
+  const go = [], come = Array.from({ length: 40000 }, (_, place) => ({ name: `SECTION${place}`, source: false }));
+  const updated = { points: { come: [], go }, sections: { come, go }, staff: { come: [], go } };
+  files.clear();
+  files.set("journal", `${part(1, 3, 8000)}${JSON.stringify({ number: 4, received: 8004, sum: sum(4, 8000), updated })}\n`);
+  await newest();
+  assert.deepEqual([numbers().at(-1), journal.last.number], [4, 4]);
+  files.set("journal", files.get("journal") + line(5, 8000));
+  await newest();
+  await readBackTo(["OPS/1"]);
+  assert.deepEqual([numbers(), isBegun("OPS/1"), isWhole()], [upTo(5), true, true]);
+  files.clear();
+  files.set("journal", `${part(1, 3, 9000)}${JSON.stringify({ number: 4, received: 9004, sum: sum(4, 9000), updated })}\n${line(5, 9000)}`);
+  await newest();
+  await readBackTo(["OPS/1"]);
+  assert.deepEqual([numbers(), isBegun("OPS/1"), isWhole()], [upTo(5), true, true]);
+});
+
 test("a part that is gone", async () => {
   files.clear();
   files.set("journal", part(30, 31));

@@ -64,9 +64,18 @@ function linesOf({ bytes, from }, isBegin) {
   return { ...saidBy(bytes.slice(skip, end)), begin: (from ?? 0) + skip, end: (from ?? 0) + end };
 }
 
+// A piece of a file, with a whole line in it unless it begins where the file does: the line of an update may be longer than a
+// piece, and then twice as much is read. `range` has the bytes, by how many there are to be.
+async function pieceOf(file, range) {
+  for (let size = PIECE; ; size *= 2) {
+    const answer = await bytesOf(file, range(size));
+    if (!answer.bytes || !answer.from || answer.bytes.indexOf(LINE_FEED) < answer.bytes.lastIndexOf(LINE_FEED)) return answer;
+  }
+}
+
 // The newest file from its end, at first and where it is another one than before, as after a rotation.
 async function readFromEnd() {
-  const answer = await bytesOf(NEWEST, `-${PIECE}`);
+  const answer = await pieceOf(NEWEST, (size) => `-${size}`);
   if (!answer.bytes) {
     journal.state = answer.status === 404 ? "none" : "failed";
     missed = performance.now();
@@ -119,8 +128,8 @@ async function goOn() {
 
 async function readEarlier() {
   if (journal.state !== "read" || isWhole() || !(await goOn())) return;
-  const start = Math.max(0, journal.begin - PIECE), answer = await bytesOf(journal.file, `${start}-${journal.begin - 1}`);
-  if (answer.from !== start) return;
+  const answer = await pieceOf(journal.file, (size) => `${Math.max(0, journal.begin - size)}-${journal.begin - 1}`);
+  if (!answer.bytes || answer.from + answer.bytes.length !== journal.begin) return;
   const { found, begin } = linesOf(answer, false), first = journal.entries[0]?.number ?? Infinity;
   journal.begin = begin;
   keep([...found.filter(({ number }) => number < first), ...journal.entries]);
