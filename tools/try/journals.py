@@ -23,7 +23,7 @@ import sys
 import tempfile
 import time
 
-from chain import Ahead, Chain, Place, accepts, bad_lines, carried, carried_out, ended, entries_in, first_in, first_place
+from chain import RULES, Ahead, Chain, Place, accepts, bad_lines, carried, carried_out, ended, entries_in, first_in, first_place
 from chain import first_text, found, is_bad_alone, journal_ends, lines_in, place_after, place_at_last, place_of, places_along
 from chain import rows_of, text_of, unread, verified_as, verify_ends, walk, withdraw_one, written
 from looks import FILES, TOP, Server, copied, fault, get, look, main, post, register, replied, run, same, shift
@@ -261,7 +261,7 @@ def own_form(folder):
         changed(number, re.sub(rb'("number":\d)', rb"\1,\1", text), *bad)
         changed(number, text + b" ", *bad)
         changed(number, text + b"\r", *bad)
-    changed(0, lines[0].replace(b'"rules":1', b'"rules":2'), 0)
+    changed(0, by_others(lines[0]), 0)
     changed(3, lines[3].replace(b'"reply":"accepted"', b'"reply":7'), 3)
     changed(3, lines[3].replace(b'"login":null', b'"login":7'), 3)
     changed(3, lines[3].replace(b'"sum":', b'"sun":'), 3)
@@ -690,6 +690,11 @@ def migrated(folder):
     look("and no journal is begun", not (folder / "two").exists())
 
 
+def by_others(text):
+    """A journal, or its first line, by the rules of the next number."""
+    return text.replace(b'"rules":%d' % RULES, b'"rules":%d' % (RULES + 1), 1)
+
+
 def by_other_rules(folder):
     """`migrate --after` begins a part for a register whose journal goes by other rules, and ends where the register is."""
     commands = every()
@@ -698,8 +703,8 @@ def by_other_rules(folder):
     place, text, new = place_of(path), old.read_bytes(), folder / "new"
     copy, held = copied(path, folder / "copy.db"), path.read_bytes()
     same("it is there", place.number, json.loads(lines_in(text)[-1])["number"])
-    old.write_bytes(text.replace(b'"rules":1', b'"rules":2', 1))
-    same("a journal by other rules", opened(path, old), (1, "", "fault: journal OtherRules 2\n"))
+    old.write_bytes(by_others(text))
+    same("a journal by other rules", opened(path, old), (1, "", f"fault: journal OtherRules {RULES + 1}\n"))
     same("no number is named", run("migrate", path, "--journal", new), (1, "", MISSING))
     same("no journal is named", run("migrate", path, "--after", place.number), (1, "", MISSING))
     for number in (place.number - 1, place.number + 1, f"0{place.number}", "last"):

@@ -1,4 +1,4 @@
-// What each refusal means, and what to do. Written by tools/refusal-table from docs/refusals.csv.
+// What each refusal means, and what to do. Written by tools/refusal-table from docs/RULES.md.
 
 export const REFUSALS = {
   UNKNOWN_CALLER: ["The caller, by, is not in the staff.", "Use a name of the staff list; an update of the register changes it."],
