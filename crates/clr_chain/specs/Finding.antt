@@ -26,7 +26,7 @@ abbrev pub sought_below : Place → ℕ → List (List ℕ) → Sought
 sought_below place number after =
     if nat_lt number place.number then passed number after else unmet
 
--- what a line of the register's number is: one that withdraws the command may come after the
+-- what a line of the register's number is: one that withdraws the deed may come after the
 -- register's line, where it does not have the register's sum
 abbrev pub sought_here : Bool → Entry → List (List ℕ) → Sought
 sought_here true entry after = met true (turn_after entry) after
@@ -71,11 +71,11 @@ abbrev pub accepts : Entry → Bool
 accepts (carried receipt q reply) = is_accepted reply
 accepts (withdrawn n) = false
 
--- a text says that a command was accepted
+-- a text says that a deed was accepted
 abbrev pub says_accepted : List ℕ → Bool
 says_accepted text = option_map_or accepts (read_line text) false
 
--- NO ACCEPTED LINE IS CUT OFF. A line that withdraws the register's own command is of another
+-- NO ACCEPTED LINE IS CUT OFF. A line that withdraws the register's own deed is of another
 -- journal
 abbrev pub found_after : ℕ → ReadOn → Found
 found_after number read =

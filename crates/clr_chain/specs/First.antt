@@ -1,6 +1,6 @@
 -- THE FIRST LINE OF A JOURNAL is a place: the id of the register's journal, and the number and the
 -- sum after which its lines go on. They are those of the last line of the part before it; in a
--- first part the number is 0. It names the rules by which its commands were answered.
+-- first part the number is 0. It names the rules by which its deeds were answered.
 use Rattle.std.specs.Prelude.{◌==◌, ◌≡◌, ◌^◌, ℕ, nat_lt, List, codes, Option, None, Some, bytes_eq}
 use Rattle.std.specs.Prelude.{if◌then◌else◌, true, false, option_and_then, option_map}
 use Rattle.std.specs.Str.{is_utf8}
@@ -15,7 +15,8 @@ use Rattle.clr_journal.specs.declared.reading.Turn.{Turn}
 use Rattle.clr_chain.specs.declared.chain_end.ChainEnd.{ChainEnd}
 use Rattle.clr_place.specs.declared.place.Place.{Place}
 
--- THE RULES that the program goes by. The number changes with each change of a reply to a command
+-- THE RULES that the program goes by. The number changes with each change of a reply to a command,
+-- and of what an update's or an archive's line does
 abbrev pub rules : ℕ
 rules = 1
 
@@ -75,7 +76,7 @@ other_rules_in text = option_and_then
 
 -- ---- the end of a chain
 
--- the end of a chain that has its first line alone: no command is open
+-- the end of a chain that has its first line alone: no deed is open
 abbrev pub first_turn_at : Place → Turn
 first_turn_at place = record { last = place.number; is_open = false }
 

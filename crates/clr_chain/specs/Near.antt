@@ -26,7 +26,7 @@ abbrev pub stopped : ChainEnd → List (List ℕ) → ReadOn
 stopped end texts = record { entries = []; end = end; left = texts }
 
 -- TEXTS THAT SAY NOTHING after this end of a chain: none is a line of the place's number or of a
--- lower one, the first of them does not hold its sum, and none says that a command was accepted
+-- lower one, the first of them does not hold its sum, and none says that a deed was accepted
 pub record SayNothing (place : Place) (end : ChainEnd) (texts : List (List ℕ)) : Type 0 where
   pub others : sought place texts ≡ unmet
   pub next : read_on end texts ≡ stopped end texts

@@ -23,7 +23,7 @@ pub enum ChainFault {
     /// The journal ends before the register's number.
     #[error("the journal is too short")]
     TooShort,
-    /// At this number, the register's, the journal has another sum, or withdraws the command.
+    /// At this number, the register's, the journal has another sum, or withdraws the deed.
     #[error("the journal differs at {0}")]
     Differs(u64),
     /// The line of this number does not hold its sum, and an accepted one comes after it.

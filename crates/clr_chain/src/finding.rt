@@ -32,7 +32,7 @@ pub enum Found {
     OtherRegister,
     /// The journal does not have the register's number.
     TooShort,
-    /// At this number, the register's, the journal has another sum, or withdraws the command.
+    /// At this number, the register's, the journal has another sum, or withdraws the deed.
     Differs(u64),
     /// The line of this number does not hold its sum, and an accepted one comes after it.
     BadLine(u64),
@@ -205,7 +205,7 @@ fn withdraws(lines: &[Line]) -> bool
     }
 }
 
-/// Whether a line says that a command was accepted.
+/// Whether a line says that a deed was accepted.
 fn any_accepted(alloc: Global, bytes: &[u8]) -> Result<bool, AllocError>
     ensures { IfOk result (λ any. any
         ≡ list_any says_accepted (ended_lines bytes.now)) }
@@ -220,7 +220,7 @@ fn any_accepted(alloc: Global, bytes: &[u8]) -> Result<bool, AllocError>
     Ok(false)
 }
 
-/// Whether a text says that a command was accepted.
+/// Whether a text says that a deed was accepted.
 fn says_accepted(alloc: Global, text: &[u8]) -> Result<bool, AllocError>
     ensures { IfOk result (λ says. says ≡ says_accepted text.now) }
 {

@@ -15,7 +15,8 @@ use clr_rules::Text;
 use serde_json::{Value, json};
 use std::alloc::{AllocError, Global};
 
-/// The rules that the program goes by. The number changes with each change of a reply to a command.
+/// The rules that the program goes by. The number changes with each change of a reply to a command,
+/// and of what an update's or an archive's line does.
 const RULES: u64 = 1;
 
 /// How many bytes the first line has at most, with its line feed.

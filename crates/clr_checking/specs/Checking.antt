@@ -127,7 +127,7 @@ pub record HasOtherSum (first : Place) (entries : List Entry) (place : Place) (n
   pub there : (place_after first had).number ≡ number
   pub other : place.sum ≢ (place_after first had).sum
 
--- THE COMMAND AFTER WHICH THE RUN BEGINS IS WITHDRAWN
+-- THE DEED AFTER WHICH THE RUN BEGINS IS WITHDRAWN
 pub record IsWithdrawn (entries : List Entry) (number : ℕ) : Type 0 where
   pub more : List Entry
   pub all : entries ≡ withdrawn number ∷ more
@@ -191,7 +191,7 @@ pub record IsRefusedFrom (copied : Register) (at first : Place) (texts : List (L
       ⊎ ((fault ≡ TooShort) × (IsNotThere first (before ++ entries) at
       ⊎ ((at ≡ place_after first before) × IsNotThere at entries place)))
 
--- a walk ends where these lines do; after the first line of a further part no command is open
+-- a walk ends where these lines do; after the first line of a further part no deed is open
 pub record EndsAt (walked read : ChainEnd) : Type 0 where
   pub number : walked.turn.last ≡ read.turn.last
   pub sum : walked.sum ≡ read.sum
@@ -208,7 +208,7 @@ pub record IsBadAfter (first : Place) (texts : List (List ℕ)) (text : List ℕ
   pub bad : next_link end text ≡ None
   pub number : n ≡ next_place end.turn.last
 
--- no line more withdraws the command of this number: it is not the last, or it is not open
+-- no line more withdraws the deed of this number: it is not the last, or it is not open
 abbrev pub IsSettled : Turn → ℕ → Type 0
 IsSettled turn number = turn.last ≡ number → turn.is_open ≡ false
 
@@ -217,7 +217,7 @@ abbrev pub IsSettledBy : Place → List (List ℕ) → ℕ → Type 0
 IsSettledBy first texts number = IsSettled (read_on (end_at first) texts).end.turn number
 
 -- WHY A LINE IS REFUSED, after these: it does not hold its sum; or with it there is no yes, and
--- where the sum of a place is another, no line more withdraws the command there
+-- where the sum of a place is another, no line more withdraws the deed there
 abbrev pub RefusesLine : Place → List (List ℕ) → List ℕ → (CheckFault → Type 0) → CheckFault
     → Type 0
 RefusesLine first texts text Is (BadLine n) = IsBadAfter first texts text n

@@ -27,7 +27,7 @@ use Rattle.clr_checking.specs.declared.fault.CheckFault.TheVariants.{OtherRegist
 use Rattle.clr_checking.specs.declared.fault.CheckFault.TheVariants.{Reply, Tables, TooShort}
 use Rattle.clr_checking.specs.declared.checking.Checking.{Checking}
 
--- it can take a line: its register is good, and the last command was accepted
+-- it can take a line: its register is good, and the last deed was accepted
 pub record IsReady (it : Checking) : Type 0 where
   pub good : IsGood it.desk.book.register
   pub accepted : IfSome it.last IsAccepted
@@ -51,7 +51,7 @@ pub record IsMissed (first : Place) (entries : List Entry) (place : Place) (numb
   pub there : (place_after first entries).number ≡ number
   pub other : place.sum ≢ (place_after first entries).sum
 
--- at the number of the register's place the open command is that of the place, unless the sum there
+-- at the number of the register's place the open deed is that of the place, unless the sum there
 -- is another
 abbrev pub IsOpenAt : Place → Place → List Entry → Option Carried → Option ℕ → Type 0
 IsOpenAt first place entries last (Some number) = IsMissed first entries place number
@@ -59,7 +59,7 @@ IsOpenAt first place entries None None = ⊤
 IsOpenAt first place entries (Some one) None =
     one.receipt.number ≡ place.number → place ≡ place_after first entries
 
--- THESE LINES WERE RUN, all but the open command, and each had the reply that is due. So many were
+-- THESE LINES WERE RUN, all but the open deed, and each had the reply that is due. So many were
 -- carried out, and they lead to a register
 pub record Ran (began : Register) (first place : Place) (R : Register) (last : Option Carried)
     (missed : Option ℕ) (S : Register) (count : ℕ) (is_met : Bool) (entries : List Entry)
@@ -79,9 +79,9 @@ pub record RanOver (began : Register) (first place : Place) (R : Register) (it :
   pub ran : Ran began first place R it.last it.missed it.desk.book.register it.count it.is_met
       entries
 
--- between two lines: no command is open where the last line has none that was accepted; and where
+-- between two lines: no deed is open where the last line has none that was accepted; and where
 -- the place is not met, it is not that which the run began after, unless the next line may withdraw
--- the command there
+-- the deed there
 pub record RunsOn (began : Register) (first place : Place) (R : Register) (it : Checking)
     (entries : List Entry) : Type 0 where
   pub over : RanOver began first place R it entries
@@ -148,12 +148,12 @@ pub record CheckedToFrom (copied : Register) (at first place : Place) (R : Regis
 
 -- ---- a line more
 
--- a command has the number after this one; a line that withdraws does so with the command of it
+-- a deed has the number after this one; a line that withdraws does so with the deed of it
 abbrev pub IsOfLast : Entry → ℕ → Type 0
 IsOfLast (carried receipt deed reply) number = receipt.number ≡ number + 1
 IsOfLast (withdrawn n) number = n ≡ number
 
--- the lines before it, if there are any, leave its command open
+-- the lines before it, if there are any, leave its deed open
 abbrev pub IsOfOpen : Entry → Place → List Entry → Type 0
 IsOfOpen (carried receipt deed reply) first entries = ⊤
 IsOfOpen (withdrawn n) first [] = ⊤
@@ -187,7 +187,7 @@ AnswersElse R one (Tables found) = ⊥
 AnswersElse R one TooShort = ⊥
 AnswersElse R one NoMemory = ⊤
 
--- where the sum of a place is another after a line, no line more withdraws the command there
+-- where the sum of a place is another after a line, no line more withdraws the deed there
 abbrev pub Settles : Turn → CheckFault → Type 0
 Settles turn OtherRegister = ⊤
 Settles turn (BadLine n) = ⊤

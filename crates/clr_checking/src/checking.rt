@@ -44,10 +44,10 @@ pub struct Checking<'a> {
     book: &'a DeskBook,
     /// Whether the lines came to that place, and the tables were the same there.
     is_met: bool,
-    /// The last command that was accepted: it is carried out unless the next line withdraws it.
+    /// The last deed that was accepted: it is carried out unless the next line withdraws it.
     last: Option<Carried>,
-    /// The number of the place that is sought, where the sum at the last command is another: the
-    /// next line may withdraw that command, and have the sum.
+    /// The number of the place that is sought, where the sum at the last deed is another: the
+    /// next line may withdraw that deed, and have the sum.
     missed: Option<u64>,
     count: usize,
 }
@@ -244,7 +244,7 @@ impl<'a> Checking<'a> {
         }
     }
 
-    /// After all lines: how many commands were carried out.
+    /// After all lines: how many deeds were carried out.
     pub fn end(self, alloc: Global) -> Result<usize, CheckFault>
         requires { IsReady self }
         ensures yes { IfOk result (λ count. (began : Register) (first place : AnyPlace)
@@ -405,7 +405,7 @@ impl<'a> Checking<'a> {
         }
     }
 
-    /// A command, where none is open. It is carried out once it is known that the next line does
+    /// A deed, where none is open. It is carried out once it is known that the next line does
     /// not withdraw it.
     fn take_command(&mut self, alloc: Global, one: Carried) -> Result<(), CheckFault>
         requires ready { IsReady self.old }
@@ -445,7 +445,7 @@ impl<'a> Checking<'a> {
         self.compare_at(alloc, refused)
     }
 
-    /// A command that was accepted, where none is open.
+    /// A deed that was accepted, where none is open.
     fn take_accepted(&mut self, one: Carried)
         requires settled { self.old.missed ≡ None }
         ensures last { self.new.last ≡ Some one }
@@ -465,7 +465,7 @@ impl<'a> Checking<'a> {
         self.last = Some(one);
     }
 
-    /// A line that withdraws the command of a number. Where none is open, it is the one after which
+    /// A line that withdraws the deed of a number. Where none is open, it is the one after which
     /// the run begins, that of the copy's place.
     fn withdraw(&mut self, alloc: Global, number: u64) -> Result<(), CheckFault>
         requires ready { IsReady self.old }
@@ -540,7 +540,7 @@ impl<'a> Checking<'a> {
         self.compare_at(alloc, number)
     }
 
-    /// At the number of a place, where the sum is another: if the command is open, the next line
+    /// At the number of a place, where the sum is another: if the deed is open, the next line
     /// may withdraw it.
     fn miss(&mut self, number: u64, is_open: bool) -> Result<(), CheckFault>
         ensures others { self.new ≡ record self.old { missed = self.new.missed } }
@@ -556,7 +556,7 @@ impl<'a> Checking<'a> {
         }
     }
 
-    /// Refuses, where the sum at a place was another and no line withdrew the command there.
+    /// Refuses, where the sum at a place was another and no line withdrew the deed there.
     fn settled(&self) -> Result<(), CheckFault>
         ensures none { OnOk result (self.now.missed ≡ None) }
         ensures some { IfErr result (λ fault. (number : ℕ) × (self.now.missed ≡ Some number)
@@ -568,7 +568,7 @@ impl<'a> Checking<'a> {
         }
     }
 
-    /// Carries out the open command, if there is one, and looks at its reply; and compares the
+    /// Carries out the open deed, if there is one, and looks at its reply; and compares the
     /// tables, if it is that of the register's place.
     fn close(&mut self, alloc: Global) -> Result<(), CheckFault>
         requires ready { IsReady self.old }

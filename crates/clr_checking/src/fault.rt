@@ -12,10 +12,10 @@ pub enum CheckFault {
     /// The line of this number does not hold its sum; or the next part of the journal does not go
     /// on at it.
     BadLine(u64),
-    /// The command of this number has another reply in the run than in its line.
+    /// The deed of this number has another reply in the run than in its line.
     Reply(u64),
     /// After the last line of this number, that of a place, the journal has another sum; or it
-    /// withdraws the command that the copy is at.
+    /// withdraws the deed that the copy is at.
     Differs(u64),
     /// The tables of the register differ, first in this row.
     Tables(Difference),

@@ -121,7 +121,8 @@ unlogged g = record {
 }
 
 -- with a journal: a command that is carried out has its line there, and one that is accepted has it
--- durably before its change is kept, with the place at that line
+-- durably before its change is kept, with the place at that line. Of an update or an archive
+-- `renew` of clr_level says it
 abbrev pub logged_keeper : {M J C T : Type 0} → Ghosts T → Logs M J C
     → commit.Ghosts (Keeper (Held T) J C)
 logged_keeper {M} {J} {C} {T} g logs = record {

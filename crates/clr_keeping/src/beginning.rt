@@ -204,7 +204,7 @@ fn go_on<S: Alter + Drop, R: Journals>(
     }
 }
 
-/// Where the journal of a keeper has come to, if its last command was carried out, refused or
+/// Where the journal of a keeper has come to, if its last deed was carried out, refused or
 /// withdrawn.
 fn place_of<K: CommitAt, J: Journal + Drop, C: Clock>(
     alloc: Global,

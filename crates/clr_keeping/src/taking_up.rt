@@ -27,7 +27,7 @@ use std::alloc::Global;
 /// A register that was taken up: a desk over what keeps its changes, with a journal or without one.
 #[derive(Drop)]
 pub enum Opened<K: CommitAt, J: Journal + Drop, C: Clock> {
-    /// A command goes to what keeps its change.
+    /// A deed goes to what keeps its change.
     Plain(Desk<K>),
     /// It has its line in a journal first, and its change is kept with the place at that line.
     Logged(Desk<Keeper<K, J, C>>),

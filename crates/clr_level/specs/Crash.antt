@@ -19,7 +19,7 @@ use Rattle.clr_desk.specs.declared.desk.Desk.{Desk}
 use Rattle.clr_level.specs.Forward.{AreAnswered, AreShallow, CanBeOpened, HasCome}
 use Rattle.clr_level.specs.Placing.{ArePlacedAt, IsAt}
 
--- ---- one command
+-- ---- one deed
 
 -- the trees have the tables after a command, and this place, where the database had tables
 abbrev pub AreAfterAt : Placing → Database → Register → Command → Place → Trees → Type 0

@@ -53,7 +53,8 @@ pub record IsKeptLevel {K J C : Type 0} (kept : K → State) (has_place : Placin
   pub placed : IsAt has_place (kept it.keeper) place
   pub left : IsLeft it.last R (IsLevel.more level)
 
--- LEVEL IS KEPT over any number of commands, logins and faults
+-- LEVEL IS KEPT over any number of commands, logins and faults; `Renewing`
+-- says it over updates and archives
 abbrev pub LevelIsKept : (K J C : Type 0) → Taking K → (K → State) → Placing → (C → ℕ → Type 0)
     → (J → List ℕ) → (J → List ℕ) → (J → List ℕ → Type 0) → (J → Bool) → Type 0
 LevelIsKept K J C takes kept has_place shows text found may_leave is_usable =

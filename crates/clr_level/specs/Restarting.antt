@@ -26,7 +26,7 @@ use Rattle.clr_level.specs.Levelling.{IsDue, IsKeptLevel}
 use Rattle.clr_level.specs.Placing.{IsAt}
 use Rattle.clr_level.specs.declared.keeper.Keeper.{Keeper}
 
--- A REGISTER HAS THESE LINES: they are in turn, and it is that of a run of the commands that they
+-- A REGISTER HAS THESE LINES: they are in turn, and it is that of a run of the deeds that they
 -- say were carried out, from the one that the journal began with
 pub record HasLines (first : Register) (start : Place) (had : List Entry) (R : Register)
     : Type 0 where
@@ -57,7 +57,7 @@ SafeIsKept K J C takes kept has_place shows text found may_leave is_usable =
     R old given S new
     → IsSafeAt kept has_place text may_leave first start S new
 
--- SO ARE THE LINES WITH THAT OF A COMMAND THAT IS DUE, at the end of the journal, where its line is
+-- SO ARE THE LINES WITH THAT OF A DEED THAT IS DUE, at the end of the journal, where its line is
 -- durable: it is wherever the keeper below was called, which may have kept its change
 abbrev pub DueIsSafe : (K J C : Type 0) → (K → State) → Placing → (J → List ℕ)
     → (J → List ℕ → Type 0) → Type 0
@@ -95,8 +95,8 @@ pub record OpensLevel (first : Register) (start : Place) (bytes : List ℕ) (pla
   pub left : read.left ≡ ended_lines cut
   pub found : found_in place bytes ≡ ahead read
 
--- IT IS REFUSED: after the lines up to the place one is bad, and one says that a command was
--- accepted; or the first withdraws the register's own command
+-- IT IS REFUSED: after the lines up to the place one is bad, and one says that a deed was
+-- accepted; or the first withdraws the register's own deed
 pub data IsRefused (place : Place) (rest : List ℕ) (found : Found) : Type 0 where
   not_cut : (number : ℕ) → found ≡ bad_line number
       → list_any says_accepted (ended_lines rest) ≡ true → IsRefused place rest found

@@ -15,7 +15,7 @@ pub enum OpeningFault {
     OtherRegister,
     /// The journal ends before the number of the register.
     TooShort,
-    /// At this number the journal has another sum than the register, or withdraws its command; or
+    /// At this number the journal has another sum than the register, or withdraws its deed; or
     /// the deed of this number was answered otherwise.
     Differs(u64),
     /// The line of this number does not hold its sum, and an accepted one comes after it.

@@ -1,4 +1,4 @@
-//! A keeper, and a journal in which each command has its line before the keeper takes it.
+//! A keeper, and a journal in which each deed has its line before the keeper takes it.
 ghost use Rattle.std.specs.Prelude.{◌≡◌, false, IfSome, IsSome, None};
 
 use crate::last::Last;
@@ -9,7 +9,7 @@ use clr_place::Place;
 use clr_rules::Text;
 use std::alloc::Global;
 
-/// A keeper, and a journal in which each command has its line before the keeper takes it. The
+/// A keeper, and a journal in which each deed has its line before the keeper takes it. The
 /// keeper keeps the place of the register in the journal.
 #[derive(Drop)]
 pub struct Keeper<K: CommitAt, J: Journal + Drop, C: Clock> {
@@ -27,7 +27,7 @@ pub struct Keeper<K: CommitAt, J: Journal + Drop, C: Clock> {
 }
 
 impl<K: CommitAt, J: Journal + Drop, C: Clock> Keeper<K, J, C> {
-    /// A keeper with a journal that has come to this place, and whose commands are all carried out,
+    /// A keeper with a journal that has come to this place, and whose deeds are all carried out,
     /// refused or withdrawn. No login was heard.
     pub(crate) fn new(alloc: Global, keeper: K, journal: J, clock: C, at: Place) -> Keeper<K, J, C>
         ensures keeper { result.keeper ≡ keeper }
@@ -50,7 +50,7 @@ impl<K: CommitAt, J: Journal + Drop, C: Clock> Keeper<K, J, C> {
         }
     }
 
-    /// Where the journal has come to, if its last command was carried out, refused or withdrawn.
+    /// Where the journal has come to, if its last deed was carried out, refused or withdrawn.
     pub fn at(&self) -> Option<&Place>
         ensures some { IfSome result (λ at. (at.now ≡ self.now.at)
             × (self.now.last ≡ Last.Settled)) }

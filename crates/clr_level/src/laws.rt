@@ -19,7 +19,7 @@ pub fn level_is_kept<K: CommitAt, J: Journal + Drop, C: Clock>()
     ensures settled { SettledIsWhatItSays K J C K.kept K.has_place J.text }
 {}
 
-/// Where the last command is in doubt, the register is level whether it was carried out or not.
+/// Where the last deed is in doubt, the register is level whether it was carried out or not.
 pub fn either_is_level()
     ensures { EitherIsLevel }
 {}
@@ -32,7 +32,7 @@ pub fn begun_is_level<K: CommitAt>(keeper: &K)
 
 /// Whatever a crash leaves of journal and register, they are opened again level, or refused. A crash
 /// leaves the lines up to the register's place, whatever the desk was given, and those with the line
-/// of a command that may have been carried out.
+/// of a deed that may have been carried out.
 pub fn restarts_keep_level<K: CommitAt, J: Journal + Drop, C: Clock>()
     ensures safe { SafeIsKept K J C K.takes K.kept K.has_place C.shows J.text J.found J.may_leave
         J.is_usable }

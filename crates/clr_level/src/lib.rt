@@ -1,4 +1,4 @@
-//! A keeper with a journal, level with it: each command has its line before it is carried out, and
+//! A keeper with a journal, level with it: each deed has its line before it is carried out, and
 //! the register keeps its place in the journal.
 #![tactic(auto)]
 

@@ -62,14 +62,14 @@ is_remembered wanted deed reply = is_accepted reply
     && ((is_some (deed_steps deed) || is_amending_deed deed)
     && is_wanted wanted (clearance_of deed reply))
 
--- a line that withdraws, with the command before it, if that is there
+-- a line that withdraws, with the deed before it, if that is there
 abbrev pub withdrawn_with : List Entry → ℕ
 withdrawn_with [] = 1
 withdrawn_with (withdrawn n ∷ older) = 1
 withdrawn_with (carried receipt deed reply ∷ older) = 2
 
 -- how many of the newest lines no later line looks at but the next: one that withdraws, with the
--- command before it; or one that is not remembered
+-- deed before it; or one that is not remembered
 abbrev pub idle_at_end : Option Id → List Entry → ℕ
 idle_at_end wanted [] = 0
 idle_at_end wanted (withdrawn n ∷ older) = withdrawn_with older
@@ -82,7 +82,7 @@ pub record Serve (wanted : Option Id) (held older : List Entry) : Type 0 where
   pub last : last_clearance held ≡ last_clearance older
   pub steps : (c : Id) → is_wanted wanted (Some c) ≡ true → (k : ℕ)
       → step_known held c k ≡ step_known older c k
-  -- also where the next line withdraws the last command
+  -- also where the next line withdraws the last deed
   pub next : (n : ℕ) (c : Id) → is_wanted wanted (Some c) ≡ true → (k : ℕ)
       → step_known (withdrawn n ∷ held) c k ≡ step_known (withdrawn n ∷ older) c k
 
@@ -91,7 +91,7 @@ held_entries lines = reverse (map entry_of lines)
 
 -- ---- the commands
 
--- the last command was accepted, if there was one
+-- the last deed was accepted, if there was one
 abbrev pub last_accepted : Option Carried → Bool
 last_accepted None = true
 last_accepted (Some one) = is_accepted (view one.reply)

@@ -216,7 +216,7 @@ fn received_text(alloc: Global, received: u64, clock: ClockOffset) -> Result<Str
     }
 }
 
-/// Writes the line that withdraws the command before it.
+/// Writes the line that withdraws the deed before it.
 fn push_withdrawn(
     alloc: Global,
     out: &mut String,

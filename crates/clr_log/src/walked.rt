@@ -132,7 +132,7 @@ impl WalkedLog {
     }
 
     /// How many lines at the end no later line looks at but the next: one that withdraws, with the
-    /// command before it; or one that is not remembered.
+    /// deed before it; or one that is not remembered.
     fn idle_at_end(&self) -> usize
         ensures { result ≡ idle_at_end self.now.wanted (held_entries self.now.held.items) }
     {
@@ -150,7 +150,7 @@ impl WalkedLog {
     }
 }
 
-/// A line that withdraws, after these lines, with the command before it, if that is there.
+/// A line that withdraws, after these lines, with the deed before it, if that is there.
 fn withdrawn_with(before: &[Line]) -> usize
     ensures { result ≡ withdrawn_with (reverse (map entry_of before.now)) }
 {
@@ -203,7 +203,7 @@ fn push_bad(alloc: Global, out: &mut String, number: u64) -> Result<(), AllocErr
 #[derive(Drop)]
 pub struct WalkedCommands {
     wanted: Option<ClearanceId>,
-    /// The last command that was accepted: it was carried out unless the next line withdraws it.
+    /// The last deed that was accepted: it was carried out unless the next line withdraws it.
     last: Option<Carried>,
     ghost accepted: { last_accepted last ≡ true },
 }
@@ -218,7 +218,7 @@ impl WalkedCommands {
     }
 
     /// Takes a step, and writes the command before it, if that was carried out and is wanted. What
-    /// does not hold its sum is passed over.
+    /// does not hold its sum is passed over, as updates and archives are.
     pub fn step(&mut self, alloc: Global, out: &mut String, step: Step) -> Result<(), AllocError>
         ensures text { OnOk result ((rest : List Entry) → string_bytes out.old
             ++ commands_text (wanted_of self.old.wanted (carried_out
@@ -237,7 +237,7 @@ impl WalkedCommands {
         }
     }
 
-    /// Writes the last command, after all lines.
+    /// Writes the last deed, after all lines, if it is a command.
     pub fn end(&mut self, alloc: Global, out: &mut String) -> Result<(), AllocError>
         ensures text { OnOk result (string_bytes out.new ≡ string_bytes out.old
             ++ commands_text (wanted_of self.old.wanted
