@@ -212,11 +212,11 @@ def log(folder):
     other.write_bytes(text_of(lines_in(text)[:1]))
     same("journal, a first line alone", run("journal", other), (0, "", ""))
     half_lines(path, other, text)
-    other.write_bytes(text + b"x" * (1 << 20) + b"\n")
-    same("journal, a line of a MiB", run("journal", other), (1, LOG + BAD_LINE.format(9), "fault: journal BadLine 9\n"))
-    other.write_bytes(text + b"x" * ((1 << 20) + 1) + b"\n")
-    same("journal, a line of more than a MiB", run("journal", other)[::2], (1, "fault: journal TooLong\n"))
-    same("verify, a line of more than a MiB", run("verify", path, other, *FILES), (1, "", "fault: journal TooLong\n"))
+    other.write_bytes(text + b"x" * (1 << 22) + b"\n")
+    same("journal, a line of 4 MiB", run("journal", other), (1, LOG + BAD_LINE.format(9), "fault: journal BadLine 9\n"))
+    other.write_bytes(text + b"x" * ((1 << 22) + 1) + b"\n")
+    same("journal, a line of more than 4 MiB", run("journal", other)[::2], (1, "fault: journal TooLong\n"))
+    same("verify, a line of more than 4 MiB", run("verify", path, other, *FILES), (1, "", "fault: journal TooLong\n"))
 
 
 def half_lines(path, other, text):
