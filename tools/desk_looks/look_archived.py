@@ -5,7 +5,7 @@ import time
 
 from desk_looks.browser import Differs, free_ports, wait_until
 from desk_looks.desk import Desk, gridclear
-from desk_looks.look_log import CUT, ENDS, rows, search
+from desk_looks.look_log import CUT, ENDS, has_whole_log, rows, search
 from desk_looks.look_parts import give, rotate
 from desk_looks.network import closed, granted, switch, write_files
 
@@ -44,13 +44,7 @@ def of_record(hand):
     hand.turn("clearance/LEE/1")
     hand.shows("It is over; its record stays")
     wait_until(lambda: any(row[0] == "1.1" for row in rows(hand)), "the steps of LEE/1")
-    found = rows(hand)
-    step = next(row for row in found if row[0] == "1.1")
-    if step[1] != "OPEN N15-Q13" or not all(name in cell for name, cell in zip(("DISP1", "REED", "REED"), step[2:])):
-        raise Differs(f"the first step is {step}")
-    for words in ("request N15-F13", "grant", "release, notified, clear", "restore, "):
-        if not any(words in row[-1] for row in found):
-            raise Differs(f"the log of LEE/1 does not have: {words}")
+    has_whole_log(rows(hand))
     hand.lacks("On paper", "main")
     hand.lacks("OPEN", "main .steps-place")
 

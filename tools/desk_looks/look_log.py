@@ -57,18 +57,22 @@ def searched(hand, whole):
         raise Differs("the day does not search")
 
 
-def of_record(hand):
-    """A closed record's page and its printed order have who gave, repeated and reported each step."""
-    hand.turn("clearance/LEE/1")
-    hand.shows("It is over; its record stays")
-    wait_until(lambda: len(rows(hand)) > 10, "the log of LEE/1")
-    found = rows(hand)
+def has_whole_log(found):
+    """The rows of LEE/1 have its first step with its three names, and its life from request to restore."""
     step = next(row for row in found if row[0] == "1.1")
     if step[1] != "OPEN N15-Q13" or not all(name in cell for name, cell in zip(("DISP1", "REED", "REED"), step[2:])):
         raise Differs(f"the first step is {step}")
     for words in ("request N15-F13", "grant", "release, notified, clear", "restore, "):
         if not any(words in row[-1] for row in found):
             raise Differs(f"the log of LEE/1 does not have: {words}")
+
+
+def of_record(hand):
+    """A closed record's page and its printed order have who gave, repeated and reported each step."""
+    hand.turn("clearance/LEE/1")
+    hand.shows("It is over; its record stays")
+    wait_until(lambda: len(rows(hand)) > 10, "the log of LEE/1")
+    has_whole_log(rows(hand))
     hand.browser.script("document.querySelector('.story').scrollIntoView()")
     hand.picture("log-record")
     hand.press("print 1")
