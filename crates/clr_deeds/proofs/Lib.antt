@@ -1,1 +1,5 @@
 pub mod Deeds
+pub mod TakesNothing
+pub mod SightFacts
+pub mod Alike
+pub mod CommandsAlike

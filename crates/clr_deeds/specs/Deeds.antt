@@ -1,4 +1,4 @@
--- DEEDS, one after the other, as the lines of a journal are to carry them out. A command; changes of
+-- DEEDS, one after the other, as the lines of a journal carry them out. A command; changes of
 -- network and staff; or an archive of the records that were closed before a moment.
 use Rattle.std.specs.Prelude.{ℕ, List, [], ◌∷◌}
 use Rattle.clr_archive.specs.Archive.{archived}

@@ -2,7 +2,7 @@
 use clr_rules::{Command, Moment};
 use clr_update::Changes;
 
-/// A command, an update or an archive, as a line of a journal is to carry it out.
+/// A command, an update or an archive, as a line of a journal carries it out.
 #[derive(Drop)]
 pub enum Deed {
     /// A command.
