@@ -10,3 +10,4 @@ mod states;
 pub use book::Book;
 pub use book::rows::{all_rows, filled};
 pub use near::groups::rows_in;
+pub use near::rows::groups_near;

@@ -4,4 +4,4 @@ pub(crate) mod groups;
 mod named;
 mod network;
 mod points;
-mod rows;
+pub(crate) mod rows;

@@ -21,6 +21,6 @@ answered_then more T kept (gone R S receipt q reply n rest is are) next =
 answered_then more T kept (done R S receipt q reply rest is stays own are) next =
     done R T receipt q reply (rest ++ more) is (same_withdraws rest more kept ∙ stays) own (answered_then more T kept are next)
 
-pub commands_then : (xs ys : List Entry) → withdraws ys ≡ false → deeds_of (xs ++ ys) ≡ deeds_of xs ++ deeds_of ys
-commands_then xs ys kept =
+pub deeds_then : (xs ys : List Entry) → withdraws ys ≡ false → deeds_of (xs ++ ys) ≡ deeds_of xs ++ deeds_of ys
+deeds_then xs ys kept =
     ap (map (λ (pair : Deed × Data). pair.0)) (carried_out-append xs ys kept) ∙ map-append (λ (pair : Deed × Data). pair.0) (carried_out xs) (carried_out ys)

@@ -146,7 +146,7 @@ Passed entry new = (at : Place) → new.from ≡ Some at → new.missed ≡ None
 abbrev pub SettledBy : Checking → Entry → Type 0
 SettledBy old entry = (old.missed ≡ None) ⊎ (withdraws (entry ∷ []) ≡ true)
 
--- one that does withdraws a command whose number is that of the copy's place
+-- one that does withdraws a deed whose number is that of the copy's place
 missed_number : (first at : Place) (before : List Entry) (entry : Entry) (missed : Option ℕ) → withdraws (entry ∷ []) ≡ true → IsOfLast entry (place_after first before).number
     → NoneHas at.number (entry ∷ []) → IfSome missed (IsMissed first before at) → (missed ≡ None → IsNotThere first before at) → IsNotThere first before at
 missed_number first at before (carried receipt q reply) missed takes last passed is there = absurd (true≢false (sym takes))
@@ -551,7 +551,7 @@ end_sought copied R at first place texts old some settled it = refused_short cop
 pub none_sought : (began R : Register) (first place : Place) (texts : List (List ℕ)) (old : Checking) → IsSome old.from → CheckedTo began first place R old texts → ⊥
 none_sought began R first place texts old some it = true≢false (sym (subst (λ (o : Option Place). IsSome o) it.begun some))
 
--- the open command had another reply, or the tables differ
+-- the open deed had another reply, or the tables differ
 pub end_else : (began R : Register) (first place : Place) (texts : List (List ℕ)) (old : Checking) (fault : CheckFault)
     → (old.from ≡ None → (entries : List Entry) → RanOver began first place R old entries → RefusesRun began first entries place R fault)
     → CheckedTo began first place R old texts → IsRefused began first texts place R fault

@@ -61,7 +61,7 @@ none_more number [] entry none one = one
 none_more number (carried receipt q reply ∷ xs) entry none one = (none.0, none_more number xs entry none.1 one)
 none_more number (withdrawn n ∷ xs) entry none one = (none.0, none_more number xs entry none.1 one)
 
--- ---- whether a command is open
+-- ---- whether a deed is open
 
 -- at the end of lines: it is that of the last
 pub open_more : (turn : Turn) (xs : List Entry) (entry : Entry) → (turn_behind turn (xs ++ entry ∷ [])).is_open ≡ (turn_after entry).is_open

@@ -9,7 +9,7 @@ use Rattle.clr_journal.specs.Answered.{deed_reply}
 use Rattle.clr_rules.specs.Register.{Register}
 use Rattle.clr_place.specs.declared.place.Place.{Place}
 use Rattle.clr_tables.specs.Tables.{tables_of}
-use Rattle.clr_journal.proofs.JournalsRead.{commands_grow, withdrawn_is_left_out}
+use Rattle.clr_journal.proofs.JournalsRead.{deeds_grow, withdrawn_is_left_out}
 use Rattle.clr_journal.specs.Journals.{carried_out, deeds_of, turn_after, withdraws}
 use Rattle.clr_journal.specs.Laws.{turn_behind}
 use Rattle.clr_journal.specs.Line.{Entry, carried, withdrawn, is_accepted}
@@ -94,7 +94,7 @@ missed_here first entries place number it = record {
   other = it.other;
 }
 
--- ---- how many commands were carried out
+-- ---- how many deeds were carried out
 
 many : (pairs : List (Deed × Data)) → length (map (λ (pair : Deed × Data). pair.0) pairs) ≡ length pairs
 many [] = refl
@@ -104,7 +104,7 @@ counted : (lines : List Entry) (receipt : Receipt) (q : Deed) (reply : Data) →
     → length (deeds_of (lines ++ carried receipt q reply ∷ [])) ≡ length (deeds_of lines) + 1
 counted lines receipt q reply accepted =
     let out : carried_out (lines ++ carried receipt q reply ∷ []) ≡ carried_out lines ++ (q, reply) ∷ [] =
-    commands_grow lines receipt q reply ∙ ap (λ (b : Bool). carried_out lines ++ cond b ((q, reply) ∷ []) []) accepted in
+    deeds_grow lines receipt q reply ∙ ap (λ (b : Bool). carried_out lines ++ cond b ((q, reply) ∷ []) []) accepted in
     many (carried_out (lines ++ carried receipt q reply ∷ [])) ∙ ap length out ∙ length-append (carried_out lines) ((q, reply) ∷ [])
     ∙ ap (λ n. n + 1) (sym (many (carried_out lines)))
 
@@ -112,7 +112,7 @@ not_counted : (lines : List Entry) (receipt : Receipt) (q : Deed) (reply : Data)
     → deeds_of (lines ++ carried receipt q reply ∷ []) ≡ deeds_of lines
 not_counted lines receipt q reply not =
     ap (map (λ (pair : Deed × Data). pair.0))
-    (commands_grow lines receipt q reply ∙ ap (λ (b : Bool). carried_out lines ++ cond b ((q, reply) ∷ []) []) not ∙ append-nil (carried_out lines))
+    (deeds_grow lines receipt q reply ∙ ap (λ (b : Bool). carried_out lines ++ cond b ((q, reply) ∷ []) []) not ∙ append-nil (carried_out lines))
 
 gone_not_counted : (lines : List Entry) (receipt : Receipt) (q : Deed) (reply : Data) (n : ℕ)
     → deeds_of (lines ++ carried receipt q reply ∷ withdrawn n ∷ []) ≡ deeds_of lines
@@ -137,7 +137,7 @@ missed_after first place entries entry sum is number other = record {
   other = λ same. other (same ∙ sym is.sum_is);
 }
 
--- the open command is carried out
+-- the open deed is carried out
 pub closed_answers : (began S T R : Register) (first place : Place) (one : Carried) (count : ℕ) (met : Bool) (entries : List Entry)
     → is_accepted (view one.reply) ≡ true → IsReply (view one.reply) (deed_reply S (deed_of one.deed)) → T ≡ after_deed S (deed_of one.deed)
     → (ran : Ran began first place R (Some one) None S count met entries) → AreAnswered began (ran.done ++ carried one.receipt (deed_of one.deed) (view one.reply) ∷ []) T
@@ -174,7 +174,7 @@ closes began S T R first place one count next met met' entries accepted own afte
       unmet = λ unmet. none_more place.number ran.done entry (ran.unmet (not_before met met' stays unmet)) (other unmet, tt);
     }
 
--- the open command is withdrawn
+-- the open deed is withdrawn
 pub withdrawn_answers : (began S R : Register) (first place : Place) (one : Carried) (missed : Option ℕ) (count n : ℕ) (met : Bool) (entries : List Entry) → is_accepted (view one.reply) ≡ true
     → (ran : Ran began first place R (Some one) missed S count met entries)
     → AreAnswered began (ran.done ++ carried one.receipt (deed_of one.deed) (view one.reply) ∷ withdrawn n ∷ []) S
@@ -229,7 +229,7 @@ withdraws_one began S R first place one missed count n met met' entries accepted
         met_more began first place entries (withdrawn n) (Same R) (λ is. absurd (at.1 (last ∙ ap (λ (p : Place). p.number) (sym is))))
         (ran.met (met_then met (λ before_it. at.1 (now sure before_it))))
 
--- a command that was accepted is the open one
+-- a deed that was accepted is the open one
 pub takes_accepted : (began S R : Register) (first place : Place) (one : Carried) (missed : Option ℕ) (count : ℕ) (met : Bool) (entries : List Entry)
     → IsOpenAt first place (entries ++ carried one.receipt (deed_of one.deed) (view one.reply) ∷ []) (Some one) missed
     → Ran began first place R None None S count met entries
@@ -316,7 +316,7 @@ begins_missed began S R first place last missed count number met other ran = rec
   unmet = ran.unmet;
 }
 
--- no command is open where no line was run
+-- no deed is open where no line was run
 pub none_open : (began S R : Register) (first place : Place) (one : Carried) (missed : Option ℕ) (count : ℕ) (met : Bool) → Ran began first place R (Some one) missed S count met [] → ⊥
 none_open began S R first place one missed count met ran = cc (nothing_done ran.done (open_entries (Some one)) ran.entries_are).1
 

@@ -67,7 +67,7 @@ module _ (began R : Register) (first place : Place) (entries : List Entry) (entr
 
 -- ---- a reply
 
--- that of the open command
+-- that of the open deed
 open_replies : (began S R : Register) (first place : Place) (one : Carried) (missed : Option ℕ) (count : ℕ) (met : Bool) (entries : List Entry) (fault : CheckFault)
     → is_accepted (view one.reply) ≡ true → AnswersElse S one fault → Ran began first place R (Some one) missed S count met entries
     → RefusesRun began first entries place R fault
@@ -98,7 +98,7 @@ carried_else began R first place old one entries fault some accepted else over =
     open_replies began old.desk.book.register R first place one old.missed old.count old.is_met entries fault accepted else
     (ran_as began old.desk.book.register R first place old.last (Some one) old.missed old.missed old.count old.is_met entries some refl over.ran)
 
--- that of a command that was refused
+-- that of a deed that was refused
 refused_replies : (began S R : Register) (first place : Place) (one : Carried) (count : ℕ) (met : Bool) (entries : List Entry) (fault : CheckFault)
     → (fault ≡ Reply one.receipt.number → is_brief_deed S (deed_of one.deed) (view one.reply) ≡ false) → AnswersElse S one fault → Ran began first place R None None S count met entries
     → RefusesRun began first (entries ++ line_of one ∷ []) place R fault
@@ -150,7 +150,7 @@ compares_else began R first place entries it number (Tables found) of else meets
 compares_else began R first place entries it number TooShort of else meets = absurd else
 compares_else began R first place entries it number NoMemory of else meets = tt
 
--- once the open command was carried out
+-- once the open deed was carried out
 pub closed_else : (began R : Register) (first place : Place) (old mid : Checking) (left_open : Option Carried) (one : Carried) (entries : List Entry) (fault : CheckFault)
     → old.last ≡ Some one → old.missed ≡ None → IsAccepted one → IsReply (view one.reply) (deed_reply old.desk.book.register (deed_of one.deed))
     → mid.desk.book.register ≡ after_deed old.desk.book.register (deed_of one.deed) → mid ≡ record old { last = left_open; desk = mid.desk; count = mid.count }
@@ -160,7 +160,7 @@ closed_else began R first place old mid left_open one entries fault some settled
     closed_meets began old.desk.book.register mid.desk.book.register R first place one old.count old.is_met entries (λ S. IsFirstDifference R S (Some found)) accepted own after_is
     (ran_as began old.desk.book.register R first place old.last (Some one) old.missed None old.count old.is_met entries some settled over.ran) here is)
 
--- at the line of a command that was refused
+-- at the line of a deed that was refused
 pub refused_tables : (began R : Register) (first place : Place) (old : Checking) (one : Carried) (entries : List Entry) (fault : CheckFault) → old.last ≡ None → old.missed ≡ None
     → is_accepted (view one.reply) ≡ false → IsDeedTaken old.desk.book.register (deed_of one.deed) (view one.reply)
     → (one.receipt.number ≡ old.place.number → old.place.sum ≡ old.walk.end.sum) → ComparesElse old one.receipt.number fault
@@ -173,7 +173,7 @@ refused_tables began R first place old one entries fault closed settled not own 
     (refused_answers began old.desk.book.register R first place one.receipt (deed_of one.deed) (view one.reply) old.count old.is_met entries not own
     (ran_as began old.desk.book.register R first place old.last None old.missed None old.count old.is_met entries closed settled over.ran)) given)
 
--- at the line that withdraws the open command
+-- at the line that withdraws the open deed
 withdrawn_by : (began R : Register) (first place : Place) (old : Checking) (n : ℕ) (entries : List Entry) (last : Option Carried) (Is : Register → Type 0) → IsSome last
     → IfSome last IsAccepted → place ≡ place_after first (entries ++ withdrawn n ∷ []) → Is old.desk.book.register
     → Ran began first place R last old.missed old.desk.book.register old.count old.is_met entries → Meets began first (entries ++ withdrawn n ∷ []) place Is
@@ -212,7 +212,7 @@ pub missed_else : (began R : Register) (first place : Place) (old : Checking) (n
 missed_else began R first place old number entries some over =
     missed_by began old.desk.book.register R first place old.last old.missed old.count number old.is_met entries some over.ran
 
--- with a command after them
+-- with a deed after them
 missed_more : (first : Place) (entries : List Entry) (one : Carried) (place : Place) (number : ℕ) → IsMissed first entries place number
     → HasOtherSum first (entries ++ line_of one ∷ []) place number
 missed_more first entries one place number it = record {
@@ -229,7 +229,7 @@ pub copy_else : (copied R : Register) (at first place : Place) (old : Checking) 
     → Waits copied at first place R old before → IsMissed first before at number
 copy_else copied R at first place old number before some w = subst (λ (o : Option ℕ). IfSome o (IsMissed first before at)) some w.missed
 
--- the command after that has another number
+-- the deed after that has another number
 never_same : (n m last : ℕ) → n ≡ last + 1 → last ≡ m → n ≡ m → ⊥
 never_same n m last is same wrong = omega arith
 
@@ -292,7 +292,7 @@ compares_settle it number (Tables found) else turn = tt
 compares_settle it number TooShort else turn = tt
 compares_settle it number NoMemory else turn = tt
 
--- ---- a command is withdrawn
+-- ---- a deed is withdrawn
 
 nothing_open : (first : Place) (entries : List Entry) (n : ℕ) → (turn_behind (first_turn_at first) entries).is_open ≡ false → IsOfOpen (withdrawn n) first entries → entries ≡ []
 nothing_open first [] n shut opens = refl

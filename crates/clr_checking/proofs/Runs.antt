@@ -57,7 +57,7 @@ unfolding in_turn
 turns_end turn [] ys turns = turns
 turns_end turn (x ∷ xs) ys turns = turns_end (turn_after x) xs ys (and_parts (is_next turn x) (in_turn (turn_after x) (xs ++ ys)) turns).1
 
--- whether a command is open is nothing to lines that begin with one
+-- whether a deed is open is nothing to lines that begin with one
 pub turns_closed : (turn : Turn) (number : ℕ) (lines : List Entry) → number ≡ turn.last → withdraws lines ≡ false → in_turn turn lines ≡ true
     → in_turn (record { last = number; is_open = false }) lines ≡ true
 unfolding in_turn

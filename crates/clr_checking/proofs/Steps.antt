@@ -43,7 +43,7 @@ met_of place R it number met of now sure before_it =
     let all = now sure before_it in
     (all.0 ∙ ap (λ (p : Place). p.number) of.place_is, sym (ap tables_of of.book_is) ∙ all.2)
 
--- what is found at the line of an open command
+-- what is found at the line of an open deed
 abbrev pub FoundAt : ℕ → Checking → Option ℕ → Type 0
 FoundAt number it None = number ≡ it.place.number → it.place.sum ≡ it.walk.end.sum
 FoundAt number it (Some missed) = (missed ≡ number) × (missed ≡ it.place.number) × (it.place.sum ≢ it.walk.end.sum)
@@ -146,7 +146,7 @@ by_last began R first place old n met entries (Some one) some accepted begun exp
     (λ sure. same_of place R old n of begun same) (λ sure before_it. (met_of place R old n met of now sure before_it).0) stays
     (unmet_of place R old n met of begun unmet) ran
 
--- the state in which the tables are compared, once no command is open any more
+-- the state in which the tables are compared, once no deed is open any more
 abbrev pub with_none : Checking → Checking
 with_none it = record it { last = None; missed = None }
 

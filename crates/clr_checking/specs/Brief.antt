@@ -1,6 +1,7 @@
 -- REFUSED COMMANDS IN BRIEF: what is refused may be noted without its lists and its text, with the
 -- reply of the whole command.
 use Rattle.std.specs.Prelude.{◌≡◌, ◌≢◌, ◌⊎◌, ◌&&◌, Bool, true, false, [], codes}
+use Rattle.std.specs.Prelude.{unwrap_or}
 use Rattle.serde_json.specs.Data.{Data}
 use Rattle.clr_deeds.specs.Deeds.{Deed, archive, command, update}
 use Rattle.clr_rules.specs.Answer.{Answer, answer}
@@ -13,7 +14,7 @@ use Rattle.clr_rules.specs.declared.reply.Reply.{Reply}
 use Rattle.clr_rules.specs.declared.reply.Reply.TheVariants.{Refused}
 use Rattle.clr_text.specs.Replies.{reply_data}
 use Rattle.clr_journal.specs.Answered.{deed_reply}
-use Rattle.clr_journal.specs.Line.{says}
+use Rattle.clr_journal.specs.Line.{brief_kind, says}
 use Rattle.clr_verify.specs.Replies.{IsReply}
 
 -- a command of a kind that has lists, with none
@@ -60,12 +61,5 @@ DecidesDeed R deed reply false =
     (is_brief_deed R deed reply ≡ false) × (reply ≢ deed_reply R deed)
 
 -- a command in brief
-abbrev pub emptied : Kind → Kind
-emptied (kinds.Order c points tasks) = kinds.Order c [] []
-emptied (kinds.Restore c tasks) = kinds.Restore c []
-emptied (kinds.Switch tasks) = kinds.Switch []
-emptied (kinds.Repeat c n text) = kinds.Repeat c n []
-emptied kind = kind
-
 abbrev pub in_brief : Command → Command
-in_brief q = record { caller = q.caller; moment = q.moment; kind = emptied q.kind }
+in_brief q = record { caller = q.caller; moment = q.moment; kind = unwrap_or (brief_kind q.kind) q.kind }

@@ -398,7 +398,7 @@ impl<'a> Checking<'a> {
             Line::Carried(one) => match self.missed {
                 Some(number) => Err(CheckFault::Differs(number)),
                 None => match self.close(alloc) {
-                    Ok(()) => self.take_command(alloc, one),
+                    Ok(()) => self.take_deed(alloc, one),
                     Err(fault) => Err(fault),
                 },
             },
@@ -407,7 +407,7 @@ impl<'a> Checking<'a> {
 
     /// A deed, where none is open. It is carried out once it is known that the next line does
     /// not withdraw it.
-    fn take_command(&mut self, alloc: Global, one: Carried) -> Result<(), CheckFault>
+    fn take_deed(&mut self, alloc: Global, one: Carried) -> Result<(), CheckFault>
         requires ready { IsReady self.old }
         requires closed { self.old.last ≡ None }
         requires settled { self.old.missed ≡ None }

@@ -16,6 +16,7 @@ use crate::fault::CheckFault;
 use clr_changes::made_of;
 use clr_desk::{Desk, DeskBook, Unkept};
 use clr_journal::{Changes, Deed};
+use clr_own::answer;
 use clr_rules::{Command, Moment};
 use clr_verify::{is_done, is_not_done, is_reply};
 use serde_json::Value;
@@ -134,7 +135,7 @@ fn is_command_due(
     ensures { IfOk result (DecidesTaken command.now (view reply.now)
         (Answer.reply (answer book.now.register command.now))) }
 {
-    match book.answer(command) {
+    match answer(book, command) {
         Ok(decision) => is_taken(alloc, command, reply, &decision.reply),
         Err(error) => Err(error),
     }

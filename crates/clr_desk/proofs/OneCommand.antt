@@ -8,14 +8,14 @@ use Rattle.clr_rules.specs.Answer.{Answer, answer}
 use Rattle.clr_rules.specs.Command.{is_jumper}
 use Rattle.clr_rules.specs.Edits.{after_edits}
 use Rattle.clr_rules.specs.Good.{IsGood}
-use Rattle.clr_rules.specs.Near.{near_of}
+use Rattle.clr_own.specs.Own.{asked_near}
 use Rattle.clr_rules.specs.Register.{Register}
 use Rattle.clr_rules.specs.Run.{after}
 use Rattle.clr_rules.specs.declared.change.Edit.{Edit}
 use Rattle.clr_rules.specs.declared.command.Command.{Command}
 use Rattle.clr_rules.specs.declared.reply.Reply.{Reply}
 use Rattle.clr_rules.proofs.edits.PlainEdits.{answers_with_plain}
-use Rattle.clr_rules.proofs.near.NewAnswers.{near_is_enough}
+use Rattle.clr_own.proofs.Enough.{own_rows_are_enough}
 use Rattle.clr_book.specs.Growth.{network_after_all}
 use Rattle.clr_book.proofs.BookEdits.{plain_network}
 use Rattle.clr_store.specs.Contract.{AreEdited}
@@ -49,13 +49,13 @@ nothing_added R q edits g is none = ap (λ es. network_after_all es g) (sym none
 -- only a jumper does
 pub only_jumpers_add : (R : Register) (q : Command) (g : Grid) → is_jumper q.kind ≡ false → near_network R q g ≡ g
 only_jumpers_add R q g plain =
-    let near = near_of R q in
+    let near = asked_near R q in
     plain_network (Answer.edits (near_answer R q)) g (answers_with_plain near.known near.rows q plain)
 
 -- ---- a good register
 
 pub near_is_whole : (R : Register) (q : Command) → IsGood R → near_answer R q ≡ answer R q
-near_is_whole R q good = sym (near_is_enough R q good.said good.besides.switch_orders.switching)
+near_is_whole R q good = sym (own_rows_are_enough.any R q good)
 
 pub near_after_is_after : (R : Register) (q : Command) → IsGood R → near_after R q ≡ after R q
 near_after_is_after R q good = ap (λ (a : Answer). after_edits a.edits R) (near_is_whole R q good)

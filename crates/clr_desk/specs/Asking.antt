@@ -1,16 +1,16 @@
 -- ASKING A BOOK: what it answers to a command, and the register and the network that this leaves.
 use Rattle.clr_net.specs.Grid.{Grid}
-use Rattle.clr_rules.specs.Answer.{Answer, answer_with}
+use Rattle.clr_rules.specs.Answer.{Answer}
 use Rattle.clr_rules.specs.Edits.{after_edits}
-use Rattle.clr_rules.specs.Near.{Near, near_of}
 use Rattle.clr_rules.specs.Register.{Register}
 use Rattle.clr_rules.specs.declared.command.Command.{Command}
 use Rattle.clr_book.specs.Growth.{network_after_all}
+use Rattle.clr_own.specs.Own.{asked_answer}
 
--- the answer from the near part of the command; of a good register that is the answer of the whole
--- register
+-- the answer from what the command looks at, which is near it; of a good register that is the answer
+-- of the whole register
 abbrev pub near_answer : Register → Command → Answer
-near_answer R q = answer_with (Near.known (near_of R q)) (Near.rows (near_of R q)) q
+near_answer R q = asked_answer R q
 
 -- the register with the edits of that answer
 abbrev pub near_after : Register → Command → Register

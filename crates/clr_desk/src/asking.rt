@@ -8,6 +8,7 @@ ghost use Rattle.clr_desk.specs.Asking.{near_answer};
 
 use crate::book::DeskBook;
 use clr_answer::Decision;
+use clr_own::answer;
 use clr_rules::Command;
 use std::alloc::AllocError;
 
@@ -24,7 +25,7 @@ pub(crate) fn prepare(book: &mut DeskBook, command: &Command) -> Result<Decision
     ensures register { book.new.register ≡ book.old.register }
     ensures network { book.new.network ≡ book.old.network }
 {
-    let decision = book.answer(command)?;
+    let decision = answer(book, command)?;
     book.reserve(&decision.change)?;
     Ok(decision)
 }

@@ -245,8 +245,8 @@ impl<K: Commit> Desk<K> {
         self.store.hear(login);
     }
 
-    /// Carries out one command, but for the count of faults: answer, room, commit, change. A command
-    /// that is refused is passed on instead.
+    /// Carries out one command, but for the count of faults: answer, room, commit, change. A
+    /// command that is refused is passed on instead.
     fn carry_out(&mut self, command: &Command) -> Result<Reply, DeskFault>
         ensures carried { CarriesOut K.kept K.fails self.old self.new command.now result }
         ensures taken { TakesOne K.takes self.old.book.register self.old.store command.now result
@@ -282,12 +282,12 @@ impl<K: Commit> Desk<K> {
     }
 
     /// Carries out a command: it is answered, and where it is accepted its change is committed, as
-    /// one, and made. A command that is refused, and `show`, commits nothing; what keeps the changes
-    /// may note the refused one.
+    /// one, and made. A command that is refused, and `show`, commits nothing; what keeps the
+    /// changes may note the refused one.
     ///
     /// `Store` where what keeps the changes fails, as `Store(Sql)` where a database refuses or
-    /// fails; `Journal` where its journal was not written; `NoMemory` where memory runs out. A fault leaves the register as it was, and is
-    /// counted.
+    /// fails; `Journal` where its journal was not written; `NoMemory` where memory runs out. A
+    /// fault leaves the register as it was, and is counted.
     pub fn one(&mut self, command: Command) -> Result<Reply, DeskFault>
         ensures carried { CarriesOut K.kept K.fails self.old self.new command result }
         ensures taken { TakesOne K.takes self.old.book.register self.old.store command result

@@ -18,7 +18,8 @@ ghost use Rattle.sqlite.specs.Held.{state};
 ghost use Rattle.sqlite.specs.State.{HasCleanDisk, Survives};
 ghost use Rattle.clr_desk.specs.Filling.{hand_edit};
 ghost use Rattle.clr_desk.specs.Loaded.{HasRows};
-ghost use Rattle.clr_desk.specs.Opening.{FailsToOpen, HasNetworkOf, IsRegisterOf, OpensAs, bad_table, table_of};
+ghost use Rattle.clr_desk.specs.Opening.{FailsToOpen, HasNetworkOf, IsRegisterOf, OpensAs};
+ghost use Rattle.clr_desk.specs.Opening.{bad_table, table_of};
 ghost use Rattle.clr_load.specs.declared.fault.StoreFault.TheVariants.{BadRow, NoMemory};
 
 use crate::book::{DeskBook, apply, opening_book};

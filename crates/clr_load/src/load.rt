@@ -109,8 +109,8 @@ fn read_tables<S: Alter, C: Fill<Record>, T: Fill<StepRow>, H: Fill<Hold>>(
     })
 }
 
-/// Reads the rows of all tables, and changes nothing. Clearances, steps and holds are read into what
-/// the caller keeps them in.
+/// Reads the rows of all tables, and changes nothing. Clearances, steps and holds are read into
+/// what the caller keeps them in.
 pub fn load_into<S: Alter, C: Fill<Record>, T: Fill<StepRow>, H: Fill<Hold>>(
     conn: &mut Connection<S>,
 ) -> Result<Loaded<C, T, H>, StoreFault>

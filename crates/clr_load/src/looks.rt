@@ -1,5 +1,6 @@
 //! Which layout of the tables of a register a schema is, if any.
-ghost use Rattle.std.specs.Prelude.{◌≡◌, ◌↔◌, ◌<◌, [], ◌∷◌, map, false, true, IfNone, IfSome, IsTrue};
+ghost use Rattle.std.specs.Prelude.{◌≡◌, ◌↔◌, ◌<◌, [], ◌∷◌, map, false, true, IfNone, IfSome};
+ghost use Rattle.std.specs.Prelude.{IsTrue};
 ghost use Rattle.sqlite_value.specs.Keys.{plain};
 ghost use Rattle.clr_load.specs.Forms.{column_by, index_at, index_in, index_text, table_with};
 ghost use Rattle.clr_load.specs.Layout.{names_in};
@@ -196,8 +197,8 @@ fn are_indexes(indexes: &[Index], layout: Layout) -> bool
     true
 }
 
-/// Whether a schema has the tables of a layout, and nothing else. A trigger, and a table that is not
-/// understood, is among its views.
+/// Whether a schema has the tables of a layout, and nothing else. A trigger, and a table that is
+/// not understood, is among its views.
 #[tactic(auto, using(crate::proofs::Alike::indexes_are))]
 fn is_laid_out(schema: &Schema, layout: Layout) -> bool
     ensures { IsTrue result ↔ (schema.now ≡ schema_in layout) }

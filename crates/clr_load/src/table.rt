@@ -13,8 +13,8 @@ use clr_tables::TableName;
 use sqlite::{Alter, Connection};
 use std::alloc::Global;
 
-/// Reads a table in the order of its key, up to the first row that does not read. Some rows at a time
-/// are in memory, and what they are read into.
+/// Reads a table in the order of its key, up to the first row that does not read. Some rows at a
+/// time are in memory, and what they are read into.
 pub(crate) fn read_table<S: Alter, T: TableRow, F: Fill<T>>(
     conn: &mut Connection<S>,
     alloc: Global,

@@ -199,7 +199,7 @@ fn groups_at_sections(alloc: Global, sections: &[Name]) -> Result<Vec<HoldGroup>
 
 /// The groups of the holds at these sections and points, and of the crews of the clearance that is
 /// named; in their order.
-fn groups_near(
+pub fn groups_near(
     alloc: Global,
     fence: &[Name],
     beside: &[Name],

@@ -32,7 +32,7 @@ pub returns-in-Some-clause-refused_from : goal.returns-in-Some-clause-refused_fr
 returns-in-Some-clause-refused_from c = λ copied at first place R texts to.
     end_sought copied R at first place texts c.args.self.now (search rules) c.in_ok-settled.ensures.none to
 
--- the last command
+-- the last deed
 pub returns-in_err-close-clause-refused : goal.returns-in_err-close-clause-refused
 returns-in_err-close-clause-refused c =
     passed_on _ _ _ c.from_residual-in_err-close.ensures.1 (λ began first place R texts to.

@@ -33,33 +33,33 @@ returns-in-Withdrawn-clause-refused c =
       shut_settles (turn_after (withdrawn c.in-Withdrawn.number)) fault refl,
     )) c.withdraw.ensures.refused
 
--- a command
+-- a deed
 pub returns-in-Ok-clause-went : goal.returns-in-Ok-clause-went
 returns-in-Ok-clause-went c =
-    on_both c.take_command.result (λ took shut began first place R entries is runs.
-    subst (λ (e : Entry). RunsOn began first place R c.take_command.new.self (entries ++ e ∷ [])) (sym (ap entry_of c.in-Carried.is))
-    (carried_runs began R first place c.args.self.now c.take_command.new.self c.in-Carried.one entries c.in-None.is shut
-    (λ was. c.take_command.ensures.stays (c.close.ensures.stays was))
+    on_both c.take_deed.result (λ took shut began first place R entries is runs.
+    subst (λ (e : Entry). RunsOn began first place R c.take_deed.new.self (entries ++ e ∷ [])) (sym (ap entry_of c.in-Carried.is))
+    (carried_runs began R first place c.args.self.now c.take_deed.new.self c.in-Carried.one entries c.in-None.is shut
+    (λ was. c.take_deed.ensures.stays (c.close.ensures.stays was))
     (took began first place R entries
     (subst (λ (walk : Walk). IsAfter first place walk.end.sum (line_of c.in-Carried.one) entries) (sym c.close.ensures.walk)
     (subst (λ (e : Entry). IsAfter first place c.args.self.now.walk.end.sum e entries) (ap entry_of c.in-Carried.is) is))
-    (c.in-Ok.ensures.went began first place R entries c.requires.begun runs.over)) runs)) c.take_command.ensures.went c.take_command.ensures.shut
+    (c.in-Ok.ensures.went began first place R entries c.requires.begun runs.over)) runs)) c.take_deed.ensures.went c.take_deed.ensures.shut
 
 pub returns-in-Ok-clause-settled : goal.returns-in-Ok-clause-settled
-returns-in-Ok-clause-settled c = on_any c.take_command.result (inl c.in-None.is)
+returns-in-Ok-clause-settled c = on_any c.take_deed.result (inl c.in-None.is)
 
 pub returns-in-Ok-clause-refused : goal.returns-in-Ok-clause-refused
 returns-in-Ok-clause-refused c =
-    if_err_on c.take_command.result (λ fault refuses not began first place R entries is runs.
+    if_err_on c.take_deed.result (λ fault refuses not began first place R entries is runs.
     subst (λ (e : Entry). RefusesRunning began first place R entries e fault) (sym (ap entry_of c.in-Carried.is)) (
       refuses began first place R entries
           (subst (λ (walk : Walk). IsAfter first place walk.end.sum (line_of c.in-Carried.one) entries) (sym c.close.ensures.walk)
           (subst (λ (e : Entry). IsAfter first place c.args.self.now.walk.end.sum e entries) (ap entry_of c.in-Carried.is) is))
           (c.in-Ok.ensures.went began first place R entries c.requires.begun runs.over),
       shut_settles (turn_after (line_of c.in-Carried.one)) fault not,
-    )) c.take_command.ensures.refused c.take_command.ensures.unopened
+    )) c.take_deed.ensures.refused c.take_deed.ensures.unopened
 
--- the open command
+-- the open deed
 pub returns-in-Err-clause-refused : goal.returns-in-Err-clause-refused
 returns-in-Err-clause-refused c = λ began first place R entries is runs.
     subst (λ (e : Entry). RefusesRunning began first place R entries e c.in-Err.fault) (sym (ap entry_of c.in-Carried.is)) (

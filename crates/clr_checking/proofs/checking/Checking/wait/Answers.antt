@@ -12,7 +12,7 @@ use Rattle.clr_checking.proofs.Refused.{RefusesWaiting, copy_later, shut_settles
 use Rattle.clr_checking.proofs.Steps.{line_of}
 use Rattle.clr_checking.proofs.checking.Checking.wait.Goals as goal
 
--- a command
+-- a deed
 pub returns-clause-waited : goal.returns-clause-waited
 returns-clause-waited c =
     let entry : Entry = entry_of c.args.line in

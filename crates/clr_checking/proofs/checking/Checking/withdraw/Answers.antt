@@ -30,7 +30,7 @@ returns-then-not-is_expected-clause-refused c = λ began first place R entries i
     let why = c.is_expected.ensures.other no in
     sum_else began R first place c.args.self.now (withdrawn c.args.number) entries why.0 why.1 is runs.over.of
 
--- no command is open
+-- no deed is open
 pub returns-then-is_none-clause-refused : goal.returns-then-is_none-clause-refused
 returns-then-is_none-clause-refused c = λ began first place R entries is runs.
     let closed : c.args.self.now.last ≡ None = search rules in

@@ -3,7 +3,7 @@ use Rattle.clr_checking.proofs.Results.{if_err, on_both, passed_on}
 use Rattle.clr_checking.specs.CheckingOn.{ComparesElse}
 use Rattle.clr_checking.proofs.Refused.{refused_else, refused_tables, sum_else}
 use Rattle.clr_checking.proofs.Steps.{MetAt, UnmetAt, accepted_on, found_at, line_of, refused_on}
-use Rattle.clr_checking.proofs.checking.Checking.take_command.Goals as goal
+use Rattle.clr_checking.proofs.checking.Checking.take_deed.Goals as goal
 
 pub returns-then-is_accepted-clause-went : goal.returns-then-is_accepted-clause-went
 returns-then-is_accepted-clause-went c = λ began first place R entries is over.

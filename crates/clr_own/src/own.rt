@@ -1,0 +1,230 @@
+//! What a command looks at that needs no fence, and the answer to it.
+ghost use Rattle.std.specs.Prelude.{◌≡◌, ◌==◌, ℕ, List, true, IfOk, filter, map, option_copied};
+ghost use Rattle.std.specs.List.Sorted.{IsStrictlySortedBy};
+ghost use Rattle.clr_net.specs.Name.{name_cmp};
+ghost use Rattle.clr_net.specs.Names.{has_name};
+ghost use Rattle.clr_rules.specs.Answer.{answer};
+ghost use Rattle.clr_rules.specs.Edits.{fit};
+ghost use Rattle.clr_rules.specs.Good.{IsGood};
+ghost use Rattle.clr_rules.specs.Holds.{is_near_hold};
+ghost use Rattle.clr_rules.specs.Steps.{points_of};
+ghost use Rattle.clr_answer.specs.Decision.{ChangesIfAccepted, answer_of_decision};
+ghost use Rattle.clr_book.proofs.LookedUp.{listed};
+ghost use Rattle.clr_own.specs.Own.{asked_answer, crews_at, own_near, own_of, points_among};
+ghost use Rattle.clr_own.specs.Own.{sections_among};
+
+use clr_answer::{Decision, Near, decide, in_order};
+use clr_book::{Book, groups_near, rows_in};
+use clr_net::Name;
+use clr_rules::{ClearanceId, Command, Hold, Kind, PointState, Record, StepRow};
+use clr_shelf::Shelf;
+use std::alloc::{AllocError, Global};
+
+/// What a book answers to a command, and what the command would change. It does not search the
+/// fence of the clearance where the command needs none; otherwise it is the book's own answer.
+pub fn answer<P, C, T, H>(
+    book: &Book<P, C, T, H>,
+    command: &Command,
+) -> Result<Decision, AllocError>
+where
+    P: Shelf<PointState>,
+    C: Shelf<Record>,
+    T: Shelf<StepRow>,
+    H: Shelf<Hold>,
+    ensures asked { IfOk result (λ d.
+        asked_answer book.now.register command.now ≡ answer_of_decision d) }
+    ensures whole { IsGood book.now.register
+        → IfOk result (λ d. answer book.now.register command.now ≡ answer_of_decision d) }
+    ensures nothing { IfOk result ChangesIfAccepted }
+    ensures fits { IfOk result
+        (λ d. fit book.now.register.net d.change.edits.items ≡ true) }
+{
+    let Some(id) = own_of(&command.kind) else {
+        let decision = book.answer(command)?;
+        return Ok(decision);
+    };
+    let near = own_near(book, id, &command.kind)?;
+    let decision = decide(&near, command)?;
+    Ok(decision)
+}
+
+/// The clearance of a command that needs no fence.
+fn own_of(kind: &Kind) -> Option<ClearanceId>
+    ensures { result ≡ own_of kind.now }
+{
+    match kind {
+        Kind::Instruct { clearance, .. } => Some(*clearance),
+        Kind::Repeat { clearance, .. } => Some(*clearance),
+        Kind::Report { clearance, .. } => Some(*clearance),
+        Kind::Grant { clearance } => Some(*clearance),
+        Kind::SignOn { clearance, .. } => Some(*clearance),
+        Kind::SignOff { clearance, .. } => Some(*clearance),
+        Kind::Transfer { clearance, .. } => Some(*clearance),
+        Kind::Restore { clearance, .. } => Some(*clearance),
+        Kind::Amend { clearance, .. } => Some(*clearance),
+        _ => None,
+    }
+}
+
+/// What a command of this clearance looks at: its record and its steps, and what is at few places.
+fn own_near<'a, P, C, T, H>(
+    book: &'a Book<P, C, T, H>,
+    id: ClearanceId,
+    kind: &Kind,
+) -> Result<Near<'a>, AllocError>
+where
+    P: Shelf<PointState>,
+    C: Shelf<Record>,
+    T: Shelf<StepRow>,
+    H: Shelf<Hold>,
+    ensures { IfOk result (λ near. near ≡ own_near book.now.register id kind.now) }
+{
+    let (states, records, steps, holds) = book.shelves();
+    let steps = steps.group(&id)?;
+    let alloc = *steps.allocator();
+    let found = records.get(&id);
+    let points = points_at(alloc, kind, &steps)?;
+    let sections = sections_at(alloc, kind, found)?;
+    let records = records_of(alloc, found)?;
+    let states = rows_in(alloc, states, &points)?;
+    let holds = holds_at(alloc, holds, &sections, &points, crews_at(kind))?;
+    let near = Near {
+        alloc,
+        greatest: 0,
+        fence: Vec::new(alloc),
+        crossed: None,
+        sections: Vec::new(alloc),
+        points: Vec::new(alloc),
+        staff: book.staff(),
+        states,
+        records,
+        steps,
+        holds,
+    };
+    Ok(near)
+}
+
+/// The record that was found, as a list.
+fn records_of(alloc: Global, found: Option<&Record>) -> Result<Vec<&Record>, AllocError>
+    ensures { IfOk result (λ records. map (λ row. row.now) records.items
+        ≡ listed (option_copied found.entry)) }
+{
+    let mut records = Vec::new(alloc);
+    if let Some(row) = found {
+        records.push(row)?;
+    }
+    Ok(records)
+}
+
+/// The points at which a command looks, in order.
+fn points_at(alloc: Global, kind: &Kind, steps: &[&StepRow]) -> Result<Vec<Name>, AllocError>
+    ensures rising { IfOk result (λ names. IsStrictlySortedBy name_cmp names.items) }
+    ensures same { IfOk result (λ names. (p : List ℕ) → has_name names.items p
+        ≡ has_name (points_among (map (λ row. row.now) steps.now) kind.now) p) }
+{
+    let looked = looked_steps(alloc, kind, steps)?;
+    let points = points_of(alloc, &looked)?;
+    Ok(in_order(points))
+}
+
+/// The steps at whose points a command looks.
+fn looked_steps<'a>(
+    alloc: Global,
+    kind: &Kind,
+    steps: &[&'a StepRow],
+) -> Result<Vec<&'a StepRow>, AllocError>
+    ensures { IfOk result (λ looked. points_of (map (λ row. row.now) looked.items)
+        ≡ points_among (map (λ row. row.now) steps.now) kind.now) }
+{
+    match kind {
+        Kind::Instruct { step, .. } => {
+            let found = numbered(alloc, steps, *step)?;
+            Ok(found)
+        }
+        Kind::Restore { .. } => {
+            let found = of_first_round(alloc, steps)?;
+            Ok(found)
+        }
+        _ => Ok(Vec::new(alloc)),
+    }
+}
+
+/// The steps that have a number.
+fn numbered<'a>(
+    alloc: Global,
+    steps: &[&'a StepRow],
+    number: u16,
+) -> Result<Vec<&'a StepRow>, AllocError>
+    ensures { IfOk result (λ found. found.items
+        ≡ filter (λ row. row.now.ordinal == number) steps.now) }
+{
+    steps
+        .iter()
+        .copied()
+        .filter(|row| row.ordinal == number)
+        .collect(alloc)
+}
+
+/// The steps of the first round.
+fn of_first_round<'a>(alloc: Global, steps: &[&'a StepRow]) -> Result<Vec<&'a StepRow>, AllocError>
+    ensures { IfOk result (λ found. found.items ≡ filter (λ row. row.now.round == 1) steps.now) }
+{
+    steps
+        .iter()
+        .copied()
+        .filter(|row| row.round == 1)
+        .collect(alloc)
+}
+
+/// The points of these steps.
+fn points_of(alloc: Global, steps: &[&StepRow]) -> Result<Vec<Name>, AllocError>
+    ensures { IfOk result (λ points. points.items ≡ map (λ row. row.now.step.point) steps.now) }
+{
+    steps.iter().map(|row| row.step.point).collect(alloc)
+}
+
+/// The sections at which a command looks.
+fn sections_at(alloc: Global, kind: &Kind, found: Option<&Record>) -> Result<Vec<Name>, AllocError>
+    ensures { IfOk result (λ names. names.items
+        ≡ sections_among (option_copied found.entry) kind.now) }
+{
+    let mut names = Vec::new(alloc);
+    if let Kind::SignOn { .. } = kind {
+        if let Some(row) = found {
+            if let Some(work) = row.work {
+                names.push(work)?;
+            }
+        }
+    }
+    Ok(names)
+}
+
+/// The clearance whose crews a command looks at.
+fn crews_at(kind: &Kind) -> Option<ClearanceId>
+    ensures { result ≡ crews_at kind.now }
+{
+    match kind {
+        Kind::SignOn { clearance, .. } => Some(*clearance),
+        Kind::SignOff { clearance, .. } => Some(*clearance),
+        _ => None,
+    }
+}
+
+/// The holds at these sections and points, and of the crews of this clearance.
+fn holds_at<'a, H: Shelf<Hold>>(
+    alloc: Global,
+    shelf: &'a H,
+    sections: &[Name],
+    points: &[Name],
+    crews: Option<ClearanceId>,
+) -> Result<Vec<&'a Hold>, AllocError>
+    requires sections { IsStrictlySortedBy name_cmp sections.now }
+    requires points { IsStrictlySortedBy name_cmp points.now }
+    ensures { IfOk result (λ found. map (λ row. row.now) found.items
+        ≡ filter (is_near_hold (has_name sections.now) (has_name points.now) crews)
+        (H.rows shelf.now)) }
+{
+    let groups = groups_near(alloc, sections, points, crews)?;
+    let found = rows_in(alloc, shelf, &groups)?;
+    Ok(found)
+}
