@@ -1,4 +1,4 @@
--- What is told of the next part of a journal.
+-- What is printed of the next part of a journal.
 use Rattle.std.proofs.Common.{◌≡◌, ◌⊎◌, inl, inr, ℕ, Result, Ok, Err}
 use Rattle.std.specs.Prelude.{IsErrAnd, String}
 use Rattle.std.specs.declared.alloc.Global.{Global}

@@ -16,7 +16,7 @@ use Rattle.clr_edge.specs.declared.fault.Fault.TheVariants.{Journal, Memory}
 use Rattle.clr_edge.specs.declared.fault.JournalFault.TheVariants.{Differs}
 use Rattle.clr_rules.specs.Register.{Register}
 use Rattle.clr_commands.specs.Faults.{IsOfSubcommand}
-use Rattle.clr_commands.specs.PartAfter.{BeginsAfter, IsElsewhere, PartsFound, PartsOver, PrintsPart}
+use Rattle.clr_commands.specs.PartAfter.{BeginsAfter, IsOtherNumber, PartsFound, PartsOver, PrintsPart}
 use Rattle.clr_commands.proofs.Faults.{journal_plain, memory_plain, of_store_plain}
 
 -- a fault that is passed on has what is shown of it
@@ -29,9 +29,9 @@ part_told place (Ok text) fault is = absurd is
 part_told place (Err cause) fault is = let fails : Fault → Done = λ f. Err f in ap fails (sym is)
 
 -- the faults are those of a subcommand
-pub elsewhere_plain : (place : Place) (after : List ℕ) (fault : Fault) → IsElsewhere place after fault → IsOfSubcommand fault
-elsewhere_plain place after fault (inl memory) = memory_plain fault memory
-elsewhere_plain place after fault (inr (is, other)) = journal_plain fault _ is
+pub other_number_plain : (place : Place) (after : List ℕ) (fault : Fault) → IsOtherNumber place after fault → IsOfSubcommand fault
+other_number_plain place after fault (inl memory) = memory_plain fault memory
+other_number_plain place after fault (inr (is, other)) = journal_plain fault _ is
 
 pub lacks_plain : {T : Type 0} (g : Ghosts T) (before : Held T) (fault : Fault) (after : Held T) → LacksPlace g before fault after → IsOfSubcommand fault
 lacks_plain g before fault after lacks = subst (λ f. IsOfSubcommand f) (sym lacks.fault_is) (of_store_plain lacks.cause)

@@ -1,10 +1,11 @@
 -- What an archive sends and takes out, by what a desk and the output say of it.
-use Rattle.std.proofs.Common.{◌≡◌, Err, List, Ok, OnOk, inl, inr, refl, subst, ℕ}
+use Rattle.std.proofs.Common.{◌≡◌, Bool, Err, List, Ok, OnOk, inl, inr, refl, subst, ℕ}
 use Rattle.std.specs.Prelude.{IfErr, IsErrAnd, IsTrue, OnErr}
 use Rattle.sqlite.specs.State.{HasCleanDisk, State, Survives}
 use Rattle.sqlite.proofs.StateLemmas.{survives_weaker}
+use Rattle.clr_append.specs.declared.journal.Journal as append
 use Rattle.clr_archive.specs.Archive.{archived}
-use Rattle.clr_deeds.specs.Deeds.{archive}
+use Rattle.clr_deeds.specs.Deeds.{Deed, archive}
 use Rattle.clr_desk.specs.Archiving.{AreArchived}
 use Rattle.clr_desk.specs.Faults.{IsOfKeeper}
 use Rattle.clr_desk.specs.Placing.{Placing}
@@ -24,6 +25,7 @@ use Rattle.clr_tables.specs.Tables.{tables_of}
 use Rattle.clr_edge.specs.Visit.{Done}
 use Rattle.clr_edge.specs.declared.fault.Fault.TheVariants.{Memory, Output}
 use Rattle.clr_commands.specs.Archive.{IsUnsent, TakesOut}
+use Rattle.clr_commands.specs.DeedLines.{HasLine}
 use Rattle.clr_commands.specs.Faults.{IsOfDesk, done_of}
 
 -- what came of a call of a desk is no more
@@ -44,10 +46,10 @@ taken_by kept before R read after (Err cause) taken saved none crash = record { 
 
 -- the same at a desk with a journal, which renews its register
 pub taken_with : {K J C : Type 0} (kept : K → State) (has_place : Placing) (fails : DeskFault → Type 0) (shows : C → ℕ → Type 0) (text found : J → List ℕ)
-    (may_leave : J → List ℕ → Type 0) (before : ℕ) (old new : Desk (Keeper K J C)) (came : Came) → IsGood old.book.register
-    → RenewsAt kept has_place fails shows text found may_leave old new (archive before) came
+    (may_leave : J → List ℕ → Type 0) (is_usable : J → Bool) (before : ℕ) (old new : Desk (Keeper K J C)) (came : Came) → IsGood old.book.register
+    → RenewsAt kept has_place fails shows text found may_leave is_usable old new (archive before) came
     → TakesOut (λ (it : Keeper K J C). kept it.keeper) before old.book.register (done_of came) old.store new.store
-taken_with {K} {J} {C} kept has_place fails shows text found may_leave before old new came good renews =
+taken_with {K} {J} {C} kept has_place fails shows text found may_leave is_usable before old new came good renews =
     taken_by (λ (it : Keeper K J C). kept it.keeper) before old.book.register old.store new.store came
     (λ clean has. tables came renews.register renews.tables clean has) (λ clean. renews.saved clean tt)
     (λ clean is_open. stays came renews.stays clean is_open)
@@ -67,6 +69,14 @@ taken_with {K} {J} {C} kept has_place fails shows text found may_leave before ol
         → IsTrue (kept new.store.keeper).is_open → OnErr came ((kept new.store.keeper).now ≡ (kept old.store.keeper).now)
     stays (Ok value) shown clean is_open = tt
     stays (Err cause) shown clean is_open = shown.now clean is_open
+
+-- and its line was noted
+pub line_told : {K J C : Type 0} (kept : K → State) (has_place : Placing) (fails : DeskFault → Type 0) (shows : C → ℕ → Type 0) (log : append.Ghosts J)
+    (old new : Desk (Keeper K J C)) (deed : Deed) (came : Came)
+    → RenewsAt kept has_place fails shows log.text log.found log.may_leave log.is_usable old new deed came
+    → HasLine kept has_place fails shows log old deed (done_of came) new
+line_told kept has_place fails shows log old new deed (Ok value) renews = record { came = Ok value; tells = tt; renews = renews }
+line_told kept has_place fails shows log old new deed (Err cause) renews = record { came = Err cause; tells = refl; renews = renews }
 
 -- ---- what did not go out whole
 

@@ -9,6 +9,7 @@ use Rattle.sqlite.specs.Held.{Held, state}
 use Rattle.sqlite.specs.State.{HasCleanDisk, State, Survives}
 use Rattle.sqlite.proofs.StateLemmas.{survives_weaker}
 use Rattle.sqlite_trees.specs.declared.store.Store.{Ghosts}
+use Rattle.clr_append.specs.declared.journal.Journal as append
 use Rattle.clr_net.specs.Grid.{Grid, unplaced}
 use Rattle.clr_net.specs.NameText.{read_name}
 use Rattle.clr_net.specs.declared.point.PointRow.{PointRow}
@@ -56,18 +57,19 @@ use Rattle.clr_level.proofs.Crashes.{left_itself}
 use Rattle.clr_args.specs.declared.asked.UpdateArgs.{UpdateArgs}
 use Rattle.clr_edge.specs.Database.{IsOfLine}
 use Rattle.clr_edge.specs.Fault.{of_desk, of_store}
-use Rattle.clr_keeping.specs.Keeping.{IsLetGo, IsUpWith, StaysLevel, StaysSound}
+use Rattle.clr_keeping.specs.Keeping.{IsLetGo, IsUpWith, StaysLevel, StaysOne, plain_keeper}
 use Rattle.clr_keeping.specs.TakenUp.{Logs, store_place}
 use Rattle.clr_keeping.specs.declared.taking_up.Opened.TheVariants.{Logged, Plain}
-use Rattle.clr_keeping.proofs.Keeping.{worked}
+use Rattle.clr_keeping.proofs.Keeping.{worked_either}
 use Rattle.clr_edge.specs.Visit.{Done, Ending, Ends, Opening, Shutting, first_fault}
 use Rattle.clr_edge.specs.declared.fault.Fault.{Fault}
 use Rattle.clr_edge.specs.declared.fault.Fault.TheVariants.{Memory, Update}
 use Rattle.clr_update.specs.declared.obstacle.Obstacle.{Obstacle}
+use Rattle.clr_commands.specs.DeedLines.{HasLine, IsJournaled}
 use Rattle.clr_commands.specs.Faults.{IsOfSubcommand}
 use Rattle.clr_commands.specs.Fence.{argument}
 use Rattle.clr_commands.specs.Import.{FileRows}
-use Rattle.clr_commands.specs.Update.{AreSaid, IsDone, IsRenewed, IsUpdated, RefusesUpdate, ReportsUpdate, Texts, UpdatesAlone, UpdatesAt, WithJournal, names_said, reported, text_reported, update_fault}
+use Rattle.clr_commands.specs.Update.{AreSaid, IsDone, IsRenewed, IsUpdateNoted, IsUpdated, NotesUpdate, RefusesUpdate, ReportsUpdate, Texts, UpdatesAlone, UpdatesAt, UpdatesLogged, WithJournal, names_said, reported, text_reported, update_fault}
 use Rattle.clr_commands.proofs.Faults.{line_plain, obstacle_plain, of_desk_plain}
 use Rattle.clr_commands.proofs.PointsNamed.{names_after}
 
@@ -161,39 +163,39 @@ pub not_updated : {K : Type 0} (kept : K → State) (R : Register) (u : Changed)
 not_updated kept R u fault k = record {
   tables = λ clean has. tt;
   saved = λ clean. tt;
-  fit = λ fit. tt;
+  fit = tt;
   refused = λ cause e. refl;
   none = λ clean is_open. refl;
   crash = left_itself (kept k) (AreUpdated (kept k).now R u);
 }
 
 module _ {S : Type 0} (g : Ghosts S) (R : Register) (u : Changed) (read after : Held S) where
-  pub updated_by : (report : Result Report DeskFault) → IsRead u → UpdatesKeepGood → IfOk report (IsReport R u)
+  pub updated_by : (report : Result Report DeskFault) → IsFit R → IsRead u → UpdatesKeepGood → IfOk report (IsReport R u)
       → (HasCleanDisk (state g after) → HasTables (state g read).now (tables_of R) → OnOk report (HasTables (state g after).now (tables_of (after_update R u))))
       → IfOk report (λ it. SavesIfAccepted g it read after)
       → (HasCleanDisk (state g after) → IsTrue (state g after).is_open → OnErr report ((state g after).now ≡ (state g read).now))
       → Survives (state g read) (state g after) (AreUpdated (state g read).now R u)
       → IsUpdated (state g) R u (text_reported report) read after
-  updated_by (Ok (Changes lines)) is_read law is tables saved none crash = record {
+  updated_by (Ok (Changes lines)) good is_read law is tables saved none crash = record {
     tables = λ clean has. subst (λ (Q : Register). HasTables (state g after).now (tables_of Q)) (after_is R u is.0) (tables clean has);
     saved = saved;
-    fit = fit_after R u is_read law is.0;
+    fit = fit_after R u is_read law is.0 good;
     refused = λ cause e. absurd (cc e);
     none = λ clean is_open. tt;
     crash = crash;
   }
-  updated_by (Ok (InTheWay cause)) is_read law is tables saved none crash = record {
+  updated_by (Ok (InTheWay cause)) good is_read law is tables saved none crash = record {
     tables = λ clean has. tt;
     saved = λ clean. tt;
-    fit = λ fit. tt;
+    fit = tt;
     refused = λ obstacle e. saved;
     none = λ clean is_open. ap (λ (h : Held S). (state g h).now) saved;
     crash = crash;
   }
-  updated_by (Err cause) is_read law is tables saved none crash = record {
+  updated_by (Err cause) good is_read law is tables saved none crash = record {
     tables = λ clean has. tt;
     saved = λ clean. tt;
-    fit = λ fit. tt;
+    fit = tt;
     refused = λ obstacle e. absurd (unrefused cause obstacle (Err (of_desk cause)) refl e);
     none = none;
     crash = crash;
@@ -240,8 +242,11 @@ are_said R u of accepted same says =
     let none = ap (λ (rows : ChangedRows). list_all has_none rows.points_go) same ∙ gone_have_none R (updated R u) accepted.good in
     sym (ap can_be_said same) ∙ says none
 
-module _ {K J C : Type 0} (kept : K → State) (has_place : Placing) (fails : DeskFault → Type 0) (shows : C → ℕ → Type 0) (text found : J → List ℕ)
-    (may_leave : J → List ℕ → Type 0) (u : Changed) (of : ChangedRows) (lines : String Global) (old new : Desk (Keeper K J C)) where
+module _ {K J C : Type 0} (kept : K → State) (has_place : Placing) (fails : DeskFault → Type 0) (shows : C → ℕ → Type 0) (log : append.Ghosts J)
+    (u : Changed) (of : ChangedRows) (lines : String Global) (old new : Desk (Keeper K J C)) where
+  abbrev Renews : Came → Type 0
+  Renews came = RenewsAt kept has_place fails shows log.text log.found log.may_leave log.is_usable old new (update of) came
+
   abbrev Q : Register
   Q = old.book.register
 
@@ -249,54 +254,69 @@ module _ {K J C : Type 0} (kept : K → State) (has_place : Placing) (fails : De
   below it = kept it.keeper
 
   renewed_left : after_changes Q of ≡ updated Q u → in_the_way Q u ≡ None → IsGood Q
-      → Survives (below old.store) (below new.store) (AreDoneSafely kept has_place text may_leave Q old.store (update of) new.store)
+      → Survives (below old.store) (below new.store) (AreDoneSafely kept has_place log.text log.may_leave Q old.store (update of) new.store)
       → Survives (below old.store) (below new.store) (AreUpdated (below old.store).now Q u)
   renewed_left is none good left =
-      survives_weaker (below old.store) (below new.store) (AreDoneSafely kept has_place text may_leave Q old.store (update of) new.store)
+      survives_weaker (below old.store) (below new.store) (AreDoneSafely kept has_place log.text log.may_leave Q old.store (update of) new.store)
       (AreUpdated (below old.store).now Q u)
       (λ clean trees done has. (none, subst (λ (X : Register). AreTables trees (tables_of X)) is (done.0 good has).0)) left
 
-  renewed_as : (came : Came) → IsAccepted Q u → after_changes Q of ≡ updated Q u → of ≡ changes Q (updated Q u) → UpdatesKeepGood
-      → can_be_said (changes Q (updated Q u)) ≡ true → string_bytes lines ≡ change_lines of → RenewsAt kept has_place fails shows text found may_leave old new (update of) came
-      → IsRenewed kept fails old new u (reported lines came)
-  renewed_as (Ok value) accepted is same law can said renews = record {
+  -- its line has these changes
+  noted_by : (came : Came) → of ≡ changes Q (updated Q u) → Renews came
+      → RenewsAt kept has_place fails shows log.text log.found log.may_leave log.is_usable old new (update (changes Q (updated Q u))) came
+  noted_by came same renews =
+      subst (λ (o : ChangedRows). RenewsAt kept has_place fails shows log.text log.found log.may_leave log.is_usable old new (update o) came) same renews
+
+  noted_as : (came : Came) → of ≡ changes Q (updated Q u) → Renews came
+      → HasLine kept has_place fails shows log old (update (changes Q (updated Q u))) (reported lines came) new
+  noted_as (Ok value) same renews = record { came = Ok value; tells = tt; renews = noted_by (Ok value) same renews }
+  noted_as (Err cause) same renews = record { came = Err cause; tells = refl; renews = noted_by (Err cause) same renews }
+
+  renewed_as : (came : Came) → IsStaffed Q → IsAccepted Q u → after_changes Q of ≡ updated Q u → of ≡ changes Q (updated Q u) → UpdatesKeepGood
+      → can_be_said (changes Q (updated Q u)) ≡ true → string_bytes lines ≡ change_lines of → Renews came
+      → IsRenewed kept has_place fails shows log old new u (reported lines came)
+  renewed_as (Ok value) staffed accepted is same law can said renews = record {
     reports = (accepted.free, said ∙ ap change_lines same);
     is_done = record {
       tables = λ clean has. subst (λ (X : Register). HasTables (below new.store).now (tables_of X)) (renews.register accepted.good ∙ is) (renews.tables clean accepted.good has);
       saved = λ clean. renews.saved clean tt;
-      fit = fit_after Q u accepted.read law accepted.free;
+      fit = fit_after Q u accepted.read law accepted.free (accepted.good, staffed);
       refused = λ cause e. absurd (cc e);
       none = λ clean is_open. tt;
       crash = renewed_left is accepted.free accepted.good renews.crash;
     };
     said = inr can;
+    noted = inr (noted_as (Ok value) same renews);
   }
-  renewed_as (Err cause) accepted is same law can said renews = record {
+  renewed_as (Err cause) staffed accepted is same law can said renews = record {
     reports = inr (cause, refl, renews.fault);
     is_done = record {
       tables = λ clean has. tt;
       saved = λ clean. tt;
-      fit = λ fit. tt;
+      fit = tt;
       refused = λ obstacle e. absurd (unrefused cause obstacle (Err (of_desk cause)) refl e);
       none = λ clean is_open. renews.stays.now clean is_open;
       crash = renewed_left is accepted.free accepted.good renews.crash;
     };
     said = inr can;
+    noted = inr (noted_as (Err cause) same renews);
   }
 
-  pub renewed_with : (came : Came) → UpdatesKeepGood → ChangesSayAll → IsAccepted Q u → of ≡ changes Q (updated Q u)
-      → can_be_said (changes Q (updated Q u)) ≡ true → string_bytes lines ≡ change_lines of → RenewsAt kept has_place fails shows text found may_leave old new (update of) came
-      → IsRenewed kept fails old new u (reported lines came)
-  renewed_with came law says accepted same can said renews =
-      renewed_as came accepted (ap (after_changes Q) same ∙ says.same Q u accepted) same law can said renews
+  pub renewed_with : (came : Came) → UpdatesKeepGood → ChangesSayAll → IsStaffed Q → IsAccepted Q u → of ≡ changes Q (updated Q u)
+      → can_be_said (changes Q (updated Q u)) ≡ true → string_bytes lines ≡ change_lines of → Renews came
+      → IsRenewed kept has_place fails shows log old new u (reported lines came)
+  renewed_with came law says staffed accepted same can said renews =
+      renewed_as came staffed accepted (ap (after_changes Q) same ∙ says.same Q u accepted) same law can said renews
 
 -- nothing was done, and why
-pub unrenewed : {K J C : Type 0} (kept : K → State) (fails : DeskFault → Type 0) (old : Desk (Keeper K J C)) (u : Changed) (fault : Fault)
-    → ReportsUpdate (FailsToo fails) old.book.register u (Err fault) → IsRenewed kept fails old old u (Err fault)
-unrenewed {K} {J} {C} kept fails old u fault reports = record {
+pub unrenewed : {K J C : Type 0} (kept : K → State) (has_place : Placing) (fails : DeskFault → Type 0) (shows : C → ℕ → Type 0) (log : append.Ghosts J)
+    (old : Desk (Keeper K J C)) (u : Changed) (fault : Fault)
+    → ReportsUpdate (FailsToo fails) old.book.register u (Err fault) → IsRenewed kept has_place fails shows log old old u (Err fault)
+unrenewed {K} {J} {C} kept has_place fails shows log old u fault reports = record {
   reports = reports;
   is_done = not_updated (λ (it : Keeper K J C). kept it.keeper) old.book.register u fault old.store;
   said = inl refl;
+  noted = inl refl;
 }
 
 pub levels_alike : {K J C : Type 0} (kept : K → State) (has_place : Placing) (text : J → List ℕ) (d : Desk (Keeper K J C)) → StaysLevel kept has_place text d d
@@ -331,18 +351,18 @@ module _ {M J C S : Type 0} (logs : Logs M J C) (g : Ghosts S) (opens : Opening 
       → result ≡ first_fault report closed → UpdatesAt logs g opens shuts ends args u result old new
   updated_alone report result closed old between new desk store after up reports is_done same ended line is =
       let left : Desk (Held S) = record { book = desk.book; store = store; faults = desk.faults } in
-      worked g opens shuts shuts ends args.database.now (Unit {0}) first_fault logs (UpdatesAlone args u) args.journal report result old between between new
-      (Plain desk) (Plain left) closed up
+      worked_either g opens shuts shuts ends args.database.now (Unit {0}) first_fault logs (UpdatesAlone args u (Held S) (plain_keeper g))
+      (UpdatesLogged logs g args u) args.journal report result old between between new (Plain desk) (Plain left) closed up
       (refl, record { reports = reports; is_done = is_done; said = none_named logs g opens args.database.now args.journal old between desk (AreSaid u desk left) up })
       tt (store, between, (refl, refl), subst (λ (h : Held S). Ends ends h closed between new) same ended) line is
 
-  -- with its journal, with which it stays level
+  -- with its journal, with which it stays level, and in which it has its line
   pub updated_level : (report result : Texts) (closed : Done) (old between new : M) (desk left : Desk (Keeper (Held S) J C))
       → IsUpWith g opens args.database.now logs args.journal old between (Logged desk) → ReportsUpdate (FailsToo FailsAsStore) desk.book.register u report
       → IsDone (λ (it : Keeper (Held S) J C). state g it.keeper) args.dry_run desk.book.register u report desk.store left.store → AreSaid u desk left
-      → StaysLevel (state g) store_place logs.log.text desk left → StaysSound logs.log.text logs.log.found logs.log.may_leave desk left
+      → NotesUpdate (state g) store_place FailsAsStore logs.shows logs.log args.dry_run u report desk left → StaysOne (state g) store_place logs.log desk left
       → IsLetGo ends logs (Logged left) closed between new → IfErr closed IsOfLine → result ≡ first_fault report closed
       → UpdatesAt logs g opens shuts ends args u result old new
-  updated_level report result closed old between new desk left up reports is_done said level sound gone line is =
-      worked g opens shuts shuts ends args.database.now (Unit {0}) first_fault logs (UpdatesAlone args u) args.journal report result old between between new
-      (Logged desk) (Logged left) closed up (refl, record { reports = reports; is_done = is_done; said = where_named args.journal (AreSaid u desk left) said }) (level, sound) gone line is
+  updated_level report result closed old between new desk left up reports is_done said noted stays gone line is =
+      worked_either g opens shuts shuts ends args.database.now (Unit {0}) first_fault logs (UpdatesAlone args u (Held S) (plain_keeper g))
+      (UpdatesLogged logs g args u) args.journal report result old between between new (Logged desk) (Logged left) closed up ((refl, record { reports = reports; is_done = is_done; said = where_named args.journal (AreSaid u desk left) said }), noted) stays gone line is

@@ -1,25 +1,29 @@
 -- WHAT `archive` DOES: of the register that a database has, the records that were closed before a
 -- moment go out with their steps, and then these steps leave the tables.
 use Rattle.std.specs.Prelude.{◌≡◌, ◌⊎◌, ℕ, IfErr, IsErrAnd, IsTrue, List, OnErr, OnOk}
-use Rattle.sqlite.specs.Held.{Held}
+use Rattle.sqlite.specs.Held.{Held, state}
 use Rattle.sqlite.specs.State.{HasCleanDisk, State, Survives}
 use Rattle.sqlite_trees.specs.declared.store.Store.{Ghosts}
 use Rattle.clr_archive.specs.Archive.{archived}
 use Rattle.clr_args.specs.declared.asked.ArchiveArgs.{ArchiveArgs}
+use Rattle.clr_deeds.specs.Deeds.{archive}
 use Rattle.clr_desk.specs.Archiving.{AreArchived}
+use Rattle.clr_desk.specs.Faults.{FailsAsStore}
 use Rattle.clr_desk.specs.declared.commit.Commit as commit
 use Rattle.clr_desk.specs.declared.desk.Desk.{Desk}
+use Rattle.clr_level.specs.declared.keeper.Keeper.{Keeper}
 use Rattle.clr_load.specs.Contract.{IsSaved}
 use Rattle.clr_load.specs.Stored.{HasTables}
 use Rattle.clr_rules.specs.Register.{Register}
 use Rattle.clr_stream.specs.Streams.{IsCut, Stream, WentOut}
 use Rattle.clr_tables.specs.Tables.{tables_of}
-use Rattle.clr_keeping.specs.Keeping.{WorksWith}
-use Rattle.clr_keeping.specs.TakenUp.{Logs}
+use Rattle.clr_keeping.specs.Keeping.{WorksEither, logged_keeper, plain_keeper}
+use Rattle.clr_keeping.specs.TakenUp.{Logs, store_place}
 use Rattle.clr_edge.specs.Visit.{Comes, Done, Ending, Opening, Shutting, first_fault}
 use Rattle.clr_edge.specs.declared.fault.Fault.{Fault}
 use Rattle.clr_edge.specs.declared.fault.Fault.TheVariants.{Memory, Output}
 use Rattle.clr_commands.specs.ArchiveText.{archive_text}
+use Rattle.clr_commands.specs.DeedLines.{IsJournaled}
 use Rattle.clr_commands.specs.Faults.{IsOfDesk}
 
 -- a text did not go out whole: a part did, and the output failed; or memory ran out before it
@@ -53,12 +57,22 @@ abbrev pub ArchivesAlone : {M : Type 0} → ℕ → Stream → Stream → (K : T
 ArchivesAlone before output output' K keeper told old new taken left = (new ≡ old)
     × IsArchived keeper before output output' taken.book.register told taken.store left.store
 
+-- with a journal, in which the archive has its line
+abbrev pub ArchivesLogged : {M J C S : Type 0} → Logs M J C → Ghosts S → ℕ → Stream → Stream → Done
+    → M → M → Desk (Keeper (Held S) J C) → Desk (Keeper (Held S) J C) → Type 0
+ArchivesLogged {J = J} {C = C} {S = S} logs g before output output' told old new taken left =
+    ArchivesAlone before output output' (Keeper (Held S) J C) (logged_keeper g logs) told old new
+    taken left
+    × IsJournaled (state g) store_place FailsAsStore logs.shows logs.log taken (archive before) told
+    left
+
 -- with a journal or without one: the register is taken up, archived and let go, and the database
 -- closed. Where it was not taken up nothing went out. The first fault is the result
 abbrev pub ArchivesOver : {M J C S : Type 0} → Logs M J C → Ghosts S → ArchiveArgs → Stream
     → Stream → Done → M → Held S → Held S → Done → M → Type 0
-ArchivesOver logs g args output output' = WorksWith logs g args.journal (output' ≡ output)
-    (ArchivesAlone args.before output output') first_fault
+ArchivesOver {S = S} logs g args output output' = WorksEither logs g args.journal
+    (output' ≡ output) (ArchivesAlone args.before output output' (Held S) (plain_keeper g))
+    (ArchivesLogged logs g args.before output output') first_fault
 
 -- over the database at a path; where that was not opened, nothing went out
 abbrev pub ArchivesAt : {M J C S : Type 0} → Logs M J C → Ghosts S → Opening M S → Shutting M

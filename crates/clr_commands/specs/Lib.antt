@@ -4,6 +4,7 @@ pub mod ArchiveText
 pub mod Check
 pub mod ConnectionLaws
 pub mod Connections
+pub mod DeedLines
 pub mod Desks
 pub mod Faults
 pub mod Fence

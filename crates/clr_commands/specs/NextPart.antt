@@ -18,11 +18,11 @@ abbrev pub PrintsNext : Result ℕ Fault → Result (String Global) Fault → Ty
 PrintsNext (Ok number) (Ok text) = string_bytes text ≡ next_line number
 PrintsNext (Ok number) (Err fault) = fault ≡ Memory
 PrintsNext (Err fault) (Ok text) = ⊥
-PrintsNext (Err fault) (Err told) = told ≡ fault
+PrintsNext (Err fault) (Err cause) = cause ≡ fault
 
 abbrev pub BeginsNext : {M S J C : Type 0} → Logs M J C → Ghosts S → Opening M S
     → Shutting M → Ending M S → NextPartArgs → Result (String Global) Fault → M → M → Type 0
-BeginsNext logs g opens shuts ends args result old new = (told : Result ℕ Fault)
-    × PrintsNext told result
-    × BeginsNextAt logs g opens shuts ends args.database.now args.path.now args.next.now told
+BeginsNext logs g opens shuts ends args result old new = (outcome : Result ℕ Fault)
+    × PrintsNext outcome result
+    × BeginsNextAt logs g opens shuts ends args.database.now args.path.now args.next.now outcome
     old new

@@ -24,8 +24,8 @@ PrintsPart place begun (Ok text) = (begun ≡ Ok tt) × (string_bytes text ≡ n
 PrintsPart place begun (Err fault) = begun ≡ Err fault
 
 -- the number that is named is another than that of the place, or memory ran out
-abbrev pub IsElsewhere : Place → List ℕ → Fault → Type 0
-IsElsewhere place after fault = (fault ≡ Memory)
+abbrev pub IsOtherNumber : Place → List ℕ → Fault → Type 0
+IsOtherNumber place after fault = (fault ≡ Memory)
     ⊎ ((fault ≡ Journal (Differs place.number)) × (after ≢ decimal place.number))
 
 -- A PART IS BEGUN AT A PATH with this place as its first line, where the number that is named is
@@ -33,9 +33,9 @@ IsElsewhere place after fault = (fault ≡ Memory)
 abbrev pub BeginsPart : {M J C : Type 0} → Logs M J C → Place → List ℕ → List ℕ
     → Result (String Global) Fault → M → M → Type 0
 BeginsPart logs place path after result old new =
-    (IsErrAnd result (IsElsewhere place after) × (new ≡ old))
+    (IsErrAnd result (IsOtherNumber place after) × (new ≡ old))
     ⊎ ((after ≡ decimal place.number) × (begun : Done) × PrintsPart place begun result
-    × BeginsFirst logs path place (λ told middle later. (told ≡ Ok tt) × (later ≡ middle)) begun
+    × BeginsFirst logs path place (λ outcome middle later. (outcome ≡ Ok tt) × (later ≡ middle)) begun
     old new)
 
 -- at the place of a register, if it has one

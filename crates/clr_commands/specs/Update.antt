@@ -5,9 +5,10 @@ use Rattle.std.specs.Prelude.{List, [], ◌∷◌, map, None, OnErr, OnOk, Optio
 use Rattle.std.specs.Prelude.{String, string_bytes}
 use Rattle.std.specs.Borrow.{Bor}
 use Rattle.std.specs.declared.alloc.Global.{Global}
-use Rattle.sqlite.specs.Held.{Held}
+use Rattle.sqlite.specs.Held.{Held, state}
 use Rattle.sqlite.specs.State.{HasCleanDisk, State, Survives}
 use Rattle.sqlite_trees.specs.declared.store.Store.{Ghosts}
+use Rattle.clr_append.specs.declared.journal.Journal as append
 use Rattle.clr_net.specs.NameText.{read_name}
 use Rattle.clr_net.specs.Network as network
 use Rattle.clr_staff.specs.Staff as staff
@@ -23,7 +24,10 @@ use Rattle.clr_changes.specs.declared.report.Report.TheVariants.{Changes, InTheW
 use Rattle.clr_tables.specs.Tables.{tables_of}
 use Rattle.clr_load.specs.Contract.{IsSaved}
 use Rattle.clr_load.specs.Stored.{HasTables}
+use Rattle.clr_deeds.specs.Deeds.{update}
 use Rattle.clr_delta.specs.Delta.{can_be_said}
+use Rattle.clr_desk.specs.Faults.{FailsAsStore}
+use Rattle.clr_desk.specs.Placing.{Placing}
 use Rattle.clr_desk.specs.Updating.{AreUpdated}
 use Rattle.clr_desk.specs.declared.commit.Commit as commit
 use Rattle.clr_desk.specs.declared.desk.Desk.{Desk}
@@ -32,11 +36,12 @@ use Rattle.clr_args.specs.declared.asked.UpdateArgs.{UpdateArgs}
 use Rattle.clr_level.specs.Journaling.{FailsToo}
 use Rattle.clr_level.specs.declared.keeper.Keeper.{Keeper}
 use Rattle.clr_edge.specs.Fault.{of_desk}
-use Rattle.clr_keeping.specs.Keeping.{WorksWith}
-use Rattle.clr_keeping.specs.TakenUp.{Logs}
+use Rattle.clr_keeping.specs.Keeping.{WorksEither, logged_keeper, plain_keeper}
+use Rattle.clr_keeping.specs.TakenUp.{Logs, store_place}
 use Rattle.clr_edge.specs.Visit.{Comes, Done, Ending, Opening, Shutting, first_fault}
 use Rattle.clr_edge.specs.declared.fault.Fault.{Fault}
 use Rattle.clr_edge.specs.declared.fault.Fault.TheVariants.{Memory, Update as InTheWay}
+use Rattle.clr_commands.specs.DeedLines.{IsJournaled}
 use Rattle.clr_commands.specs.Faults.{IsOfDesk}
 use Rattle.clr_commands.specs.Fence.{argument}
 use Rattle.clr_commands.specs.Import.{AnswersFiles, FileRows}
@@ -95,7 +100,7 @@ pub record IsUpdated {K : Type 0} (kept : K → State) (R : Register) (u : Updat
   pub tables : HasCleanDisk (kept after) → HasTables (kept read).now (tables_of R)
       → OnOk report (HasTables (kept after).now (tables_of (updated R u)))
   pub saved : HasCleanDisk (kept after) → OnOk report (IsSaved (kept after))
-  pub fit : IsFit R → OnOk report (IsFit (updated R u))
+  pub fit : OnOk report (IsFit (updated R u))
   pub refused : (cause : Obstacle) → report ≡ Err (InTheWay cause) → after ≡ read
   pub none : HasCleanDisk (kept after) → IsTrue (kept after).is_open
       → OnErr report ((kept after).now ≡ (kept read).now)
@@ -107,13 +112,23 @@ abbrev pub AreSaid : {K : Type 0} → Update → Desk K → Desk K → Type 0
 AreSaid u taken left = (left ≡ taken)
     ⊎ (can_be_said (changes taken.book.register (updated taken.book.register u)) ≡ true)
 
+-- the line of an update has what changes
+abbrev pub IsUpdateNoted : {K J C : Type 0} → (K → State) → Placing → (DeskFault → Type 0)
+    → (C → ℕ → Type 0) → append.Ghosts J → Update → Texts → Desk (Keeper K J C)
+    → Desk (Keeper K J C) → Type 0
+IsUpdateNoted kept has_place fails shows log u report taken left =
+    IsJournaled kept has_place fails shows log taken
+    (update (changes taken.book.register (updated taken.book.register u))) report left
+
 -- the same over a desk with a journal
-pub record IsRenewed {K J C : Type 0} (kept : K → State) (fails : DeskFault → Type 0)
+pub record IsRenewed {K J C : Type 0} (kept : K → State) (has_place : Placing)
+    (fails : DeskFault → Type 0) (shows : C → ℕ → Type 0) (log : append.Ghosts J)
     (taken left : Desk (Keeper K J C)) (u : Update) (report : Texts) : Type 0 where
   pub reports : ReportsUpdate (FailsToo fails) taken.book.register u report
   pub is_done : IsUpdated (λ (it : Keeper K J C). kept it.keeper) taken.book.register u report
       taken.store left.store
   pub said : AreSaid u taken left
+  pub noted : IsUpdateNoted kept has_place fails shows log u report taken left
 
 -- WHAT AN UPDATE DOES OVER A DESK: it updates its register, unless something is in the way. In a dry
 -- run nothing is written
@@ -138,12 +153,28 @@ abbrev pub UpdatesAlone : {M : Type 0} → UpdateArgs → Update → (K : Type 0
 UpdatesAlone args u K keeper report old new taken left =
     (new ≡ old) × UpdatesDesk keeper args u report taken left
 
+-- in a dry run no line is noted
+abbrev pub NotesUpdate : {K J C : Type 0} → (K → State) → Placing → (DeskFault → Type 0)
+    → (C → ℕ → Type 0) → append.Ghosts J → Bool → Update → Texts → Desk (Keeper K J C)
+    → Desk (Keeper K J C) → Type 0
+NotesUpdate kept has_place fails shows log true u report taken left = left ≡ taken
+NotesUpdate kept has_place fails shows log false u report taken left =
+    IsUpdateNoted kept has_place fails shows log u report taken left
+
+-- with a journal, in which the update has its line
+abbrev pub UpdatesLogged : {M J C S : Type 0} → Logs M J C → Ghosts S → UpdateArgs → Update → Texts
+    → M → M → Desk (Keeper (Held S) J C) → Desk (Keeper (Held S) J C) → Type 0
+UpdatesLogged {J = J} {C = C} {S = S} logs g args u report old new taken left =
+    UpdatesAlone args u (Keeper (Held S) J C) (logged_keeper g logs) report old new taken left
+    × NotesUpdate (state g) store_place FailsAsStore logs.shows logs.log args.dry_run u report taken
+    left
+
 -- with a journal or without one: the register is taken up, updated and let go, and the database
 -- closed. The first fault is the result
 abbrev pub UpdatesOver : {M J C S : Type 0} → Logs M J C → Ghosts S → UpdateArgs → Update → Texts
     → M → Held S → Held S → Done → M → Type 0
-UpdatesOver logs g args u =
-    WorksWith logs g args.journal (Unit {0}) (UpdatesAlone args u) first_fault
+UpdatesOver {S = S} logs g args u = WorksEither logs g args.journal (Unit {0})
+    (UpdatesAlone args u (Held S) (plain_keeper g)) (UpdatesLogged logs g args u) first_fault
 
 -- rows and words say no update, or memory ran out, and nothing was opened
 abbrev pub RefusesUpdate : {T : Type 0} → FileRows → List (List ℕ) → Result T Fault → Type 0

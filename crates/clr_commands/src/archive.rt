@@ -5,11 +5,13 @@ ghost use Rattle.sqlite.specs.Held.{state};
 ghost use Rattle.clr_rules.specs.Good.{IsGood};
 ghost use Rattle.clr_rules.specs.Moment.{new_moment};
 ghost use Rattle.clr_stream.specs.Streams.{WentOut};
+ghost use Rattle.clr_deeds.specs.Deeds.{archive as of_archive};
 ghost use Rattle.clr_desk.specs.Faults.{FailsAsStore};
-ghost use Rattle.clr_keeping.specs.Keeping.{StaysLevel, StaysSound};
+ghost use Rattle.clr_keeping.specs.Keeping.{StaysLevel, StaysSafe, StaysSound};
 ghost use Rattle.clr_keeping.specs.TakenUp.{logs};
 ghost use Rattle.clr_commands.specs.Archive.{ArchivesAt, IsArchived, IsUnsent, TakesOut};
 ghost use Rattle.clr_commands.specs.ArchiveText.{archive_text};
+ghost use Rattle.clr_commands.specs.DeedLines.{IsJournaled};
 ghost use Rattle.clr_commands.specs.Faults.{IsOfDesk, done_of};
 
 use crate::archive_text::archive_text;
@@ -103,8 +105,11 @@ fn archive_logged<K: CommitAt, J: Journal + Drop, C: Clock, W: CountedFlush>(
     requires { IsGood desk.book.register }
     ensures archived { IsArchived ⟦<Keeper<K, J, C> as Commit>⟧ before (W.stream output.old)
         (W.stream output.new) desk.book.register result.0 desk.store result.1.store }
+    ensures noted { IsJournaled K.kept K.has_place K.fails C.shows J.Journal desk
+        (of_archive before) result.0 result.1 }
     ensures level { StaysLevel K.kept K.has_place J.text desk result.1 }
     ensures sound { StaysSound J.text J.found J.may_leave desk result.1 }
+    ensures safe { StaysSafe K.kept K.has_place J.text J.may_leave desk result.1 }
 {
     match send(alloc, desk.book(), before, output) {
         Ok(()) => {

@@ -15,8 +15,8 @@ use clr_rules::{Hold, PointState, Record, StepRow};
 use clr_shelf::Shelf;
 use std::alloc::Global;
 
-/// What `board DB [--offset MINUTES]` prints. It is also printed where the database cannot be closed,
-/// as on a full disk.
+/// What `board DB [--offset MINUTES]` prints. It is also printed where the database cannot be
+/// closed, as on a full disk.
 pub fn board<R: Databases>(alloc: Global, rt: &mut R, args: &BoardArgs<'_>) -> Result<String, Fault>
     ensures visit { Comes R.opens R.shuts R.ends args.now.database.now
         (PrintsBoard R.Tables.Store args.now) result rt.old rt.new }

@@ -1,4 +1,5 @@
-//! The subcommand `init`: the check of the files of a network and its staff, and a register of them.
+//! The subcommand `init`: the check of the files of a network and its staff, and a register of
+//! them.
 ghost use Rattle.std.specs.Prelude.{◌≡◌, IfErr, IfOk, string_bytes};
 ghost use Rattle.clr_commands.specs.Answers.{GivesText, IsMemory};
 ghost use Rattle.clr_commands.specs.Faults.{IsOfSubcommand};
@@ -23,8 +24,8 @@ use clr_net::Network;
 use clr_staff::Staff;
 use std::alloc::{AllocError, Global};
 
-/// What `init SECTIONS POINTS STAFF [--db FILE [--journal FILE]]` prints. The journal is begun after
-/// the files were read, and the database opened after that.
+/// What `init SECTIONS POINTS STAFF [--db FILE [--journal FILE]]` prints. The journal is begun
+/// after the files were read, and the database opened after that.
 ///
 /// `Journal(HasBytes)` where the journal's file has bytes already. `Journal(Begun)` where the
 /// journal was begun and the register was not made: the journal is to be removed.

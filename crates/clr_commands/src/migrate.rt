@@ -25,9 +25,9 @@ use clr_store::Store;
 use sqlite::{Alter, Connection};
 use std::alloc::{AllocError, Global};
 
-/// What `migrate DB [--journal FILE]` prints: the version, once the tables are of it; with a journal
-/// its id, once it is begun and the register has its place in it, and no tables are moved. With a
-/// number too, that number, once a part is begun after it.
+/// What `migrate DB [--journal FILE]` prints: the version, once the tables are of it; with a
+/// journal its id, once it is begun and the register has its place in it, and no tables are moved.
+/// With a number too, that number, once a part is begun after it.
 pub fn migrate<R: Databases + Journals>(
     alloc: Global,
     rt: &mut R,

@@ -11,8 +11,8 @@ use clr_edge::journals::Journals;
 use clr_keeping::beginning::begin_next;
 use std::alloc::Global;
 
-/// What `journal FILE --db DB --next NEW` prints: the number after which the next part goes on, once
-/// it is begun and the register is at its first line.
+/// What `journal FILE --db DB --next NEW` prints: the number after which the next part goes on,
+/// once it is begun and the register is at its first line.
 pub fn next_part<R: Databases + Journals>(
     alloc: Global,
     rt: &mut R,

@@ -1,4 +1,5 @@
-//! `migrate --after`: a part of a journal is begun for a register whose journal goes by other rules.
+//! `migrate --after`: a part of a journal is begun for a register whose journal goes by other
+//! rules.
 ghost use Rattle.std.specs.Prelude.{◌≡◌, ◌≢◌, ◌⊎◌, decimal, false, IfErr, OnOk};
 ghost use Rattle.clr_commands.specs.Faults.{IsOfSubcommand};
 ghost use Rattle.clr_commands.specs.PartAfter.{BeginsAfter, BeginsPart, PartsFound, PartsOver};

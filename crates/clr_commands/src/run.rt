@@ -25,7 +25,7 @@ use clr_edge::paths::Opens;
 use clr_journal::Journal;
 use clr_keeping::taking_up::{Opened, let_go, take_up};
 use clr_level::Keeper;
-use clr_level::laws::level_is_kept;
+use clr_level::laws::{level_is_kept, restarts_keep_level};
 use clr_net::Network;
 use clr_staff::Staff;
 use clr_stream::{CountedRead, read_whole};
@@ -93,6 +93,7 @@ fn run_opened<K: CommitAt, J: Journal + Drop, C: Clock, I: CountedRead>(
     ensures faults { FailsAsSubcommand result }
 {
     level_is_kept::<K, J, C>();
+    restarts_keep_level::<K, J, C>();
     match opened {
         Opened::Plain(desk) => run_taken_up(alloc, desk, input),
         Opened::Logged(desk) => run_taken_up(alloc, desk, input),

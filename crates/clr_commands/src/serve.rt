@@ -30,7 +30,7 @@ use clr_http::{HttpFault, Registrar, Served, Service, may_be_unread, serve_reque
 use clr_journal::Journal;
 use clr_keeping::taking_up::{Opened, let_go, take_up};
 use clr_level::Keeper;
-use clr_level::laws::level_is_kept;
+use clr_level::laws::{level_is_kept, restarts_keep_level};
 use clr_logins::Logins;
 use clr_rules::laws::run_headline::headline_holds_of_runs;
 use clr_staff::Staff;
@@ -57,10 +57,10 @@ pub struct Terms {
 /// A file of logins that is named is read first: where it has a fault, no database is opened. The
 /// faults of the database are those of `run`. `UnknownEmployee` where the register has no such
 /// employee, `Listen` where the port cannot be had, `Output` where the line cannot be written. A
-/// connection that fails is reported, and ends nothing; but a desk's that cannot be taken, though it
-/// is asked for eight times in a row, ends the server with `Accept`. With a journal, one after which
-/// it is not known if a change was kept ends it with `Journal(InDoubt)`, once its response is sent:
-/// the next opening decides.
+/// connection that fails is reported, and ends nothing; but a desk's that cannot be taken, though
+/// it is asked for eight times in a row, ends the server with `Accept`. With a journal, one after
+/// which it is not known if a change was kept ends it with `Journal(InDoubt)`, once its response is
+/// sent: the next opening decides.
 pub fn serve<
     'a,
     R: Databases + Journals + Loopback,
@@ -135,6 +135,7 @@ where
     ensures level { StaysLevelOver K.kept K.has_place J.Journal opened.old opened.new }
 {
     level_is_kept::<K, J, C>();
+    restarts_keep_level::<K, J, C>();
     match opened {
         Opened::Plain(desk) => serve_asked(alloc, net, desk, args, logins, output, errors),
         Opened::Logged(desk) => serve_asked(alloc, net, desk, args, logins, output, errors),
@@ -262,10 +263,10 @@ pub fn serve_desk<D: Registrar, L: Loopback, W: CountedFlush, E: CountedFlush>(
     serve_connections(alloc, net, &listener, desk, terms, errors)
 }
 
-/// Serves as many connections as the terms say, one after the other. One that fails is reported, and
-/// the next is served. The commands that they carry out from a good register are a run. `Accept`
-/// where a desk's next connection could not be taken, `Journal(InDoubt)` after a response where it
-/// is not known if a change was kept.
+/// Serves as many connections as the terms say, one after the other. One that fails is reported,
+/// and the next is served. The commands that they carry out from a good register are a run.
+/// `Accept` where a desk's next connection could not be taken, `Journal(InDoubt)` after a response
+/// where it is not known if a change was kept.
 pub fn serve_connections<D: Registrar, L: Loopback, E: CountedFlush>(
     alloc: Global,
     net: &mut L,

@@ -16,7 +16,8 @@ pub fn serving_line(port: u16) -> Line
     line
 }
 
-/// The line of a connection that failed. It takes no memory, since it may report that memory ran out.
+/// The line of a connection that failed. It takes no memory, since it may report that memory ran
+/// out.
 pub fn connection_line(number: usize, fault: HttpFault) -> Line
     ensures { result.bytes ≡ connection_line number fault }
 {

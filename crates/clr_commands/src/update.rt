@@ -2,7 +2,8 @@
 ghost use Rattle.std.specs.Prelude.{◌≡◌, IfErr, IfOk, OnErr, map};
 ghost use Rattle.sqlite.specs.Held.{state};
 ghost use Rattle.clr_net.specs.NameText.{read_name};
-ghost use Rattle.clr_rules.specs.Good.{IsGood};
+ghost use Rattle.clr_rules.specs.Fit.{IsFit};
+ghost use Rattle.clr_rules.specs.Staffed.{IsStaffed};
 ghost use Rattle.clr_update.specs.Changes.{changes as changes_of};
 ghost use Rattle.clr_update.specs.Laws.{IsAccepted};
 ghost use Rattle.clr_update.specs.Shown.{as_changes};
@@ -19,9 +20,10 @@ ghost use Rattle.clr_commands.specs.Fence.{argument};
 ghost use Rattle.clr_commands.specs.Import.{lists_of};
 ghost use Rattle.clr_edge.specs.Paths.{at_paths};
 ghost use Rattle.clr_commands.specs.Update.{AreSaid, IsDone, IsRenewed, IsUpdateTo, IsUpdated};
-ghost use Rattle.clr_commands.specs.Update.{RefusesUpdate, ReportsUpdate, UpdatesAt, UpdatesFiles};
-ghost use Rattle.clr_commands.specs.Update.{UpdatesTo, names_said, reported, text_reported};
-ghost use Rattle.clr_keeping.specs.Keeping.{StaysLevel, StaysSound};
+ghost use Rattle.clr_commands.specs.Update.{NotesUpdate, RefusesUpdate, ReportsUpdate, UpdatesAt};
+ghost use Rattle.clr_commands.specs.Update.{UpdatesFiles, UpdatesTo, names_said, reported};
+ghost use Rattle.clr_commands.specs.Update.{text_reported};
+ghost use Rattle.clr_keeping.specs.Keeping.{StaysLevel, StaysSafe, StaysSound};
 ghost use Rattle.clr_keeping.specs.TakenUp.{logs};
 
 use crate::import::{Rows, rows_at};
@@ -46,10 +48,11 @@ use clr_update::laws::{changes_say_all, updates_keep_good};
 use sqlite::Alter;
 use std::alloc::{AllocError, Global};
 
-/// What `update DB SECTIONS POINTS STAFF [--journal FILE] [--dry-run] [--without JUMPER]...` prints:
-/// what changes, a line each, once it is in the tables; with `--dry-run` nothing is written. The
-/// database is opened after the files were read. With a journal the changes are a line of it, which
-/// is durable before they are in the tables. They can be said, so that line is read back.
+/// What `update DB SECTIONS POINTS STAFF [--journal FILE] [--dry-run] [--without JUMPER]...`
+/// prints: what changes, a line each, once it is in the tables; with `--dry-run` nothing is
+/// written. The database is opened after the files were read. With a journal the changes are a line
+/// of it, which is durable before they are in the tables. They can be said, so that line is read
+/// back.
 ///
 /// `Update` names what is in the way.
 pub fn update<'a, R: Databases + Journals, O: Opens<'a>>(
@@ -157,6 +160,7 @@ fn update_desk<S: Alter + Drop>(
     update: Update,
     dry_run: bool,
 ) -> (Result<String, Fault>, Store<S>)
+    requires { IsFit desk.book.register }
     ensures reports { ReportsUpdate FailsAsStore desk.book.register (as_update update) result.0 }
     ensures done { IsDone (state S.Store) dry_run desk.book.register (as_update update) result.0
         desk.store result.1 }
@@ -184,6 +188,7 @@ fn make_update<S: Alter + Drop>(
     desk: Desk<Store<S>>,
     update: Update,
 ) -> (Result<String, Fault>, Store<S>)
+    requires { IsFit desk.book.register }
     ensures reports { ReportsUpdate FailsAsStore desk.book.register (as_update update) result.0 }
     ensures updated { IsUpdated (state S.Store) desk.book.register (as_update update) result.0
         desk.store result.1 }
@@ -214,14 +219,17 @@ fn renew_desk<K: CommitAt, J: Journal + Drop, C: Clock>(
     update: Update,
     dry_run: bool,
 ) -> (Result<String, Fault>, Desk<Keeper<K, J, C>>)
-    requires { IsGood desk.book.register }
+    requires { IsFit desk.book.register }
     ensures reports { ReportsUpdate (FailsToo K.fails) desk.book.register (as_update update)
         result.0 }
     ensures done { IsDone (⟦<Keeper<K, J, C> as Commit>⟧.kept) dry_run desk.book.register
         (as_update update) result.0 desk.store result.1.store }
     ensures said { AreSaid (as_update update) desk result.1 }
+    ensures noted { NotesUpdate K.kept K.has_place K.fails C.shows J.Journal dry_run
+        (as_update update) result.0 desk result.1 }
     ensures level { StaysLevel K.kept K.has_place J.text desk result.1 }
     ensures sound { StaysSound J.text J.found J.may_leave desk result.1 }
+    ensures safe { StaysSafe K.kept K.has_place J.text J.may_leave desk result.1 }
 {
     if dry_run {
         (try_update(alloc, desk.book(), update), desk)
@@ -236,10 +244,12 @@ fn renew_unless<K: CommitAt, J: Journal + Drop, C: Clock>(
     desk: Desk<Keeper<K, J, C>>,
     update: Update,
 ) -> (Result<String, Fault>, Desk<Keeper<K, J, C>>)
-    requires { IsGood desk.book.register }
-    ensures renewed { IsRenewed K.kept K.fails desk result.1 (as_update update) result.0 }
+    requires { IsFit desk.book.register }
+    ensures renewed { IsRenewed K.kept K.has_place K.fails C.shows J.Journal desk result.1
+        (as_update update) result.0 }
     ensures level { StaysLevel K.kept K.has_place J.text desk result.1 }
     ensures sound { StaysSound J.text J.found J.may_leave desk result.1 }
+    ensures safe { StaysSafe K.kept K.has_place J.text J.may_leave desk result.1 }
 {
     update.is_read();
     changes_say_all();
@@ -263,11 +273,13 @@ fn renew_by<K: CommitAt, J: Journal + Drop, C: Clock>(
     changes: Changes,
 ) -> (Result<String, Fault>, Desk<Keeper<K, J, C>>)
     requires { deed_reply desk.book.register (update_by (as_changes changes)) ≡ done }
-    ensures renewed { (u : AnyUpdate) → IsAccepted desk.book.register u
+    ensures renewed { (u : AnyUpdate) → IsStaffed desk.book.register
+        → IsAccepted desk.book.register u
         → as_changes changes ≡ changes_of desk.book.register (updated desk.book.register u)
-        → IsRenewed K.kept K.fails desk result.1 u result.0 }
+        → IsRenewed K.kept K.has_place K.fails C.shows J.Journal desk result.1 u result.0 }
     ensures level { StaysLevel K.kept K.has_place J.text desk result.1 }
     ensures sound { StaysSound J.text J.found J.may_leave desk result.1 }
+    ensures safe { StaysSafe K.kept K.has_place J.text J.may_leave desk result.1 }
 {
     updates_keep_good();
     changes_say_all();

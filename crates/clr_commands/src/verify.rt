@@ -46,8 +46,8 @@ use std::alloc::Global;
 /// `Verify(Files)` where the first line is not of these files; `Verify(Reply)` where a command has
 /// another reply; `Verify(Differs)` with the first row that is another at the place of the
 /// register; `Journal` where the journal is another register's, has a bad line, ends before the
-/// register's place, or differs there. Half a line at the end of a part is a bad line, with the next
-/// number.
+/// register's place, or differs there. Half a line at the end of a part is a bad line, with the
+/// next number.
 pub fn verify<'a, R: Databases, O: Opens<'a>>(
     alloc: Global,
     rt: &mut R,

@@ -42,8 +42,8 @@ pub fn wayback<R: Databases>(
 /// The way back of the clearance that a word names, in a good book.
 ///
 /// `NoSuch` where the word names no clearance, or the book has no such clearance; `NoWay` where one
-/// of the commands would be refused. Of a book that is staffed too, that is only where a step of the
-/// clearance is given out and the staff has no field employee.
+/// of the commands would be refused. Of a book that is staffed too, that is only where a step of
+/// the clearance is given out and the staff has no field employee.
 pub fn wayback_of<P, C, T, H>(
     alloc: Global,
     book: &Book<P, C, T, H>,

@@ -8,8 +8,8 @@ use clr_good::{ListAtFault, list_at_fault};
 use clr_tables::TableName;
 use std::alloc::{AllocError, Global};
 
-/// The first table of a book, in the order of points, clearances, steps and holds, whose rows do not
-/// fit the others or the staff; none exactly where the register is good and staffed.
+/// The first table of a book, in the order of points, clearances, steps and holds, whose rows do
+/// not fit the others or the staff; none exactly where the register is good and staffed.
 pub(crate) fn table_in(alloc: Global, book: &DeskBook) -> Result<Option<TableName>, AllocError>
     ensures good { IfOk result (λ table. (table ≡ None) ↔ IsFit book.now.register) }
     ensures first { IfOk result (λ table. table ≡ table_at_fault book.now.register) }

@@ -1,6 +1,6 @@
 //! The databases that registers are stored in, each opened when its turn comes, and closed.
-ghost use Rattle.std.specs.Prelude.{◌≡◌, ◌⊎◌, ◌<◌, ℕ, false, List, IfErr, IfOk, IfSome, IsTrue, None};
-ghost use Rattle.std.specs.Prelude.{OnErr, OnOk};
+ghost use Rattle.std.specs.Prelude.{◌≡◌, ◌⊎◌, ◌<◌, ℕ, false, List, IfErr, IfOk, IfSome, IsTrue};
+ghost use Rattle.std.specs.Prelude.{None, OnErr, OnOk};
 ghost use Rattle.std.specs.IoError.{error_kind};
 ghost use Rattle.sqlite.specs.Held.{Held, state};
 ghost use Rattle.sqlite.specs.State.{HasCleanDisk, Survives};
@@ -31,8 +31,8 @@ use sqlite_disk::{Disk, Files};
 use std::alloc::Global;
 use std::io;
 
-/// What opens the databases that are there, and closes them. Each step leads from one state of it to
-/// the next, so a clause that names the steps names all that was opened.
+/// What opens the databases that are there, and closes them. Each step leads from one state of it
+/// to the next, so a clause that names the steps names all that was opened.
 pub trait Databases {
     /// What the tables of a database are kept in.
     type Tables: Alter + Drop;
@@ -43,8 +43,8 @@ pub trait Databases {
     /// That the database at a path could not be opened. Only `stored` and `database` say so.
     ghost shuts: { Self → List ℕ → AnyFault → Self → Type 0 };
 
-    /// That a connection was closed as it was then, with this outcome, and its files came back. Only
-    /// `end` says so.
+    /// That a connection was closed as it was then, with this outcome, and its files came back.
+    /// Only `end` says so.
     ghost ends: { Self → Held Self.Tables → Done → Self → Type 0 };
 
     /// Opens the database in a file. A file that is not there, or is empty, is refused, and no file
@@ -55,8 +55,8 @@ pub trait Databases {
         ensures shuts { IfErr result (λ fault. shuts self.old path.now fault self.new) }
         ensures fault { IfErr result IsOfLine };
 
-    /// Takes the connection out of a place, and closes it as `close` says. A method that took one by
-    /// value would get no proof where it is called through the trait.
+    /// Takes the connection out of a place, and closes it as `close` says. A method that took one
+    /// by value would get no proof where it is called through the trait.
     fn end(&mut self, place: &mut Option<Connection<Self::Tables>>) -> Result<(), Fault>
         ensures ends { IfSome place.old (λ connection.
             Ends ends connection result self.old self.new) }
@@ -103,8 +103,8 @@ impl<Y: System> Databases for Machine<Y> {
         ensures shuts { IfErr result (λ fault.
             ((self.new.system ≡ self.old.system)
             × HasNoBytes Y.has_size Y.lacks_size path.now fault)
-            ⊎ IsShutBy (λ error. IsShutAt Y.has_files Y.lacks_files Y.lets_go Y.lacks_seed Y.Medium.Disk
-            self.old.system path.now error self.new.system) fault) }
+            ⊎ IsShutBy (λ error. IsShutAt Y.has_files Y.lacks_files Y.lets_go Y.lacks_seed
+            Y.Medium.Disk self.old.system path.now error self.new.system) fault) }
         ensures fault { IfErr result IsOfLine }
     {
         let size = expect_bytes(&self.system, path)?;
@@ -141,8 +141,8 @@ impl<Y: System> Makes for Machine<Y> {
         ensures shuts { IfErr result (λ fault.
             ((self.new.system ≡ self.old.system)
             × HasNoBytes Y.has_size Y.lacks_size path.now fault)
-            ⊎ IsShutBy (λ error. IsShutAt Y.has_files Y.lacks_files Y.lets_go Y.lacks_seed Y.Medium.Disk
-            self.old.system path.now error self.new.system) fault) }
+            ⊎ IsShutBy (λ error. IsShutAt Y.has_files Y.lacks_files Y.lets_go Y.lacks_seed
+            Y.Medium.Disk self.old.system path.now error self.new.system) fault) }
         ensures fault { IfErr result IsOfLine }
     {
         self.opened(path)

@@ -53,12 +53,12 @@ pub trait Loopback {
         ensures refuses { IfErr result (λ error.
             refuses self.old address (error_kind error) self.new) };
 
-    /// Waits for the next connection to a listener. Where a deadline is given, each read of it fails
-    /// once a quarter of that number of seconds has passed since it came, and each write once all
-    /// have. So a client that sends nothing holds up the next ones for a quarter alone.
+    /// Waits for the next connection to a listener. Where a deadline is given, each read of it
+    /// fails once a quarter of that number of seconds has passed since it came, and each write once
+    /// all have. So a client that sends nothing holds up the next ones for a quarter alone.
     ///
-    /// One that could not be taken is asked for again, up to this number of tries in a row. One that
-    /// has a single handle is kept, and the other is asked for by the tries that are left.
+    /// One that could not be taken is asked for again, up to this number of tries in a row. One
+    /// that has a single handle is kept, and the other is asked for by the tries that are left.
     fn accept(
         &mut self,
         listener: &Self::Listener,
@@ -70,8 +70,8 @@ pub trait Loopback {
         ensures misses { IfErr result (λ error.
             misses self.old listener.now tries (error_kind error) self.new) };
 
-    /// Lets a connection go, which closes it. What still comes of its request is read first, up to a
-    /// bound, and is waited for where more is expected and the connection has a deadline.
+    /// Lets a connection go, which closes it. What still comes of its request is read first, up to
+    /// a bound, and is waited for where more is expected and the connection has a deadline.
     fn hang_up(&mut self, connection: Connection<Self::Reader, Self::Writer>, is_expected: bool)
         ensures { hangs_up self.old connection is_expected self.new };
 }

@@ -42,10 +42,10 @@ IsOfTakingUp-line fault (inl memory) = inl (desk.NoMemory, memory)
 IsOfTakingUp-line fault (inr sql) = inl (desk.Store store.Sql, sql)
 
 -- once a journal was begun, a fault says so
-pub begun-fault : (told result : Done) → result ≡ begun_or told → IfErr result IsOfBegun
-begun-fault told result is = let Q : Done → Type 0 = λ r. IfErr r IsOfBegun in subst Q (sym is) (of told)
+pub begun-fault : (outcome result : Done) → result ≡ begun_or outcome → IfErr result IsOfBegun
+begun-fault outcome result is = let Q : Done → Type 0 = λ r. IfErr r IsOfBegun in subst Q (sym is) (of outcome)
   where
-    of : (told : Done) → IfErr (begun_or told) IsOfBegun
+    of : (outcome : Done) → IfErr (begun_or outcome) IsOfBegun
     of (Ok value) = tt
     of (Err fault) = inr refl
 
@@ -62,18 +62,18 @@ passed {T} (Err cause) fault is = let fails : Fault → Result T Fault = λ f. E
 
 -- the journal was let go, and the next one begun at the place that it had come to
 pub goes-on : {M J C T : Type 0} (g : Ghosts T) (logs : Logs M J C) (next : List ℕ) (result : Result ℕ Fault) (old middle new : M)
-    (it : Keeper (Held T) J C) (journal : J) (held after : Held T) (first : Place) (told : Done)
+    (it : Keeper (Held T) J C) (journal : J) (held after : Held T) (first : Place) (outcome : Done)
     → journal ≡ it.journal → held ≡ it.keeper → first ≡ it.at → it.last ≡ Settled → logs.steps.lets_journal_go old journal middle
-    → gives_number first told result → PlacesAt g logs next first told middle new held after → GoesOnAt g logs next result old new it after
-goes-on {M} {J} {C} {T} g logs next result old middle new it journal held after first told same kept at settled gone gives places = (
+    → gives_number first outcome result → PlacesAt g logs next first outcome middle new held after → GoesOnAt g logs next result old new it after
+goes-on {M} {J} {C} {T} g logs next result old middle new it journal held after first outcome same kept at settled gone gives places = (
   middle,
   subst (λ (j : J). logs.steps.lets_journal_go old j middle) same gone,
   inr (
-    told,
-    subst (λ (p : Place). gives_number p told result) at gives,
+    outcome,
+    subst (λ (p : Place). gives_number p outcome result) at gives,
     settled,
-    subst (λ (h : Held T). PlacesAt g logs next it.at told middle new h after) kept
-        (subst (λ (p : Place). PlacesAt g logs next p told middle new held after) at places),
+    subst (λ (h : Held T). PlacesAt g logs next it.at outcome middle new h after) kept
+        (subst (λ (p : Place). PlacesAt g logs next p outcome middle new held after) at places),
   ),
 )
 
@@ -85,22 +85,22 @@ goes-no-further {M} {J} {C} {T} g logs next old new it journal after same kept g
     (new, subst (λ (j : J). logs.steps.lets_journal_go old j new) same gone, inl (refl, refl, kept))
 
 -- the number is that of the place, once the register went there
-pub number-of : (first : Place) (told : Done) (value : Unit {0}) → told ≡ Ok value → gives_number first told (Ok first.number)
+pub number-of : (first : Place) (outcome : Done) (value : Unit {0}) → outcome ≡ Ok value → gives_number first outcome (Ok first.number)
 number-of first (Ok done) value is = (refl, refl)
 number-of first (Err fault) value is = absurd (cc is)
 
 -- a journal that was begun, and then the register given the place, or not
 pub begun-places : {M J C T : Type 0} (g : Ghosts T) (logs : Logs M J C) (path : List ℕ) (first : Place) (result : Done) (old begun new : M) (journal : J)
-    (read after : Held T) (told : Done) → logs.steps.begins_journal old path first journal begun → logs.steps.lets_journal_go begun journal new
-    → IsNew logs.log logs.steps.is_clean first journal → IsPlacedOrNot g read first told after → result ≡ begun_or told → PlacesAt g logs path first result old new read after
-begun-places g logs path first result old begun new journal read after told begins gone line placed is = inr (record {
+    (read after : Held T) (outcome : Done) → logs.steps.begins_journal old path first journal begun → logs.steps.lets_journal_go begun journal new
+    → IsNew logs.log logs.steps.is_clean first journal → IsPlacedOrNot g read first outcome after → result ≡ begun_or outcome → PlacesAt g logs path first result old new read after
+begun-places g logs path first result old begun new journal read after outcome begins gone line placed is = inr (record {
   journal = journal;
   begun = begun;
   middle = new;
   begins = begins;
   gone = gone;
   line = line;
-  told = told;
+  outcome = outcome;
   did = (refl, placed);
   result_is = is;
 })

@@ -15,7 +15,7 @@ use Rattle.clr_level.specs.declared.keeper.Keeper.{Keeper}
 use Rattle.clr_edge.specs.Database.{IsOfLine}
 use Rattle.clr_edge.specs.Fault.{of_desk, of_store}
 use Rattle.clr_edge.specs.Journals.{IsOfOpening}
-use Rattle.clr_keeping.specs.Keeping.{IsDoneOver, IsGone, IsLetGo, IsNotUp, IsNotUpWith, IsUp, IsUpWith, Keeping, StaysLevelOver, WorksIn, WorksWith, logged, logged_keeper, plain, plain_keeper, unlogged}
+use Rattle.clr_keeping.specs.Keeping.{IsDoneOver, IsGone, IsLetGo, IsNotUp, IsNotUpWith, IsUp, IsUpWith, Keeping, StaysLevelOver, WorksEither, WorksIn, WorksWith, logged, logged_keeper, plain, plain_keeper, unlogged}
 use Rattle.clr_keeping.specs.TakenUp.{IsOfTakingUp, LacksPlace, Logs, MissesOne, of_opening, store_place}
 use Rattle.clr_keeping.specs.TakenUp.IsNotTakenUp.{refused}
 use Rattle.clr_edge.specs.Visit.{Comes, Done, Ending, Opening, Shutting}
@@ -99,6 +99,7 @@ module _ {M T R : Type 0} (g : Ghosts T) (opens : Opening M T) (shuts kept_shut 
           taken = taken;
           between = between;
           good = up.good;
+          staffed = up.staffed;
           uncounted = up.uncounted;
           taken_up = up.taken_up;
           left = left;
@@ -130,29 +131,44 @@ module _ {M T R : Type 0} (g : Ghosts T) (opens : Opening M T) (shuts kept_shut 
       ended = visit.ended;
     })
 
+  -- the register of the database at a path was taken up, and let go as what was done over it left it
+  module _ {J C : Type 0} (logs : Logs M J C) (Plainly : Result R Fault → M → M → Desk (Held T) → Desk (Held T) → Type 0)
+      (Loggedly : Result R Fault → M → M → Desk (Keeper (Held T) J C) → Desk (Keeper (Held T) J C) → Type 0) where
+    pub worked_either : (journal : Option (Bor (List ℕ))) (told result : Result R Fault) (old between later new : M) (opened last : Opened (Held T) J C) (closed : Done)
+        → IsUpWith g opens path logs journal old between opened
+        → IsDoneOver (Plainly told between later) (Loggedly told between later) opened last
+        → StaysLevelOver {K = Held T} (state g) store_place logs.log opened last
+        → IsLetGo ends logs last closed later new → IfErr closed IsOfLine → result ≡ closed_as told closed
+        → Comes opens kept_shut ends path (WorksEither logs g journal Idle Plainly Loggedly closed_as) result old new
+    worked_either None told result old between later new (Plain taken) (Plain left) closed up did stays gone line is =
+        visit_of (unlogged g) Plainly told result old between later new taken left closed up did stays gone line is
+    worked_either (Some journal) told result old between later new (Logged taken) (Logged left) closed up did stays gone line is =
+        visit_of (logged g logs journal.now) Loggedly told result old between later new taken left closed up did stays gone line is
+    worked_either None told result old between later new (Plain taken) (Logged left) closed up did stays gone line is = absurd did
+    worked_either (Some journal) told result old between later new (Logged taken) (Plain left) closed up did stays gone line is = absurd did
+    worked_either None told result old between later new (Logged taken) last closed up did stays gone line is = absurd up
+    worked_either (Some journal) told result old between later new (Plain taken) last closed up did stays gone line is = absurd up
+
+    -- or it was not taken up
+    pub not_worked_either : (journal : Option (Bor (List ℕ))) (result : Result R Fault) (old new : M) (fault : Fault) → IsErrAnd result (λ cause. cause ≡ fault)
+        → ((closed : Done) → closed_as (Err fault) closed ≡ Err fault) → Idle → (shuts old path fault new → kept_shut old path fault new)
+        → IsNotUpWith g opens shuts ends path logs journal old new fault
+        → Comes opens kept_shut ends path (WorksEither logs g journal Idle Plainly Loggedly closed_as) result old new
+    not_worked_either None result old new fault is same idle shut not =
+        no_visit (unlogged g) Plainly result old new fault is same idle shut not
+    not_worked_either (Some journal) result old new fault is same idle shut not =
+        no_visit (logged g logs journal.now) Loggedly result old new fault is same idle shut not
+
   module _ {J C : Type 0} (logs : Logs M J C) (Did : (K : Type 0) → commit.Ghosts K → Result R Fault → M → M → Desk K → Desk K → Type 0) where
-    -- the register of the database at a path was taken up, and let go as what was done over it left it
     pub worked : (journal : Option (Bor (List ℕ))) (told result : Result R Fault) (old between later new : M) (opened last : Opened (Held T) J C) (closed : Done)
         → IsUpWith g opens path logs journal old between opened
         → IsDoneOver (Did (Held T) (plain_keeper g) told between later) (Did (Keeper (Held T) J C) (logged_keeper g logs) told between later) opened last
         → StaysLevelOver {K = Held T} (state g) store_place logs.log opened last
         → IsLetGo ends logs last closed later new → IfErr closed IsOfLine → result ≡ closed_as told closed
         → Comes opens kept_shut ends path (WorksWith logs g journal Idle Did closed_as) result old new
-    worked None told result old between later new (Plain taken) (Plain left) closed up did stays gone line is =
-        visit_of (unlogged g) (Did (Held T) (plain_keeper g)) told result old between later new taken left closed up did stays gone line is
-    worked (Some journal) told result old between later new (Logged taken) (Logged left) closed up did stays gone line is =
-        visit_of (logged g logs journal.now) (Did (Keeper (Held T) J C) (logged_keeper g logs)) told result old between later new taken left closed up did
-        stays gone line is
-    worked None told result old between later new (Plain taken) (Logged left) closed up did stays gone line is = absurd did
-    worked (Some journal) told result old between later new (Logged taken) (Plain left) closed up did stays gone line is = absurd did
-    worked None told result old between later new (Logged taken) last closed up did stays gone line is = absurd up
-    worked (Some journal) told result old between later new (Plain taken) last closed up did stays gone line is = absurd up
+    worked = worked_either logs (Did (Held T) (plain_keeper g)) (Did (Keeper (Held T) J C) (logged_keeper g logs))
 
-    -- or it was not taken up
     pub not_worked : (journal : Option (Bor (List ℕ))) (result : Result R Fault) (old new : M) (fault : Fault) → IsErrAnd result (λ cause. cause ≡ fault)
         → ((closed : Done) → closed_as (Err fault) closed ≡ Err fault) → Idle → (shuts old path fault new → kept_shut old path fault new)
         → IsNotUpWith g opens shuts ends path logs journal old new fault → Comes opens kept_shut ends path (WorksWith logs g journal Idle Did closed_as) result old new
-    not_worked None result old new fault is same idle shut not =
-        no_visit (unlogged g) (Did (Held T) (plain_keeper g)) result old new fault is same idle shut not
-    not_worked (Some journal) result old new fault is same idle shut not =
-        no_visit (logged g logs journal.now) (Did (Keeper (Held T) J C) (logged_keeper g logs)) result old new fault is same idle shut not
+    not_worked = not_worked_either logs (Did (Held T) (plain_keeper g)) (Did (Keeper (Held T) J C) (logged_keeper g logs))

@@ -9,6 +9,7 @@ use Rattle.sqlite.proofs.StateLemmas.{survives_then}
 use Rattle.sqlite_trees.specs.declared.store.Store.{Ghosts}
 use Rattle.clr_append.specs.Journal.{BeginsWith}
 use Rattle.clr_chain.specs.declared.finding.Ahead.{Ahead}
+use Rattle.clr_rules.specs.Fit.{IsFit}
 use Rattle.clr_rules.specs.Good.{IsGood}
 use Rattle.clr_rules.specs.Register.{Register}
 use Rattle.clr_place.specs.declared.place.Place.{Place}
@@ -142,6 +143,7 @@ module _ {T : Type 0} (g : Ghosts T) (before desk : Held T) (R : Register) (is :
       timed = given.timed;
       unheard = given.unheard;
       settled = given.settled;
+      fit = given.fit is.fit;
       rolled = given.rolled is.fit.0;
       level = given.level;
       sound = given.sound;
@@ -181,12 +183,12 @@ module _ {M J C T : Type 0} (g : Ghosts T) (logs : Logs M J C) (path : List ℕ)
   -- it was given the journal that was opened at its place
   pub given_by : (clock : C) (it : Keeper (Held T) J C) (S : Register) → logs.steps.opens_journal old path place opened ahead new → logs.steps.has_time new clock
       → logs.log.found opened ≡ logs.log.text opened → it.journal ≡ opened → it.clock ≡ clock → it.login ≡ None → it.last ≡ Settled
-      → Keeps (state g read) X (state g it.keeper) S → (IsGood X → RollsForward g read X place (entries_of ahead) it S)
+      → Keeps (state g read) X (state g it.keeper) S → (IsFit X → IsFit S) → (IsGood X → RollsForward g read X place (entries_of ahead) it S)
       → OpensLevel g logs.log.text read X place (entries_of ahead) it S
       → (HasText logs.log.text logs.log.found it.journal → OpensSound logs it)
       → LeavesFronts g read read X place (entries_of ahead) it.keeper
       → IsGiven g logs path old new desk R it S
-  given_by clock it S opens timed whole journal_is clock_is unheard settled kept rolled level sound left =
+  given_by clock it S opens timed whole journal_is clock_is unheard settled kept fit rolled level sound left =
       let text : HasText logs.log.text logs.log.found opened =
       subst (λ bytes. BeginsWith (logs.log.text opened) bytes) (sym whole) (take-length (logs.log.text opened)) in
       subst (λ Y. IsGiven g logs path old new desk Y it S) same (record {
@@ -200,6 +202,7 @@ module _ {M J C T : Type 0} (g : Ghosts T) (logs : Logs M J C) (path : List ℕ)
         unheard = unheard;
         settled = settled;
         kept = kept;
+        fit = fit;
         rolled = rolled;
         level = level;
         sound = sound (subst (λ (j : J). HasText logs.log.text logs.log.found j) (sym journal_is) text);

@@ -43,9 +43,9 @@ pub record IsBegunThen {M J C : Type 0} (logs : Logs M J C) (path : List ℕ) (f
   pub begins : logs.steps.begins_journal old path first journal begun
   pub gone : logs.steps.lets_journal_go begun journal middle
   pub line : IsNew logs.log logs.steps.is_clean first journal
-  pub told : Done
-  pub did : Does told middle new
-  pub result_is : result ≡ begun_or told
+  pub outcome : Done
+  pub did : Does outcome middle new
+  pub result_is : result ≡ begun_or outcome
 
 -- the same, unless none was begun, and then nothing more was done
 abbrev pub BeginsFirst : {M J C : Type 0} → Logs M J C → List ℕ → Place → (Done → M → M → Type 0)
@@ -99,11 +99,11 @@ pub record IsUnmadeAt {S : Type 0} (g : Ghosts S) (before : Held S) (R : Registe
 -- they were, or not, and the first fault is the result
 pub record MakesRegisterAt {S : Type 0} (g : Ghosts S) (R : Register) (place : Place)
     (result : Done) (before after : Held S) (closed : Done) : Type 0 where
-  pub told : Done
-  pub made : OnOk told (IsMadeAt g before R place after)
-  pub unmade : OnErr told (IsUnmadeAt g before R place after)
-  pub fault : IfErr told IsOfLine
-  pub result_is : result ≡ first_fault told closed
+  pub outcome : Done
+  pub made : OnOk outcome (IsMadeAt g before R place after)
+  pub unmade : OnErr outcome (IsUnmadeAt g before R place after)
+  pub fault : IfErr outcome IsOfLine
+  pub result_is : result ≡ first_fault outcome closed
 
 -- ---- for a register that has none
 
@@ -111,16 +111,16 @@ pub record MakesRegisterAt {S : Type 0} (g : Ghosts S) (R : Register) (place : P
 -- begins there; or it was not, and the database is as it was. Where the database is open and its
 -- disk clean, it was open. A crash leaves the same tables with the place, or what it left before
 pub record IsPlacedOrNot {S : Type 0} (g : Ghosts S) (before : Held S) (place : Place)
-    (told : Done) (after : Held S) : Type 0 where
+    (outcome : Done) (after : Held S) : Type 0 where
   pub made : HasCleanDisk (state g after)
-      → OnOk told (MakesEditsAt (state g before).now [] (place_row place) (state g after).now)
-  pub saved : HasCleanDisk (state g after) → OnOk told (IsSaved (state g after))
-  pub level : OnOk told (PlacedIsLevel g before place after)
+      → OnOk outcome (MakesEditsAt (state g before).now [] (place_row place) (state g after).now)
+  pub saved : HasCleanDisk (state g after) → OnOk outcome (IsSaved (state g after))
+  pub level : OnOk outcome (PlacedIsLevel g before place after)
   pub none : HasCleanDisk (state g after) → IsTrue (state g after).is_open
-      → OnErr told ((state g after).now ≡ (state g before).now)
+      → OnErr outcome ((state g after).now ≡ (state g before).now)
   pub was_open : HasCleanDisk (state g after) → IsTrue (state g after).is_open
       → IsTrue (state g before).is_open
-  pub fault : IfErr told IsOfLine
+  pub fault : IfErr outcome IsOfLine
   pub survives : Survives (state g before) (state g after)
       (AreEditedAt (state g before).now [] (place_row place))
 
@@ -132,14 +132,14 @@ PlacesAt g logs path first result old new read after =
     ((fault : Fault) × (result ≡ Err fault) × IsOfBeginning fault × (after ≡ read)
     × logs.steps.spares_journal old path first fault new)
     ⊎ IsBegunThen logs path first
-    (λ told middle later. (later ≡ middle) × IsPlacedOrNot g read first told after) result old new
+    (λ outcome middle later. (later ≡ middle) × IsPlacedOrNot g read first outcome after) result old new
 
 -- ---- the next part
 
 -- the number of a place, once the register went there
 abbrev pub gives_number : Place → Done → Result ℕ Fault → Type 0
-gives_number first told (Ok number) = (told ≡ Ok tt) × (number ≡ first.number)
-gives_number first told (Err fault) = told ≡ Err fault
+gives_number first outcome (Ok number) = (outcome ≡ Ok tt) × (number ≡ first.number)
+gives_number first outcome (Err fault) = outcome ≡ Err fault
 
 -- THE NEXT PART OF A JOURNAL IS BEGUN where that has come to, which is let go first; then the register
 -- goes to that place, and its tables stay. Or memory ran out, and the register is as it was
@@ -148,8 +148,8 @@ abbrev pub GoesOnAt : {M J C T : Type 0} → Ghosts T → Logs M J C → List �
 GoesOnAt {M} g logs next result old new it after = (middle : M)
     × logs.steps.lets_journal_go old it.journal middle
     × (((result ≡ Err Memory) × (new ≡ middle) × (after ≡ it.keeper))
-    ⊎ ((told : Done) × gives_number it.at told result × (it.last ≡ Settled)
-    × PlacesAt g logs next it.at told middle new it.keeper after))
+    ⊎ ((outcome : Done) × gives_number it.at outcome result × (it.last ≡ Settled)
+    × PlacesAt g logs next it.at outcome middle new it.keeper after))
 
 -- over the database at a path, taken up with the journal at another
 abbrev pub BeginsNextAt : {M J C T : Type 0} → Logs M J C → Ghosts T → Opening M T → Shutting M
@@ -158,7 +158,7 @@ BeginsNextAt {M} {J} {C} {T} logs g opens shuts ends path journal next result ol
     ((fault : Fault) × (result ≡ Err fault)
     × IsNotUp opens shuts ends path (logged g logs journal) old new fault)
     ⊎ ((taken : Desk (Keeper (Held T) J C)) × (up : M) × (middle : M) × (after : Held T)
-    × (told : Result ℕ Fault) × (closed : Done)
+    × (outcome : Result ℕ Fault) × (closed : Done)
     × IsUp opens path (logged g logs journal) old up taken
-    × GoesOnAt g logs next told up middle taken.store after
-    × Ends ends after closed middle new × (result ≡ first_fault told closed))
+    × GoesOnAt g logs next outcome up middle taken.store after
+    × Ends ends after closed middle new × (result ≡ first_fault outcome closed))

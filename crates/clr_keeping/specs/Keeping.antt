@@ -8,6 +8,7 @@ use Rattle.sqlite_trees.specs.declared.store.Store.{Ghosts}
 use Rattle.clr_rules.specs.Fit.{IsFit}
 use Rattle.clr_rules.specs.Good.{IsGood}
 use Rattle.clr_rules.specs.Register.{Register}
+use Rattle.clr_rules.specs.Staffed.{IsStaffed}
 use Rattle.clr_desk.specs.Faults.{FailsAsStore}
 use Rattle.clr_desk.specs.Placing.{Placing}
 use Rattle.clr_desk.specs.Taking.{HearsNothing, PassesOver}
@@ -17,6 +18,7 @@ use Rattle.clr_place.specs.declared.place.Place.{Place}
 use Rattle.clr_append.specs.declared.journal.Journal as append
 use Rattle.clr_level.specs.Journaling.{FailsToo, HearsLogin, IsSound, Journals, is_doubtful}
 use Rattle.clr_level.specs.Levelling.{IsKeptLevel}
+use Rattle.clr_level.specs.Restarting.{IsSafeAt}
 use Rattle.clr_level.specs.declared.keeper.Keeper.{Keeper}
 use Rattle.clr_edge.specs.Database.{HasRegister, IsOfLine, IsOnlyRead, IsRefused, ReadsAs}
 use Rattle.clr_keeping.specs.TakenUp.{HasPlace, IsNotTakenUp, IsTakenUp, IsUnplaced, IsUnsuited, Logs}
@@ -148,6 +150,23 @@ abbrev pub StaysSound : {K J C : Type 0} → (J → List ℕ) → (J → List �
 StaysSound text found may_leave taken left = IsSound text found may_leave taken.store
     → IsSound text found may_leave left.store
 
+-- AND THE LINES THAT THE REGISTER HAS STAY SAFE: where a crash left them, over whatever register and
+-- first line, it leaves those that the register has then
+abbrev pub StaysSafe : {K J C : Type 0} → (K → State) → Placing → (J → List ℕ)
+    → (J → List ℕ → Type 0) → Desk (Keeper K J C) → Desk (Keeper K J C) → Type 0
+StaysSafe kept has_place text may_leave taken left = (first : Register) (start : Place)
+    → IsGood first
+    → IsKeptLevel kept has_place text first start taken.book.register taken.store
+    → IsSafeAt kept has_place text may_leave first start taken.book.register taken.store
+    → IsSafeAt kept has_place text may_leave first start left.book.register left.store
+
+-- all of it
+abbrev pub StaysOne : {K J C : Type 0} → (K → State) → Placing → append.Ghosts J
+    → Desk (Keeper K J C) → Desk (Keeper K J C) → Type 0
+StaysOne kept has_place log taken left = StaysLevel kept has_place log.text taken left
+    × StaysSound log.text log.found log.may_leave taken left
+    × StaysSafe kept has_place log.text log.may_leave taken left
+
 -- the one at a path, in which what was accepted after the register's place is carried out
 abbrev pub logged : {M J C T : Type 0} → Ghosts T → Logs M J C → List ℕ
     → Keeping M T (Keeper (Held T) J C)
@@ -157,8 +176,7 @@ logged g logs path = record {
       IsTakenUp g logs path old new before desk.store desk.book.register;
   refuses = λ old new before fault after. IsNotTakenUp g logs path before fault after old new;
   lets_go = GoesLogged logs.steps;
-  stays = λ taken left. StaysLevel (state g) store_place logs.log.text taken left
-      × StaysSound logs.log.text logs.log.found logs.log.may_leave taken left;
+  stays = StaysOne (state g) store_place logs.log;
 }
 
 -- ---- what is done over it
@@ -170,6 +188,7 @@ pub record Works {M T K : Type 0} (by : Keeping M T K) (Did : M → M → Desk K
   pub taken : Desk K
   pub between : M
   pub good : IsGood taken.book.register
+  pub staffed : IsStaffed taken.book.register
   pub uncounted : taken.faults ≡ 0
   pub taken_up : by.takes_up old between before taken
   pub left : Desk K
@@ -190,15 +209,23 @@ pub record WorksIn {M T K R : Type 0} (by : Keeping M T K) (Idle : Type 0)
   pub closing : IfErr closed IsOfLine
   pub result_is : result ≡ closed_as told closed
 
--- with the journal at a path, if one is named
+-- with the journal at a path, if one is named: what is done over a desk without one, and with it
+abbrev pub WorksEither : {M J C T R : Type 0} → Logs M J C → Ghosts T → Option (Bor (List ℕ))
+    → Type 0 → (Result R Fault → M → M → Desk (Held T) → Desk (Held T) → Type 0)
+    → (Result R Fault → M → M → Desk (Keeper (Held T) J C) → Desk (Keeper (Held T) J C) → Type 0)
+    → (Result R Fault → Done → Result R Fault) → Result R Fault → M → Held T → Held T → Done → M
+    → Type 0
+WorksEither logs g None Idle Plainly Loggedly = WorksIn (unlogged g) Idle Plainly
+WorksEither logs g (Some journal) Idle Plainly Loggedly =
+    WorksIn (logged g logs journal.now) Idle Loggedly
+
+-- the same over either
 abbrev pub WorksWith : {M J C T R : Type 0} → Logs M J C → Ghosts T → Option (Bor (List ℕ)) → Type 0
     → ((K : Type 0) → commit.Ghosts K → Result R Fault → M → M → Desk K → Desk K → Type 0)
     → (Result R Fault → Done → Result R Fault) → Result R Fault → M → Held T → Held T → Done → M
     → Type 0
-WorksWith {T = T} logs g None Idle Did =
-    WorksIn (unlogged g) Idle (Did (Held T) (plain_keeper g))
-WorksWith {J = J} {C = C} {T = T} logs g (Some journal) Idle Did =
-    WorksIn (logged g logs journal.now) Idle
+WorksWith {J = J} {C = C} {T = T} logs g journal Idle Did =
+    WorksEither logs g journal Idle (Did (Held T) (plain_keeper g))
     (Did (Keeper (Held T) J C) (logged_keeper g logs))
 
 -- ---- how it is opened and closed
@@ -212,6 +239,7 @@ pub record IsUp {M T K : Type 0} (opens : Opening M T) (path : List ℕ) (by : K
   pub opened : opens old path before middle
   pub mode : before.in_transaction ≡ false
   pub good : IsGood desk.book.register
+  pub staffed : IsStaffed desk.book.register
   pub uncounted : desk.faults ≡ 0
   pub taken_up : by.takes_up middle new before desk
 
@@ -268,12 +296,10 @@ IsDoneOver Plainly Loggedly (Logged old) (Logged new) = Loggedly old new
 IsDoneOver Plainly Loggedly (Plain old) (Logged new) = ⊥
 IsDoneOver Plainly Loggedly (Logged old) (Plain new) = ⊥
 
--- where it has a journal, it stays level with it
+-- where it has a journal, it stays level with it, and its lines safe
 abbrev pub StaysLevelOver : {K J C : Type 0} → (K → State) → Placing → append.Ghosts J
     → Opened K J C → Opened K J C → Type 0
 StaysLevelOver kept has_place log (Plain old) (Plain new) = Unit {0}
-StaysLevelOver kept has_place log (Logged old) (Logged new) =
-    StaysLevel kept has_place log.text old new
-    × StaysSound log.text log.found log.may_leave old new
+StaysLevelOver kept has_place log (Logged old) (Logged new) = StaysOne kept has_place log old new
 StaysLevelOver kept has_place log (Plain old) (Logged new) = ⊥
 StaysLevelOver kept has_place log (Logged old) (Plain new) = ⊥

@@ -7,6 +7,7 @@ use Rattle.sqlite.specs.Order.{Row}
 use Rattle.sqlite.specs.State.{HasCleanDisk, State, Survives}
 use Rattle.sqlite_trees.specs.declared.store.Store.{Ghosts}
 use Rattle.clr_append.specs.declared.journal.Journal as append
+use Rattle.clr_rules.specs.Fit.{IsFit}
 use Rattle.clr_rules.specs.Good.{IsGood}
 use Rattle.clr_rules.specs.Register.{Register}
 use Rattle.clr_rules.specs.Staffed.{IsStaffed}
@@ -186,6 +187,7 @@ pub record IsGiven {M J C T : Type 0} (g : Ghosts T) (logs : Logs M J C) (path :
   pub unheard : it.login ≡ None
   pub settled : it.last ≡ Settled
   pub kept : Keeps (state g read) R (state g it.keeper) S
+  pub fit : IsFit R → IsFit S
   pub rolled : IsGood R → RollsForward g read R place (entries_of ahead) it S
   pub level : OpensLevel g logs.log.text read R place (entries_of ahead) it S
   pub sound : OpensSound logs it
@@ -217,6 +219,7 @@ pub data IsNotGiven {M J C T : Type 0} (g : Ghosts T) (logs : Logs M J C) (path 
 pub record IsTakenUp {M J C T : Type 0} (g : Ghosts T) (logs : Logs M J C) (path : List ℕ)
     (old new : M) (before : Held T) (it : Keeper (Held T) J C) (S : Register) : Type 0 where
   pub kept : IsKept g before it.keeper S
+  pub fit : IsFit S
   pub place : Place
   pub placed : HasPlace g before (IsKept.opened kept) (Some place)
   pub ahead : Ahead

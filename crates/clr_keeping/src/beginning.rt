@@ -2,7 +2,8 @@
 ghost use Rattle.std.specs.Prelude.{◌≡◌, ◌⊎◌, IfErr, IfOk, OnErr, OnOk, false};
 ghost use Rattle.clr_rules.specs.Register.{opening};
 ghost use Rattle.clr_level.specs.declared.last.Last.TheVariants.{Settled};
-ghost use Rattle.clr_keeping.specs.Beginning.{BeginsFirst, BeginsNextAt, GoesOnAt, IsMadeAt, IsOfBegun};
+ghost use Rattle.clr_keeping.specs.Beginning.{BeginsFirst, BeginsNextAt, GoesOnAt, IsMadeAt};
+ghost use Rattle.clr_keeping.specs.Beginning.{IsOfBegun};
 ghost use Rattle.clr_keeping.specs.Beginning.{IsPlacedOrNot, IsUnmadeAt, MakesRegisterAt, PlacesAt};
 ghost use Rattle.clr_keeping.specs.Beginning.{begun_or};
 ghost use Rattle.clr_edge.specs.Database.{IsOfLine};
@@ -40,9 +41,9 @@ pub fn begin_register<R: Makes + Journals>(
     staff: &Staff,
 ) -> Result<(), Fault>
     ensures begun { BeginsFirst (logs R.Journals R.Log.Journal R.Time.shows) journal.now first.now
-        (λ told old new. Comes R.makes R.shuts R.ends path.now
+        (λ outcome old new. Comes R.makes R.shuts R.ends path.now
         (Alone (MakesRegisterAt R.Tables.Store (opening network.now staff.now) first.now))
-        told old new) result rt.old rt.new }
+        outcome old new) result rt.old rt.new }
     ensures fault { IfErr result IsOfBegun }
 {
     let log = rt.begin_journal(journal, first)?;
@@ -134,21 +135,21 @@ fn place_in<S: Alter + Drop>(store: Store<S>, first: &Place) -> (Result<(), Faul
 
 /// What is reported once a journal was begun: any fault of the database says that it is to be
 /// removed.
-fn begun_or(told: Result<(), Fault>) -> Result<(), Fault>
-    ensures { result ≡ begun_or told }
+fn begun_or(outcome: Result<(), Fault>) -> Result<(), Fault>
+    ensures { result ≡ begun_or outcome }
 {
-    match told {
+    match outcome {
         Ok(()) => Ok(()),
         Err(_) => Err(Fault::Journal(JournalFault::Begun)),
     }
 }
 
 /// Ends the part of a journal that is at a path, and begins the next one at another: the journal's
-/// id, number and sum are its first line. The register is taken up first, so what was accepted after
-/// its place is carried out; then it goes to that place. Gives its number.
+/// id, number and sum are its first line. The register is taken up first, so what was accepted
+/// after its place is carried out; then it goes to that place. Gives its number.
 ///
-/// `Journal(Begun)` where the next part was begun and the register did not go to its place: the next
-/// part is to be removed.
+/// `Journal(Begun)` where the next part was begun and the register did not go to its place: the
+/// next part is to be removed.
 pub fn begin_next<R: Databases + Journals>(
     alloc: Global,
     rt: &mut R,

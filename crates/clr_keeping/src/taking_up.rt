@@ -1,6 +1,7 @@
 //! A register is taken up from a database, with its journal or without one, and let go.
 ghost use Rattle.std.specs.Prelude.{◌≡◌, IfErr, IfOk, None, false};
 ghost use Rattle.sqlite.specs.Held.{state};
+ghost use Rattle.clr_rules.specs.Fit.{IsFit};
 ghost use Rattle.clr_rules.specs.Good.{IsGood};
 ghost use Rattle.clr_desk.specs.Kept.{Keeps};
 ghost use Rattle.clr_level.specs.Journaling.{HasText, IsSound};
@@ -8,7 +9,8 @@ ghost use Rattle.clr_level.specs.declared.last.Last.TheVariants.{Settled};
 ghost use Rattle.clr_edge.specs.Database.{IsOfLine};
 ghost use Rattle.clr_keeping.specs.Keeping.{IsEnded, IsLetGo, IsNotUp, IsNotUpWith, IsUp, IsUpWith};
 ghost use Rattle.clr_keeping.specs.Keeping.{logged, plain, unlogged};
-ghost use Rattle.clr_keeping.specs.TakenUp.{HasPlace, IsGiven, IsNotGiven, IsOfTakingUp, LacksPlace};
+ghost use Rattle.clr_keeping.specs.TakenUp.{HasPlace, IsGiven, IsNotGiven, IsOfTakingUp};
+ghost use Rattle.clr_keeping.specs.TakenUp.{LacksPlace};
 ghost use Rattle.clr_keeping.specs.TakenUp.{LeavesFronts, MissesOne, OpensLevel, RollsForward};
 ghost use Rattle.clr_keeping.specs.TakenUp.{StaysRead, StopsForward, entries_of, logs, of_opening};
 
@@ -40,8 +42,8 @@ pub enum Opened<K: CommitAt, J: Journal + Drop, C: Clock> {
 ///
 /// The faults of the database are those of `desk_over`, and `Store(BadRow)` also where the place
 /// does not read. `Journal(Missing)` where the register has a journal and none is named,
-/// `OtherRegister` also where it has none and one is named. Those of the journal are that it was not
-/// opened, is another register's, ends too early, differs, or has a bad line.
+/// `OtherRegister` also where it has none and one is named. Those of the journal are that it was
+/// not opened, is another register's, ends too early, differs, or has a bad line.
 pub fn take_up<R: Databases + Journals>(
     alloc: Global,
     rt: &mut R,
@@ -89,8 +91,8 @@ pub fn open_desk<R: Databases>(
     }
 }
 
-/// Opens a desk over a register that has no journal, so that it may be changed without one. One that
-/// has a journal is refused. A fault closes the database.
+/// Opens a desk over a register that has no journal, so that it may be changed without one. One
+/// that has a journal is refused. A fault closes the database.
 pub fn unlogged_desk<R: Databases>(
     alloc: Global,
     rt: &mut R,
@@ -286,6 +288,7 @@ fn taken_up<S: Alter + Drop, J: Journal + Drop, C: Clock>(
         taken.book.register) }
     ensures kept { IfOk result (λ taken. Keeps (state S.Store desk.store) desk.book.register
         (state S.Store taken.store.keeper) taken.book.register) }
+    ensures fit { IfOk result (λ taken. IsFit desk.book.register → IsFit taken.book.register) }
     ensures left { IfOk result (λ taken. LeavesFronts S.Store desk.store desk.store
         desk.book.register place (entries_of opened.ahead) taken.store.keeper) }
     ensures stops { IfErr result (λ back. IsGood desk.book.register

@@ -12,7 +12,7 @@ use Rattle.clr_journal.specs.Laws.{turn_behind}
 use Rattle.clr_journal.specs.Line.{Entry, carried, is_accepted, withdrawn}
 use Rattle.clr_journal.specs.declared.line.Receipt.{Receipt}
 use Rattle.clr_journal.specs.declared.reading.Turn.{Turn}
-use Rattle.clr_journal.proofs.JournalsRead.{commands_grow}
+use Rattle.clr_journal.proofs.JournalsRead.{deeds_grow}
 use Rattle.clr_place.specs.declared.place.Place.{Place}
 use Rattle.clr_chain.specs.Chain.{chain_text, link_texts}
 use Rattle.clr_chain.specs.First.{first_text, first_turn_at}
@@ -103,13 +103,13 @@ kept_on (withdrawn n ∷ xs) entry ys kept = kept
 pub accepted_out : (xs : List Entry) (receipt : Receipt) (q : Deed) (reply : Data) → carried_out xs ≡ [] → is_accepted reply ≡ true
     → carried_out (xs ++ carried receipt q reply ∷ []) ≡ (q, reply) ∷ []
 accepted_out xs receipt q reply none accepted =
-    commands_grow xs receipt q reply
+    deeds_grow xs receipt q reply
     ∙ ap₂ (λ (pairs : List (Deed × Data)) (b : Bool). pairs ++ cond b ((q, reply) ∷ []) []) none accepted
 
 pub refused_out : (xs : List Entry) (receipt : Receipt) (q : Deed) (reply : Data) → carried_out xs ≡ [] → is_accepted reply ≡ false
     → carried_out (xs ++ carried receipt q reply ∷ []) ≡ []
 refused_out xs receipt q reply none refused =
-    commands_grow xs receipt q reply
+    deeds_grow xs receipt q reply
     ∙ ap₂ (λ (pairs : List (Deed × Data)) (b : Bool). pairs ++ cond b ((q, reply) ∷ []) []) none refused
 
 no_pair : (o : Option (Deed × Data)) (pairs : List (Deed × Data)) → onto_some o pairs ≡ [] → (o ≡ None) × (pairs ≡ [])

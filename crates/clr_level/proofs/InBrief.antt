@@ -4,10 +4,11 @@ use Rattle.clr_rules.specs.declared.command.Command.{Command}
 use Rattle.clr_rules.specs.declared.command.Kind.{Kind}
 use Rattle.clr_rules.specs.declared.reply.Reply.{Reply}
 use Rattle.clr_answer.specs.Decision.{is_accepted}
+use Rattle.clr_journal.specs.Line.{brief_kind}
 use Rattle.clr_journal.specs.declared.line.Receipt.{Receipt}
 use Rattle.clr_chain.specs.Link.{link_text}
 use Rattle.clr_chain.specs.Sums.{sum_after}
-use Rattle.clr_level.specs.Journaling.{brief, brief_kind, brief_of, line_of, line_with}
+use Rattle.clr_level.specs.Journaling.{brief, brief_of, line_of, line_with}
 
 brief_is : (q : Command) (kind : Option Kind) (b : Command) → Some b ≡ option_map (brief_of q) kind → brief q kind ≡ b
 brief_is q None b is = absurd (cc is)

@@ -13,6 +13,7 @@ pub mod Places
 pub mod Renewals
 pub mod Rolling
 pub mod Sounds
+pub mod Staffing
 pub mod Taken
 pub mod Tried
 pub mod BegunLevel

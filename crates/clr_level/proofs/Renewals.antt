@@ -1,5 +1,5 @@
 -- An update or an archive of a register with a journal: its line, and what is carried out with it.
-use Rattle.std.proofs.Common.{◌≡◌, ◌∙◌, ℕ, true, List, [], ◌∷◌, ◌++◌, Ok, Err, IfErr, OnErr, OnOk, inl, inr, refl, ap, sym, subst, append-nil}
+use Rattle.std.proofs.Common.{◌≡◌, ◌∙◌, ℕ, Bool, true, List, [], ◌∷◌, ◌++◌, Ok, Err, IfErr, OnErr, OnOk, inl, inr, refl, ap, sym, subst, append-nil}
 use Rattle.serde_json.specs.Data.{Data}
 use Rattle.sqlite.specs.State.{HasCleanDisk, State, Survives}
 use Rattle.sqlite.specs.Tree.{Trees}
@@ -31,7 +31,7 @@ use Rattle.clr_desk.specs.declared.desk_fault.DeskFault.TheVariants.{Journal, No
 use Rattle.clr_desk.proofs.Keeping.{keeps_itself}
 use Rattle.clr_level.specs.Carrying.{AreDoneAt}
 use Rattle.clr_level.specs.Forward.{IsNoCommand}
-use Rattle.clr_level.specs.Journaling.{FailsToo, HasText, IsBeside, IsDeedNoted, IsDeedUnwritten, IsDurable, IsOfJournal, IsSafe, IsSound, IsWithdrawn, StaySafe, end_said, said, with_link}
+use Rattle.clr_level.specs.Journaling.{DoubtHasCause, FailsToo, HasText, IsBeside, IsDeedNoted, IsDeedUnwritten, IsDurable, IsOfJournal, IsSafe, IsSound, IsWithdrawn, StaySafe, end_said, said, with_link}
 use Rattle.clr_level.specs.Levelling.{IsKeptLevel, IsLeft}
 use Rattle.clr_level.specs.Placing.{ComesTo, IsAt, StaysShown}
 use Rattle.clr_level.specs.Renewing.{AreDoneSafely, CarriesBelow, HasSafeLine, JournalsDeed, MissesDeed, RenewalsKeepLevel, RenewalsKeepSafe, RenewsAt, unkept, unwritten}
@@ -49,8 +49,8 @@ use Rattle.clr_level.proofs.Places.{at_moves, at_stays, shown_itself}
 
 -- ---- level, with the line of a deed
 
-module _ {K J C : Type 0} (kept : K → State) (has_place : Placing) (shows : C → ℕ → Type 0) (text : J → List ℕ) (may_leave : J → List ℕ → Type 0)
-    (first : Register) (start : Place) (R : Register) (deed : Deed) (reply : deed_reply R deed ≡ done) (old new : Keeper K J C) where
+module _ {K J C : Type 0} (kept : K → State) (has_place : Placing) (fails : DeskFault → Type 0) (shows : C → ℕ → Type 0) (text found : J → List ℕ)
+    (may_leave : J → List ℕ → Type 0) (is_usable : J → Bool) (first : Register) (start : Place) (R : Register) (deed : Deed) (reply : deed_reply R deed ≡ done) (old new : Keeper K J C) where
   abbrev Level : Register → Keeper K J C → Type 0
   Level S it = IsKeptLevel kept has_place text first start S it
 
@@ -92,11 +92,11 @@ module _ {K J C : Type 0} (kept : K → State) (has_place : Placing) (shows : C 
       (subst (λ (l : Last). IsLeft l R more) (sym doubtful)
       (inr (record { idle = all.more; receipt = noted.receipt; deed = deed; is = refl; none = all.none; accepted = accepted })))
 
-  pub missed_level : Level R old → MissesDeed kept shows text may_leave old deed new → Level R new
-  missed_level level (unwritten (inl none) same) = unnoted_level kept has_place text first start R old new same none level
-  missed_level level (unwritten (inr (noted, doubtful)) same) =
-      due_level level noted doubtful (subst (λ (k : K). StaysShown (kept old.keeper) (kept k)) (sym same) (shown_itself (kept old.keeper)))
-  missed_level level (unkept noted doubtful durable stays) = due_level level noted doubtful stays
+  pub missed_level : (fault : DeskFault) → Level R old → MissesDeed kept fails shows text found may_leave is_usable old deed fault new → Level R new
+  missed_level fault level (unwritten (inl none) cause same) = unnoted_level kept has_place text first start R old new same none.unnoted level
+  missed_level fault level (unwritten (inr line) cause same) =
+      due_level level line.noted line.doubtful (subst (λ (k : K). StaysShown (kept old.keeper) (kept k)) (sym same) (shown_itself (kept old.keeper)))
+  missed_level fault level (unkept noted doubtful durable of stays) = due_level level noted doubtful stays
 
   -- ---- what is safe
 
@@ -134,29 +134,30 @@ module _ {K J C : Type 0} (kept : K → State) (has_place : Placing) (shows : C 
   }
 
 module _ {K J C : Type 0} (kept : K → State) (has_place : Placing) (fails : DeskFault → Type 0) (shows : C → ℕ → Type 0) (text found : J → List ℕ)
-    (may_leave : J → List ℕ → Type 0) (old new : Desk (Keeper K J C)) (deed : Deed) (reply : deed_reply old.book.register deed ≡ done) where
+    (may_leave : J → List ℕ → Type 0) (is_usable : J → Bool) (old new : Desk (Keeper K J C)) (deed : Deed)
+    (reply : deed_reply old.book.register deed ≡ done) where
   abbrev R : Register
   R = old.book.register
 
-  pub renewals_keep_level : (came : Came) → RenewsAt kept has_place fails shows text found may_leave old new deed came
+  pub renewals_keep_level : (came : Came) → RenewsAt kept has_place fails shows text found may_leave is_usable old new deed came
       → RenewalsKeepLevel kept has_place text old new
   renewals_keep_level (Ok nothing) renews first start good level =
       let fine : IsGood R = still_good first R (carried_out level.level.had) good level.level.run in
-      done_level kept has_place shows text may_leave first start R deed reply old.store new.store new.book.register level renews.journals.noted.0
+      done_level kept has_place fails shows text found may_leave is_usable first start R deed reply old.store new.store new.book.register level renews.journals.noted.0
       renews.journals.noted.1 (renews.register fine) (renews.placed fine)
   renewals_keep_level (Err fault) renews first start good level =
       subst (λ (X : Register). IsKeptLevel kept has_place text first start X new.store) (sym renews.unchanged)
-      (missed_level kept has_place shows text may_leave first start R deed reply old.store new.store level renews.journals.missed)
+      (missed_level kept has_place fails shows text found may_leave is_usable first start R deed reply old.store new.store fault level renews.journals.missed)
 
-  pub renewals_keep_safe : (came : Came) → RenewsAt kept has_place fails shows text found may_leave old new deed came
+  pub renewals_keep_safe : (came : Came) → RenewsAt kept has_place fails shows text found may_leave is_usable old new deed came
       → RenewalsKeepSafe kept has_place text may_leave old new
   renewals_keep_safe (Ok nothing) renews first start good level safe =
       let fine : IsGood R = still_good first R (carried_out level.level.had) good level.level.run in
-      done_safe kept has_place shows text may_leave first start R deed reply old.store new.store new.book.register level renews.journals.noted.0
+      done_safe kept has_place fails shows text found may_leave is_usable first start R deed reply old.store new.store new.book.register level renews.journals.noted.0
       renews.journals.durable (renews.register fine) (renews.placed fine)
   renewals_keep_safe (Err fault) renews first start good level safe =
       subst (λ (X : Register). IsSafeAt kept has_place text may_leave first start X new.store) (sym renews.unchanged)
-      (missed_safe kept has_place shows text may_leave first start R deed reply old.store new.store renews.stays renews.journals.safe safe)
+      (missed_safe kept has_place fails shows text found may_leave is_usable first start R deed reply old.store new.store renews.stays renews.journals.safe safe)
 
 -- ---- faults
 
@@ -187,10 +188,11 @@ pub record HasDurableLine {K J C : Type 0} (shows : C → ℕ → Type 0) (text 
   pub withdrawn : IsWithdrawn text may_leave old new
 
 -- or it was not written, or not synced
-pub record LacksLine {K J C : Type 0} (shows : C → ℕ → Type 0) (text found : J → List ℕ) (may_leave : J → List ℕ → Type 0)
-    (old : Keeper K J C) (deed : Deed) (new : Keeper K J C) : Type 0 where
+pub record IsNotNoted {K J C : Type 0} (shows : C → ℕ → Type 0) (text found : J → List ℕ) (may_leave : J → List ℕ → Type 0) (is_usable : J → Bool)
+    (old : Keeper K J C) (deed : Deed) (fault : DeskFault) (new : Keeper K J C) : Type 0 where
   pub keeper : new.keeper ≡ old.keeper
-  pub unwritten : IsDeedUnwritten shows text old deed new
+  pub unwritten : IsDeedUnwritten shows text found may_leave old deed fault new
+  pub cause : DoubtHasCause is_usable old new
   pub sound : IsSound text found may_leave old → IsSound text found may_leave new
   pub safe : StaySafe text may_leave old.journal new.journal
   pub withdrawn : IsWithdrawn text may_leave old new
@@ -200,9 +202,10 @@ between {A} P a b c d old new holds = subst (λ (x : A). P x d) old (subst (λ (
 
 -- where the line was not written or not synced, nothing else was done
 module _ {K J C : Type 0} (kept : K → State) (has_place : Placing) (fails : DeskFault → Type 0) (shows : C → ℕ → Type 0) (text found : J → List ℕ)
-    (may_leave : J → List ℕ → Type 0) (old new : Desk (Keeper K J C)) (deed : Deed) where
-  pub not_noted : (fault : DeskFault) → new.book ≡ old.book → LacksLine shows text found may_leave old.store deed new.store → IsOfJournal fault
-      → RenewsAt kept has_place fails shows text found may_leave old new deed (Err fault)
+    (may_leave : J → List ℕ → Type 0) (is_usable : J → Bool) (old new : Desk (Keeper K J C)) (deed : Deed) where
+  pub not_noted : (fault : DeskFault) → new.book ≡ old.book
+      → IsNotNoted shows text found may_leave is_usable old.store deed fault new.store → IsOfJournal fault
+      → RenewsAt kept has_place fails shows text found may_leave is_usable old new deed (Err fault)
   not_noted fault book lacks of = record {
     register = λ good. tt;
     placed = λ good. tt;
@@ -213,7 +216,7 @@ module _ {K J C : Type 0} (kept : K → State) (has_place : Placing) (fails : De
     journals = record {
       noted = tt;
       durable = tt;
-      missed = unwritten lacks.unwritten lacks.keeper;
+      missed = unwritten lacks.unwritten lacks.cause lacks.keeper;
       sound = lacks.sound;
       safe = lacks.safe;
       withdrawn = lacks.withdrawn;
@@ -232,7 +235,7 @@ module _ {K J C : Type 0} (kept : K → State) (has_place : Placing) (fails : De
 
 -- and where it is durable, the deed was carried out below
 module _ {K J C : Type 0} (kept : K → State) (takes : Taking K) (hears : Hearing K) (has_place : Placing) (fails : DeskFault → Type 0) (shows : C → ℕ → Type 0)
-    (text found : J → List ℕ) (may_leave : J → List ℕ → Type 0) (old mid new : Desk (Keeper K J C)) (deed : Deed)
+    (text found : J → List ℕ) (may_leave : J → List ℕ → Type 0) (is_usable : J → Bool) (old mid new : Desk (Keeper K J C)) (deed : Deed)
     (reply : deed_reply old.book.register deed ≡ done) (book : mid.book ≡ old.book) (line : HasDurableLine shows text found may_leave old.store deed mid.store) where
   noted : IsDeedNoted shows text old.store deed mid.store
   noted = line.noted
@@ -294,7 +297,7 @@ module _ {K J C : Type 0} (kept : K → State) (takes : Taking K) (hears : Heari
         (λ clean trees left. (
           subst (λ (p : Place). AreDoneAt has_place (kept old.store.keeper).now old.book.register deed p trees) (sym below.beside.at) left,
           λ first start level.
-              line_safe kept has_place shows text may_leave first start old.book.register deed reply old.store new.store level (noted_as below.beside)
+              line_safe kept has_place fails shows text found may_leave is_usable first start old.book.register deed reply old.store new.store level (noted_as below.beside)
               (durable_as below.beside),
         ))
         (At (λ b k c l. Survives (kept k) (kept l) (AreDoneAt has_place (kept k).now b.register deed mid.store.at)) below.carried.crash)
@@ -333,7 +336,7 @@ module _ {K J C : Type 0} (kept : K → State) (takes : Taking K) (hears : Heari
 
   carried_journals : (came : Came) → CarriesBelow kept takes hears has_place fails mid new deed came
       → OnErr came (StaysShown (kept old.store.keeper) (kept new.store.keeper))
-      → JournalsDeed kept shows text found may_leave old.store deed came new.store
+      → JournalsDeed kept fails shows text found may_leave is_usable old.store deed came new.store
   carried_journals (Ok nothing) below stays = record {
     noted = (noted_as below.beside, below.last ∙ line.settled);
     durable = durable_as below.beside;
@@ -345,7 +348,7 @@ module _ {K J C : Type 0} (kept : K → State) (takes : Taking K) (hears : Heari
   carried_journals (Err fault) below stays = record {
     noted = tt;
     durable = tt;
-    missed = unkept (noted_as below.beside) below.last (durable_as below.beside) stays;
+    missed = unkept (noted_as below.beside) below.last (durable_as below.beside) below.carried.fault stays;
     sound = sound_as below.beside;
     safe = safe_as below.beside;
     withdrawn = withdrawn_as below.beside;
@@ -356,7 +359,7 @@ module _ {K J C : Type 0} (kept : K → State) (takes : Taking K) (hears : Heari
   carried_fault (Err fault) of = too fails fault of
 
   pub noted_carried : (came : Came) → CarriesBelow kept takes hears has_place fails mid new deed came
-      → RenewsAt kept has_place fails shows text found may_leave old new deed came
+      → RenewsAt kept has_place fails shows text found may_leave is_usable old new deed came
   noted_carried came below = record {
     register = register_as came below;
     placed = placed_as came below;

@@ -1,6 +1,6 @@
 -- A KEEPER WITH A JOURNAL: which line a command, an update or an archive has, and when.
 use Rattle.std.specs.Prelude.{◌≡◌, ◌⊎◌, ◌+◌, ◌^◌, ◌<◌, ◌&&◌, ◌||◌, ℕ, nat_lt, Bool, true, false, not}
-use Rattle.std.specs.Prelude.{List, [], length, Option, Some, None, Ok, Err, if◌then◌else◌}
+use Rattle.std.specs.Prelude.{List, length, Option, Some, None, Ok, Err, if◌then◌else◌}
 use Rattle.sqlite.specs.State.{State}
 use Rattle.sqlite_disk.specs.Disk.{Only}
 use Rattle.clr_append.specs.Journal.{BeginsWith, with_line}
@@ -12,7 +12,7 @@ use Rattle.clr_answer.specs.Decision.{is_accepted}
 use Rattle.clr_deeds.specs.Deeds.{Deed, command}
 use Rattle.clr_place.specs.declared.place.Place.{Place}
 use Rattle.clr_text.specs.Replies.{reply_data}
-use Rattle.clr_journal.specs.Line.{Entry, carried, done, withdrawn}
+use Rattle.clr_journal.specs.Line.{Entry, brief_kind, carried, done, withdrawn}
 use Rattle.clr_journal.specs.declared.line.Receipt.{Receipt}
 use Rattle.clr_chain.specs.Level.{place_with}
 use Rattle.clr_chain.specs.Link.{link_text}
@@ -27,14 +27,6 @@ use Rattle.clr_level.specs.declared.last.Last.{Last}
 use Rattle.clr_level.specs.declared.last.Last.TheVariants.{Doubtful, Owed, Settled}
 
 -- ---- the line of a command
-
--- a command without its lists and its text, if it is of a kind that has them
-abbrev pub brief_kind : Kind → Option Kind
-brief_kind (kinds.Order c points tasks) = Some (kinds.Order c [] [])
-brief_kind (kinds.Restore c tasks) = Some (kinds.Restore c [])
-brief_kind (kinds.Switch tasks) = Some (kinds.Switch [])
-brief_kind (kinds.Repeat c n text) = Some (kinds.Repeat c n [])
-brief_kind kind = None
 
 abbrev pub brief_of : Command → Kind → Command
 brief_of q kind = record { caller = q.caller; moment = q.moment; kind = kind }
@@ -142,12 +134,6 @@ pub record IsUnnoted {K J C : Type 0} (text : J → List ℕ) (old new : Keeper 
   pub owes : new.last ≡ Owed
       → (old.last ≡ Owed) × (text new.journal ≡ text old.journal) × (new.at ≡ old.at)
 
--- IT WAS NOT WRITTEN, or not synced: then it is not known whether a crash leaves it
-abbrev pub IsDeedUnwritten : {K J C : Type 0} → (C → ℕ → Type 0) → (J → List ℕ) → Keeper K J C
-    → Deed → Keeper K J C → Type 0
-IsDeedUnwritten shows text old deed new = IsUnnoted text old new
-    ⊎ (IsDeedNoted shows text old deed new × (new.last ≡ Doubtful))
-
 -- nothing changes but the keeper below
 pub record IsAsItWas {K J C : Type 0} (old new : Keeper K J C) : Type 0 where
   pub journal : new.journal ≡ old.journal
@@ -167,6 +153,10 @@ pub record IsBeside {K J C : Type 0} (mid new : Keeper K J C) : Type 0 where
 -- the journal was not written, or memory ran out
 abbrev pub IsOfJournal : DeskFault → Type 0
 IsOfJournal fault = (fault ≡ Journal) ⊎ (fault ≡ NoMemory)
+
+-- where the journal is in doubt, the fault is its own
+abbrev pub IsItsOwn : Last → DeskFault → Type 0
+IsItsOwn last fault = last ≡ Doubtful → fault ≡ Journal
 
 -- what a fault of the keeper leaves of a line whose command was accepted: where memory ran out the
 -- keeper goes on as it was, and the line is to be withdrawn; otherwise it may have kept the change
@@ -222,32 +212,46 @@ abbrev pub DoubtHasCause : {K J C : Type 0} → (J → Bool) → Keeper K J C �
 DoubtHasCause is_usable old new = new.last ≡ Doubtful
     → (old.last ≡ Doubtful) ⊎ (is_usable new.journal ≡ false)
 
--- THE LINE WAS NOT SYNCED: the command is accepted, and it is not known whether a crash leaves the
--- line. It leaves all lines before
-pub record IsUnsynced {K J C : Type 0} (shows : C → ℕ → Type 0) (text found : J → List ℕ)
-    (may_leave : J → List ℕ → Type 0) (old : Keeper K J C) (q : Command) (reply : Reply)
+-- THE LINE WAS NOT SYNCED, which was noted so: its deed is accepted, and it is not known whether a
+-- crash leaves the line. It leaves all lines before
+pub record IsUnsynced {K J C : Type 0} (text found : J → List ℕ)
+    (may_leave : J → List ℕ → Type 0) (old : Keeper K J C) (Noted : Type 0) (accepts : Bool)
     (fault : DeskFault) (new : Keeper K J C) : Type 0 where
-  pub noted : IsNoted shows text old q reply new
-  pub accepted : is_accepted reply ≡ true
+  pub noted : Noted
+  pub accepted : accepts ≡ true
   pub doubtful : new.last ≡ Doubtful
   pub cause : fault ≡ Journal
   pub before : IsSound text found may_leave old → IsKept may_leave (said text old) new.journal
 
--- A LINE WAS NOT WRITTEN. Where the line of an accepted command may have been tried, which is where
--- nothing is owed or in doubt, a crash leaves all lines before
+-- A LINE WAS NOT WRITTEN. Where that of an accepted deed may have been tried, which is where nothing
+-- is owed or in doubt, a crash leaves all lines before
 pub record HasNoLine {K J C : Type 0} (text found : J → List ℕ) (may_leave : J → List ℕ → Type 0)
-    (old : Keeper K J C) (reply : Reply) (fault : DeskFault) (new : Keeper K J C) : Type 0 where
+    (old : Keeper K J C) (accepts : Bool) (fault : DeskFault) (new : Keeper K J C) : Type 0 where
   pub unnoted : IsUnnoted text old new
   pub cause : IsOfJournal fault
-  pub before : is_accepted reply ≡ true → new.last ≡ Settled → IsSound text found may_leave old
+  pub its_own : IsItsOwn new.last fault
+  pub before : accepts ≡ true → new.last ≡ Settled → IsSound text found may_leave old
       → IsKept may_leave (said text old) new.journal
 
--- A LINE WAS NOT WRITTEN, or not synced
+-- A LINE WAS NOT WRITTEN, or not synced, of a deed that is accepted or not
+abbrev pub LacksLine : {K J C : Type 0} → (J → List ℕ) → (J → List ℕ) → (J → List ℕ → Type 0)
+    → Keeper K J C → Type 0 → Bool → DeskFault → Keeper K J C → Type 0
+LacksLine text found may_leave old Noted accepts fault new =
+    HasNoLine text found may_leave old accepts fault new
+    ⊎ IsUnsynced text found may_leave old Noted accepts fault new
+
+-- that of a command
 abbrev pub IsUnwritten : {K J C : Type 0} → (C → ℕ → Type 0) → (J → List ℕ) → (J → List ℕ)
     → (J → List ℕ → Type 0) → Keeper K J C → Command → Reply → DeskFault → Keeper K J C → Type 0
 IsUnwritten shows text found may_leave old q reply fault new =
-    HasNoLine text found may_leave old reply fault new
-    ⊎ IsUnsynced shows text found may_leave old q reply fault new
+    LacksLine text found may_leave old (IsNoted shows text old q reply new) (is_accepted reply)
+    fault new
+
+-- that of an update or of an archive
+abbrev pub IsDeedUnwritten : {K J C : Type 0} → (C → ℕ → Type 0) → (J → List ℕ) → (J → List ℕ)
+    → (J → List ℕ → Type 0) → Keeper K J C → Deed → DeskFault → Keeper K J C → Type 0
+IsDeedUnwritten shows text found may_leave old deed fault new =
+    LacksLine text found may_leave old (IsDeedNoted shows text old deed new) true fault new
 
 -- A COMMAND THAT IS NOT CARRIED OUT: its line was not written, and the keeper was not called; or
 -- the keeper failed after it, where the line of one that is accepted is durable; or it failed at a

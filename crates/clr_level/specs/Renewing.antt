@@ -1,6 +1,6 @@
 -- AN UPDATE OR AN ARCHIVE of a register with a journal: its line comes first and is durable, then
 -- what it changes is kept, with the place at that line.
-use Rattle.std.specs.Prelude.{◌≡◌, ℕ, List, Ok, Err, IfErr, OnErr, OnOk}
+use Rattle.std.specs.Prelude.{◌≡◌, ℕ, Bool, List, Ok, Err, IfErr, OnErr, OnOk}
 use Rattle.sqlite.specs.State.{HasCleanDisk, State, Survives}
 use Rattle.sqlite.specs.Tree.{Trees}
 use Rattle.clr_deeds.specs.Deeds.{Deed, after_deed}
@@ -20,8 +20,9 @@ use Rattle.clr_desk.specs.declared.desk_fault.DeskFault.{DeskFault}
 use Rattle.clr_level.specs.Carrying.{AreDoneAt, CarriesDeed}
 use Rattle.clr_level.specs.Forward.{IsNoCommand}
 use Rattle.clr_level.specs.Crash.{KeepsTables}
-use Rattle.clr_level.specs.Journaling.{FailsToo, IsBeside, IsDeedNoted, IsDeedUnwritten, IsDurable}
-use Rattle.clr_level.specs.Journaling.{IsSafe, IsSound, IsWithdrawn, StaySafe}
+use Rattle.clr_level.specs.Journaling.{DoubtHasCause, FailsToo, IsBeside, IsDeedNoted}
+use Rattle.clr_level.specs.Journaling.{IsDeedUnwritten, IsDurable, IsSafe, IsSound, IsWithdrawn}
+use Rattle.clr_level.specs.Journaling.{StaySafe}
 use Rattle.clr_level.specs.Levelling.{IsKeptLevel}
 use Rattle.clr_level.specs.Placing.{ComesTo, StaysShown}
 use Rattle.clr_level.specs.Restarting.{HasLines, IsSafeAt}
@@ -75,22 +76,27 @@ AreDoneSafely kept has_place text may_leave R old deed new trees =
 
 -- A DEED IS NOT CARRIED OUT: its line was not written, or not synced, and the keeper below was not
 -- called; or that failed after the line, which is durable, and only an opening decides
-pub data MissesDeed {K J C : Type 0} (kept : K → State) (shows : C → ℕ → Type 0)
-    (text : J → List ℕ) (may_leave : J → List ℕ → Type 0) (old : Keeper K J C) (deed : Deed)
+pub data MissesDeed {K J C : Type 0} (kept : K → State) (fails : DeskFault → Type 0)
+    (shows : C → ℕ → Type 0) (text found : J → List ℕ) (may_leave : J → List ℕ → Type 0)
+    (is_usable : J → Bool) (old : Keeper K J C) (deed : Deed) (fault : DeskFault)
     (new : Keeper K J C) : Type 0 where
-  unwritten : IsDeedUnwritten shows text old deed new → new.keeper ≡ old.keeper
-      → MissesDeed kept shows text may_leave old deed new
+  unwritten : IsDeedUnwritten shows text found may_leave old deed fault new
+      → DoubtHasCause is_usable old new → new.keeper ≡ old.keeper
+      → MissesDeed kept fails shows text found may_leave is_usable old deed fault new
   unkept : IsDeedNoted shows text old deed new → new.last ≡ Doubtful
-      → IsDurable text may_leave new.journal → StaysShown (kept old.keeper) (kept new.keeper)
-      → MissesDeed kept shows text may_leave old deed new
+      → IsDurable text may_leave new.journal → IsOfKeeper fails fault
+      → StaysShown (kept old.keeper) (kept new.keeper)
+      → MissesDeed kept fails shows text found may_leave is_usable old deed fault new
 
 -- A DEED AT A KEEPER WITH A JOURNAL: it is carried out only with its line, which is durable
-pub record JournalsDeed {K J C : Type 0} (kept : K → State) (shows : C → ℕ → Type 0)
-    (text found : J → List ℕ) (may_leave : J → List ℕ → Type 0) (old : Keeper K J C) (deed : Deed)
-    (came : Came) (new : Keeper K J C) : Type 0 where
+pub record JournalsDeed {K J C : Type 0} (kept : K → State) (fails : DeskFault → Type 0)
+    (shows : C → ℕ → Type 0) (text found : J → List ℕ) (may_leave : J → List ℕ → Type 0)
+    (is_usable : J → Bool) (old : Keeper K J C) (deed : Deed) (came : Came) (new : Keeper K J C)
+    : Type 0 where
   pub noted : OnOk came (IsDeedNoted shows text old deed new × (new.last ≡ Settled))
   pub durable : OnOk came (IsDurable text may_leave new.journal)
-  pub missed : OnErr came (MissesDeed kept shows text may_leave old deed new)
+  pub missed : IfErr came (λ fault.
+      MissesDeed kept fails shows text found may_leave is_usable old deed fault new)
   pub sound : IsSound text found may_leave old → IsSound text found may_leave new
   pub safe : StaySafe text may_leave old.journal new.journal
   pub withdrawn : IsWithdrawn text may_leave old new
@@ -101,8 +107,8 @@ pub record JournalsDeed {K J C : Type 0} (kept : K → State) (shows : C → ℕ
 -- or both
 pub record RenewsAt {K J C : Type 0} (kept : K → State) (has_place : Placing)
     (fails : DeskFault → Type 0) (shows : C → ℕ → Type 0) (text found : J → List ℕ)
-    (may_leave : J → List ℕ → Type 0) (old new : Desk (Keeper K J C)) (deed : Deed) (came : Came)
-    : Type 0 where
+    (may_leave : J → List ℕ → Type 0) (is_usable : J → Bool) (old new : Desk (Keeper K J C))
+    (deed : Deed) (came : Came) : Type 0 where
   pub register : IsGood old.book.register
       → OnOk came (new.book.register ≡ after_deed old.book.register deed)
   pub placed : IsGood old.book.register
@@ -112,7 +118,8 @@ pub record RenewsAt {K J C : Type 0} (kept : K → State) (has_place : Placing)
       → OnOk came (IsSaved (kept new.store.keeper))
   pub unchanged : OnErr came (new.book.register ≡ old.book.register)
   pub stays : OnErr came (StaysShown (kept old.store.keeper) (kept new.store.keeper))
-  pub journals : JournalsDeed kept shows text found may_leave old.store deed came new.store
+  pub journals : JournalsDeed kept fails shows text found may_leave is_usable old.store deed came
+      new.store
   pub keeps : Keeps (kept old.store.keeper) old.book.register (kept new.store.keeper)
       new.book.register
   pub crash : Survives (kept old.store.keeper) (kept new.store.keeper)

@@ -1,7 +1,8 @@
 //! A refused command is noted in brief.
 ghost use Rattle.std.specs.Prelude.{◌≡◌, option_map};
 ghost use Rattle.clr_answer.specs.Decision.{is_accepted};
-ghost use Rattle.clr_level.specs.Journaling.{brief_kind, brief_of, is_show};
+ghost use Rattle.clr_journal.specs.Line.{brief_kind};
+ghost use Rattle.clr_level.specs.Journaling.{brief_of, is_show};
 
 use clr_rules::{Command, Kind, Names, Reply, Tasks, Text};
 use std::alloc::Global;

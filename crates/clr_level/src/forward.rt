@@ -1,5 +1,6 @@
 //! A register is rolled forward through the lines after its place.
-ghost use Rattle.std.specs.Prelude.{◌≡◌, ◌∷◌, ℕ, Err, false, IfErr, List, [], map, None, OnOk, Some};
+ghost use Rattle.std.specs.Prelude.{◌≡◌, ◌∷◌, ℕ, Err, false, IfErr, List, [], map, None, OnOk};
+ghost use Rattle.std.specs.Prelude.{Some};
 ghost use Rattle.sqlite.specs.State.{Survives};
 ghost use Rattle.clr_rules.specs.Good.{IsGood};
 ghost use Rattle.clr_rules.specs.Register.{Register};
@@ -8,7 +9,8 @@ ghost use Rattle.clr_journal.specs.Journals.{withdraws};
 ghost use Rattle.clr_journal.specs.Line.{Entry, entry_of};
 ghost use Rattle.clr_level.specs.Crash.{AreFurther, AreRolled, KeepsTables};
 ghost use Rattle.clr_level.specs.Forward.{AreAnswered, AreShallow, Arrives, GoesOn, HasCome};
-ghost use Rattle.clr_level.specs.Forward.{IsOfCarrying, IsOfForward, RollsTo, Went, open_after, opened_by};
+ghost use Rattle.clr_level.specs.Forward.{IsOfCarrying, IsOfForward, RollsTo, Went, open_after};
+ghost use Rattle.clr_level.specs.Forward.{opened_by};
 ghost use Rattle.clr_level.specs.Placing.{IsAt};
 
 use crate::deed::carry_deed;
@@ -253,7 +255,8 @@ fn carry_out<K: CommitAt>(
 ) -> (Result<(), OpeningFault>, Forward<K>)
     ensures went { (R : Register) (place : Place) (lines rest : List Entry) → IsGood R
         → AreAnswered R lines → withdraws rest ≡ false
-        → HasCome K.has_place R place lines desk.book.register (K.kept desk.store) at (Some one) rest
+        → HasCome K.has_place R place lines desk.book.register (K.kept desk.store) at
+        (Some one) rest
         → Arrives K.kept K.has_place R place lines result.0 result.1.desk result.1.at rest }
     ensures closed { OnOk result.0 (result.1.pending ≡ None) }
     ensures tables { OnOk result.0 (KeepsTables K.kept desk result.1.desk) }

@@ -30,9 +30,9 @@ pub fn begun_is_level<K: CommitAt>(keeper: &K)
     ensures { BegunIsLevel K.has_place (K.kept keeper.now) }
 {}
 
-/// Whatever a crash leaves of journal and register, they are opened again level, or refused. A crash
-/// leaves the lines up to the register's place, whatever the desk was given, and those with the line
-/// of a deed that may have been carried out.
+/// Whatever a crash leaves of journal and register, they are opened again level, or refused. A
+/// crash leaves the lines up to the register's place, whatever the desk was given, and those with
+/// the line of a deed that may have been carried out.
 pub fn restarts_keep_level<K: CommitAt, J: Journal + Drop, C: Clock>()
     ensures safe { SafeIsKept K J C K.takes K.kept K.has_place C.shows J.text J.found J.may_leave
         J.is_usable }

@@ -6,7 +6,7 @@ ghost use Rattle.clr_answer.specs.Decision.{is_accepted as accepts};
 ghost use Rattle.clr_chain.specs.Link.{link_text};
 ghost use Rattle.clr_chain.specs.Sums.{sum_after};
 ghost use Rattle.clr_level.specs.Journaling.{DoubtHasCause, IsDurable, IsKept, IsNoted};
-ghost use Rattle.clr_level.specs.Journaling.{IsOfJournal, IsSound, IsUnnoted, IsUnwritten};
+ghost use Rattle.clr_level.specs.Journaling.{IsItsOwn, IsOfJournal, IsSound, IsUnnoted, IsUnwritten};
 ghost use Rattle.clr_level.specs.Journaling.{IsWithdrawn, StaySafe, end_said, is_doubtful};
 ghost use Rattle.clr_level.specs.Journaling.{IsDeedNoted, IsDeedUnwritten, line_of, said};
 ghost use Rattle.clr_deeds.specs.Deeds.{deed_of};
@@ -46,6 +46,7 @@ impl<K: CommitAt, J: Journal + Drop, C: Clock> Keeper<K, J, C> {
             → IsSound J.text J.found J.may_leave self.old
             → IsKept J.may_leave (said J.text self.old) self.new.journal }
         ensures fault { IfErr result IsOfJournal }
+        ensures its_own { IfErr result (IsItsOwn self.new.last) }
     {
         self.make_ready(is_accepted(reply))?;
         let receipt = self.receipt()?;
@@ -89,12 +90,13 @@ impl<K: CommitAt, J: Journal + Drop, C: Clock> Keeper<K, J, C> {
             (IsDeedNoted C.shows J.text self.old (deed_of deed.now) self.new) }
         ensures settled { OnOk result (self.new.last ≡ Last.Settled) }
         ensures durable { OnOk result (IsDurable J.text J.may_leave self.new.journal) }
-        ensures unwritten { OnErr result
-            (IsDeedUnwritten C.shows J.text self.old (deed_of deed.now) self.new) }
+        ensures unwritten { IfErr result (λ fault. IsDeedUnwritten C.shows J.text J.found
+            J.may_leave self.old (deed_of deed.now) fault self.new) }
         ensures sound { IsSound J.text J.found J.may_leave self.old
             → IsSound J.text J.found J.may_leave self.new }
         ensures safe { StaySafe J.text J.may_leave self.old.journal self.new.journal }
         ensures withdrawn { IsWithdrawn J.text J.may_leave self.old self.new }
+        ensures cause { DoubtHasCause J.is_usable self.old self.new }
         ensures fault { IfErr result IsOfJournal }
     {
         self.add_deed(deed)?;
@@ -115,7 +117,11 @@ impl<K: CommitAt, J: Journal + Drop, C: Clock> Keeper<K, J, C> {
             → IsSound J.text J.found J.may_leave self.new }
         ensures safe { StaySafe J.text J.may_leave self.old.journal self.new.journal }
         ensures withdrawn { IsWithdrawn J.text J.may_leave self.old self.new }
+        ensures cause { DoubtHasCause J.is_usable self.old self.new }
+        ensures before { self.new.last ≡ Last.Settled → IsSound J.text J.found J.may_leave self.old
+            → IsKept J.may_leave (said J.text self.old) self.new.journal }
         ensures fault { IfErr result IsOfJournal }
+        ensures its_own { IfErr result (IsItsOwn self.new.last) }
     {
         self.make_ready(true)?;
         let receipt = self.bare_receipt()?;
@@ -192,6 +198,7 @@ impl<K: CommitAt, J: Journal + Drop, C: Clock> Keeper<K, J, C> {
         ensures withdrawn { IsWithdrawn J.text J.may_leave self.old self.new }
         ensures cause { DoubtHasCause J.is_usable self.old self.new }
         ensures fault { IfErr result IsOfJournal }
+        ensures its_own { IfErr result (IsItsOwn self.new.last) }
     {
         self.settle()?;
         if !is_accepted {
@@ -217,6 +224,7 @@ impl<K: CommitAt, J: Journal + Drop, C: Clock> Keeper<K, J, C> {
         ensures withdrawn { IsWithdrawn J.text J.may_leave self.old self.new }
         ensures cause { DoubtHasCause J.is_usable self.old self.new }
         ensures fault { IfErr result IsOfJournal }
+        ensures its_own { IfErr result (IsItsOwn self.new.last) }
     {
         match self.last {
             Last::Settled => Ok(()),
@@ -243,6 +251,7 @@ impl<K: CommitAt, J: Journal + Drop, C: Clock> Keeper<K, J, C> {
         ensures withdrawn { IsWithdrawn J.text J.may_leave self.old self.new }
         ensures cause { DoubtHasCause J.is_usable self.old self.new }
         ensures fault { IfErr result IsOfJournal }
+        ensures its_own { IfErr result (IsItsOwn self.new.last) }
     {
         let Link { text, sum } = print_withdrawn(self.alloc, &self.at.sum, self.at.number)?;
         self.is_synced = false;

@@ -28,8 +28,8 @@ pub fn renew<K: CommitAt, J: Journal + Drop, C: Clock>(
     deed: Deed,
 ) -> (Result<(), DeskFault>, Desk<Keeper<K, J, C>>)
     requires { deed_reply desk.book.register (deed_of deed) ≡ done }
-    ensures renewed { RenewsAt K.kept K.has_place K.fails C.shows J.text J.found J.may_leave desk
-        result.1 (deed_of deed) result.0 }
+    ensures renewed { RenewsAt K.kept K.has_place K.fails C.shows J.text J.found J.may_leave
+        J.is_usable desk result.1 (deed_of deed) result.0 }
     ensures level { RenewalsKeepLevel K.kept K.has_place J.text desk result.1 }
     ensures safe { RenewalsKeepSafe K.kept K.has_place J.text J.may_leave desk result.1 }
 {

@@ -1,5 +1,6 @@
 //! The lines after a register's place are tried before anything of them is carried out.
-ghost use Rattle.std.specs.Prelude.{◌≡◌, ◌<◌, IfNone, IfOk, IfSome, [], length, map, option_map, true};
+ghost use Rattle.std.specs.Prelude.{◌≡◌, ◌<◌, IfNone, IfOk, IfSome, [], length, map, option_map};
+ghost use Rattle.std.specs.Prelude.{true};
 ghost use Rattle.serde_json.specs.View.{view};
 ghost use Rattle.clr_deeds.specs.Deeds.{after_deed, archive, command as of_command, deed_of};
 ghost use Rattle.clr_deeds.specs.Deeds.{update};
@@ -16,6 +17,7 @@ use clr_book::Book;
 use clr_changes::made_of;
 use clr_desk::{DeskBook, book_after, book_archived, copy_of};
 use clr_journal::{Carried, Changes, Deed, Line, is_accepted};
+use clr_own::answer;
 use clr_rules::{Command, Hold, Moment, PointState, Record, StepRow};
 use clr_shelf::Shelf;
 use clr_verify::{is_done, is_reply};
@@ -97,7 +99,7 @@ where
     ensures register { IsGood copy.old.register → IfOk result (λ same. same ≡ true
         → copy.new.register ≡ after_deed copy.old.register (of_command command.now)) }
 {
-    let decision = copy.answer(command)?;
+    let decision = answer(copy, command)?;
     let Decision { reply, change } = decision;
     if !is_reply(alloc, due, &reply)? {
         return Ok(false);
@@ -187,7 +189,7 @@ where
     ensures { IsGood book.now.register → IfOk result (DecidesReply (view due.now)
         (deed_reply book.now.register (of_command command.now))) }
 {
-    let decision = book.answer(command)?;
+    let decision = answer(book, command)?;
     is_reply(alloc, due, &decision.reply)
 }
 

@@ -1,5 +1,5 @@
 -- A register that lacks only closed records and their steps answers a command about any other clearance as the whole one does.
-use Rattle.std.proofs.Common.{◌≡◌, ◌∙◌, ℕ, Bool, true, false, ◌||◌, ◌&&◌, if◌then◌else◌, not, List, [], ◌∷◌, Option, Some, None, refl, sym, ap, subst, filter}
+use Rattle.std.proofs.Common.{◌≡◌, ◌∙◌, ℕ, Bool, true, false, ◌||◌, if◌then◌else◌, List, [], ◌∷◌, Option, Some, None, refl, sym, ap, subst, filter}
 use Rattle.std.proofs.lemmas.Map.Entries.{option_filter}
 use Rattle.clr_shelf.proofs.Groups.{row_of-filter}
 use Rattle.clr_shelf.proofs.KeyOrder.{in_key_order-filter}
@@ -22,7 +22,7 @@ use Rattle.clr_rules.specs.Fences.{clearance_fence, found_fence, found_order_fen
 use Rattle.clr_rules.specs.Good.{IsGood}
 use Rattle.clr_rules.specs.Holds.{is_near_hold}
 use Rattle.clr_rules.specs.Id.{Id, id_cmp, id_cmp_total, same_id}
-use Rattle.clr_rules.specs.Near.{Near, is_asked, near_of, near_part, part, switched_by, switched_in, switched_points}
+use Rattle.clr_rules.specs.Near.{Near, is_asked, near_of, near_part, part, switched_by, switched_points}
 use Rattle.clr_rules.specs.Records.{is_fenced, is_switch_order, record_key, record_of}
 use Rattle.clr_rules.specs.Register.{Register}
 use Rattle.clr_rules.specs.Run.{after}
@@ -32,19 +32,17 @@ use Rattle.clr_rules.specs.declared.change.Edit.TheVariants.{AddPoint, AddSectio
 use Rattle.clr_rules.specs.declared.command.Command.{Command}
 use Rattle.clr_rules.specs.declared.command.Kind.{Kind}
 use Rattle.clr_rules.specs.declared.command.Kind.TheVariants as kinds
-use Rattle.clr_rules.specs.declared.hold.Hold.{Hold}
 use Rattle.clr_rules.specs.declared.point_state.PointState.{PointState}
 use Rattle.clr_rules.specs.declared.record.Record.{Record}
 use Rattle.clr_rules.specs.declared.refusal.Refusal.{Refusal}
 use Rattle.clr_rules.specs.declared.step_row.StepRow.{StepRow}
 use Rattle.clr_rules.specs.laws.ClosedSteps.{NamesNoneOf}
-use Rattle.clr_rules.specs.laws.Near.{is_order}
 use Rattle.clr_rules.specs.laws.Own.{SameOwn}
 use Rattle.clr_net.specs.Grid.{Grid}
 use Rattle.clr_net.specs.Names.{has_name}
 use Rattle.clr_net.specs.declared.point.PointRow.{PointRow}
 use Rattle.clr_net.specs.declared.section.SectionRow.{SectionRow}
-use Rattle.clr_wayback.specs.Open.{LacksOnly, NamesAnother, bare}
+use Rattle.clr_wayback.specs.Open.{LacksOnly, NamesAnother, bare_register}
 
 -- ---- the rows of a clearance
 
@@ -212,7 +210,7 @@ module _ (gone : Id → Bool) (R S : Register) (lacks : LacksOnly gone R S) (q :
 
 -- ---- and after it
 
-bare_edited : (edit : Edit) (R : Register) → bare (after_edit edit R) ≡ bare (after_edit edit (bare R))
+bare_edited : (edit : Edit) (R : Register) → bare_register (after_edit edit R) ≡ bare_register (after_edit edit (bare_register R))
 bare_edited (SetPosition p position) R = refl
 bare_edited (SetHand p hand) R = refl
 bare_edited (PutHold h) R = refl
@@ -222,11 +220,11 @@ bare_edited (PutStep row) R = refl
 bare_edited (AddSection row) R = refl
 bare_edited (AddPoint p) R = refl
 
-bare_edited_all : (edits : List Edit) (R S : Register) → bare S ≡ bare R → bare (after_edits edits S) ≡ bare (after_edits edits R)
+bare_edited_all : (edits : List Edit) (R S : Register) → bare_register S ≡ bare_register R → bare_register (after_edits edits S) ≡ bare_register (after_edits edits R)
 unfolding after_edits
 bare_edited_all [] R S same = same
 bare_edited_all (edit ∷ edits) R S same =
-    bare_edited_all edits (after_edit edit R) (after_edit edit S) (bare_edited edit S ∙ ap (λ (T : Register). bare (after_edit edit T)) same ∙ sym (bare_edited edit R))
+    bare_edited_all edits (after_edit edit R) (after_edit edit S) (bare_edited edit S ∙ ap (λ (T : Register). bare_register (after_edit edit T)) same ∙ sym (bare_edited edit R))
 
 none_named : (gone : Id → Bool) (o : Option Id) → NamesAnother gone o → NamesNoneOf gone o
 none_named gone None names = tt

@@ -1,8 +1,8 @@
 -- The next commands of a way back are the same where only closed records and their steps are lacking, and each names a clearance that is not.
-use Rattle.std.proofs.Common.{◌≡◌, ◌∙◌, ◌+◌, ◌*◌, ◌&&◌, ℕ, Bool, true, false, if◌then◌else◌, length, not, List, [], ◌∷◌, Option, Some, None, refl, sym, ap, subst, find}
+use Rattle.std.proofs.Common.{◌≡◌, ◌∙◌, ◌+◌, ◌*◌, ◌&&◌, ℕ, Bool, true, false, if◌then◌else◌, length, not, List, [], ◌∷◌, Option, Some, None, refl, sym, ap, find}
 use Rattle.std.proofs.lemmas.List.Elements.{All-contains}
-use Rattle.clr_rules.proofs.Common.{and_parts, false≢true, false_from_ne_true, own_id, record_id, same_Some}
-use Rattle.clr_rules.proofs.near.OwnQuestions.{same_held_among, same_round}
+use Rattle.clr_rules.proofs.Common.{and_parts, false≢true, false_from_ne_true, own_id, record_id}
+use Rattle.clr_rules.proofs.near.OwnQuestions.{same_round}
 use Rattle.clr_rules.proofs.staffed.EveryKind.{some_found}
 use Rattle.clr_rules.specs.Checks.{is_field, is_operator}
 use Rattle.clr_rules.specs.Good.{is_active_at}
@@ -14,7 +14,6 @@ use Rattle.clr_rules.specs.States.{hand_of, has_in_hand, is_hand}
 use Rattle.clr_rules.specs.Staffed.{first_of_role}
 use Rattle.clr_rules.specs.Steps.{is_active, is_close, is_done, points_of, present_round, steps_in, steps_of}
 use Rattle.clr_rules.specs.WayBack.{ask, begun, cancelled, enough_turns, given_out, given_out_at, given_up, moves_in, moves_of, name_in, next_moves, one_of_role, reported_back, reported_undone, restored, stepped, undoing_steps}
-use Rattle.clr_rules.specs.declared.command.Command.{Command}
 use Rattle.clr_rules.specs.declared.command.Kind.{Kind}
 use Rattle.clr_rules.specs.declared.command.Kind.TheVariants as kinds
 use Rattle.clr_rules.specs.Command.{named_clearance}

@@ -9,9 +9,9 @@ use Rattle.std.proofs.lemmas.Bool.{and_parts}
 use Rattle.std.proofs.lemmas.Map.Entries.{option_filter}
 use Rattle.std.proofs.lemmas.List.Elements.{All-contains}
 use Rattle.clr_book.specs.Book.{open_in}
-use Rattle.clr_desk.proofs.Filled.{hands_are, hands_edited, now_is_network, one_list, opening_now, set_hands, unhanded}
+use Rattle.clr_desk.proofs.Filled.{hands_are, hands_edited, now_is_network, one_list, opening_now, set_hands}
 use Rattle.clr_desk.specs.Filling.{grid_now, hand_edit}
-use Rattle.clr_net.specs.Grid.{Grid, IsNetwork}
+use Rattle.clr_net.specs.Grid.{Grid}
 use Rattle.clr_net.specs.Network.{IsGridOf}
 use Rattle.clr_net.specs.declared.point.PointRow.{PointRow}
 use Rattle.clr_net.specs.declared.section.SectionRow.{SectionRow}
@@ -42,8 +42,8 @@ use Rattle.clr_staff.specs.Staff.{IsStaffOf}
 use Rattle.clr_staff.specs.declared.employee.StaffRow.{StaffRow}
 use Rattle.clr_tables.specs.RowsRead.{with_its_position}
 use Rattle.clr_wayback.proofs.Walking.{turns_end}
-use Rattle.clr_wayback.specs.Answer.{are_accepted, commands_or_no_way, of_record, tried, way_back_answer}
-use Rattle.clr_wayback.specs.Open.{LacksOnly, bare, is_over, over_in}
+use Rattle.clr_wayback.specs.Answer.{are_accepted, commands_or_no_way, tried, way_back_answer}
+use Rattle.clr_wayback.specs.Open.{LacksOnly, bare_register, is_over, over_in}
 use Rattle.clr_wayback.specs.declared.answer.WayBack.TheVariants.{Commands}
 
 is_one : (phase : Phase) → is_closed phase ≡ false → is_open phase ≡ true
@@ -145,11 +145,11 @@ module _ (R : Register) (good : IsGood R) where
       one_list (λ (row : StaffRow). row.name) R.staff staff (subst (λ (of : List StaffRow). IsPermutation of staff) is built.all_rows)
       good.said.staff.names_rise built.is_staff.names_rise
 
-  pub bare_is : after_edits (map hand_edit R.states) (opening (grid_now R) R.staff) ≡ record (bare R) { holds = [] }
+  pub bare_is : after_edits (map hand_edit R.states) (opening (grid_now R) R.staff) ≡ record (bare_register R) { holds = [] }
   bare_is =
       hands_edited R.states (opening (grid_now R) R.staff)
       ∙ ap (λ (T : Register). record T { states = set_hands R.states T.states }) (opening_now R good)
-      ∙ ap (λ (states : List PointState). record (bare R) { states = states; holds = [] }) (hands_are R.states good.said.in_order.states)
+      ∙ ap (λ (states : List PointState). record (bare_register R) { states = states; holds = [] }) (hands_are R.states good.said.in_order.states)
 
 -- ---- the answer of a closed record
 

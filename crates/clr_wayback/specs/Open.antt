@@ -13,8 +13,8 @@ use Rattle.clr_rules.specs.laws.ClosedSteps.{AreClosed}
 use Rattle.clr_rules.specs.laws.Own.{SameOwn}
 
 -- all of a register but its records and steps
-abbrev pub bare : Register → Register
-bare R = record R { records = []; steps = [] }
+abbrev pub bare_register : Register → Register
+bare_register R = record R { records = []; steps = [] }
 
 -- S LACKS OF A GOOD REGISTER R only records that are closed, and steps of these: of every other
 -- clearance it has the same
@@ -22,7 +22,7 @@ pub record LacksOnly (gone : Id → Bool) (R S : Register) : Type 0 where
   pub good : IsGood R
   pub closed : AreClosed gone R
   pub in_order : ListsAreInOrder S
-  pub rest : bare S ≡ bare R
+  pub rest : bare_register S ≡ bare_register R
   pub own : (c : Id) → gone c ≡ false → SameOwn c R S
 
 -- a command names a clearance that is not lacking

@@ -2,7 +2,7 @@
 ghost use Rattle.std.specs.Prelude.{◌≡◌, [], IfOk, map};
 ghost use Rattle.clr_desk.specs.Filling.{grid_now};
 ghost use Rattle.clr_rules.specs.Good.{IsGood};
-ghost use Rattle.clr_wayback.specs.Open.{LacksOnly, bare, over_in};
+ghost use Rattle.clr_wayback.specs.Open.{LacksOnly, bare_register, over_in};
 
 use clr_book::{Book, all_rows, filled, rows_in};
 use clr_desk::{copied, hand_edits, points_now};
@@ -56,7 +56,7 @@ where
     T: Shelf<StepRow>,
     H: Shelf<Hold>,
     ensures { IsGood book.now.register → IfOk result (λ made.
-        made.register ≡ record (bare book.now.register) { holds = [] }) }
+        made.register ≡ record (bare_register book.now.register) { holds = [] }) }
 {
     let (states, _, _, _) = book.shelves();
     let states = copied(alloc, states)?;

@@ -1,7 +1,7 @@
 //! A way back that is walked: its commands, each carried out before the next are found. The book is
 //! one of what is open: what a closed record would add to it is never looked at.
-ghost use Rattle.std.specs.Prelude.{◌≡◌, ◌*◌, ◌+◌, [], Bool, IfOk, None, OnOk, false, filter, length};
-ghost use Rattle.std.specs.Prelude.{true};
+ghost use Rattle.std.specs.Prelude.{◌≡◌, ◌*◌, ◌+◌, [], Bool, IfOk, None, OnOk, false, filter};
+ghost use Rattle.std.specs.Prelude.{length, true};
 ghost use Rattle.clr_rules.specs.Answer.{Answer, answer};
 ghost use Rattle.clr_rules.specs.Checks.{employee};
 ghost use Rattle.clr_rules.specs.Command.{named_clearance};

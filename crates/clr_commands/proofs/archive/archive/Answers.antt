@@ -1,9 +1,9 @@
 use Rattle.std.proofs.Common.{◌≡◌, refl, subst}
-use Rattle.clr_keeping.specs.Keeping.{IsUpWith}
+use Rattle.clr_keeping.specs.Keeping.{IsUpWith, plain_keeper}
 use Rattle.clr_keeping.specs.TakenUp.{logs}
-use Rattle.clr_keeping.proofs.Keeping.{not_worked}
+use Rattle.clr_keeping.proofs.Keeping.{not_worked_either}
 use Rattle.clr_edge.specs.Visit.{first_fault}
-use Rattle.clr_commands.specs.Archive.{ArchivesAlone}
+use Rattle.clr_commands.specs.Archive.{ArchivesAlone, ArchivesLogged}
 use Rattle.clr_commands.proofs.Archived.{archived_alone, archived_level, up_good}
 use Rattle.clr_commands.proofs.archive.archive.Goals as goal
 
@@ -41,7 +41,8 @@ returns-in-Logged g c =
           c.first_fault-in-Logged.result c.args.rt.now c.take_up.new.rt c.let_go-closed.new.rt c.in-Logged.desk c.archive_logged-archived.result.1
           (subst (λ opened. IsUpWith g.R.Tables.Store g.R.Databases.opens c.args.args.now.database.now by c.args.args.now.journal c.args.rt.now c.take_up.new.rt opened)
           c.in-Logged.is c.in_ok-opened.ensures.up)
-          c.moment_of-before.ensures c.archive_logged-archived.ensures.archived c.archive_logged-archived.ensures.level c.archive_logged-archived.ensures.sound
+          c.moment_of-before.ensures c.archive_logged-archived.ensures.archived c.archive_logged-archived.ensures.noted
+          (c.archive_logged-archived.ensures.level, c.archive_logged-archived.ensures.sound, c.archive_logged-archived.ensures.safe)
           c.let_go-closed.ensures.gone c.let_go-closed.ensures.fault c.first_fault-in-Logged.ensures;
     }
 
@@ -51,8 +52,9 @@ returns-in_err-opened g c =
     let output = g.W.CountedWrite.stream c.args.output.now in
     record {
       visit =
-          not_worked g.R.Tables.Store g.R.Databases.opens g.R.Databases.shuts (λ old path fault new. g.R.Databases.shuts old path fault new × (output ≡ output))
+          not_worked_either g.R.Tables.Store g.R.Databases.opens g.R.Databases.shuts (λ old path fault new. g.R.Databases.shuts old path fault new × (output ≡ output))
           g.R.Databases.ends c.args.args.now.database.now (output ≡ output) first_fault (logs g.R.Journals g.R.Log.Journal g.R.Time.Clock.shows)
-          (ArchivesAlone c.args.args.now.before output output) c.args.args.now.journal _ c.args.rt.now c.take_up.new.rt _
+          (ArchivesAlone c.args.args.now.before output output _ (plain_keeper g.R.Tables.Store))
+          (ArchivesLogged (logs g.R.Journals g.R.Log.Journal g.R.Time.Clock.shows) g.R.Tables.Store c.args.args.now.before output output) c.args.args.now.journal _ c.args.rt.now c.take_up.new.rt _
           c.from_residual.ensures.1 (λ closed. refl) refl (λ shut. (shut, refl)) c.in_err-opened.ensures.none;
     }

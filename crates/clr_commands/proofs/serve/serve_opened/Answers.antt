@@ -5,4 +5,4 @@ use Rattle.clr_commands.proofs.serve.serve_opened.Goals as goal
 pub returns-in-Logged-clause-level : goal.returns-in-Logged-clause-level
 returns-in-Logged-clause-level g c =
     rw c.in-Logged.is (level_stays g.K.Commit.takes g.K.Commit.kept g.K.CommitAt.has_place g.C.Clock.shows g.J.Journal c.level_is_kept.ensures.kept
-    c.level_is_kept.ensures.sound _ _ _ c.serve_asked-in-Logged.ensures.led)
+    c.level_is_kept.ensures.sound c.restarts_keep_level.ensures.safe _ _ _ c.serve_asked-in-Logged.ensures.led)

@@ -18,5 +18,5 @@ returns-clause-updated g c =
     let R = c.args.desk.book.register in
     let u = as_update c.args.update in
     subst (λ (it : Texts). IsUpdated (state g.S.Store) R u it c.args.desk.store c.update-report.result.1) (sym c.text_of.ensures)
-    (updated_by g.S.Store R u c.args.desk.store c.update-report.result.1 c.update-report.result.0 c.is_read.ensures c.updates_keep_good.ensures.good
+    (updated_by g.S.Store R u c.args.desk.store c.update-report.result.1 c.update-report.result.0 c.requires c.is_read.ensures c.updates_keep_good.ensures.good
     c.update-report.ensures.report c.update-report.ensures.updated c.update-report.ensures.saved c.update-report.ensures.none c.update-report.ensures.crash)

@@ -20,7 +20,7 @@ returns-clause-placed g c = inr (record {
   begins = c.in-Ok.ensures.begins_journal;
   gone = c.let_journal_go.ensures;
   line = c.in-Ok.ensures.new;
-  told = c.place_in-placed.result.0;
+  outcome = c.place_in-placed.result.0;
   did = (refl, rw (← c.end-2.ensures) c.place_in-placed.ensures.placed);
   result_is = c.begun_or.ensures;
 })

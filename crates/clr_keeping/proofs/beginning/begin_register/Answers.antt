@@ -13,7 +13,7 @@ returns-clause-begun g c = inr (record {
   begins = c.in_ok-log.ensures.begins_journal;
   gone = c.let_journal_go.ensures;
   line = c.in_ok-log.ensures.new;
-  told = c.store_register_at-made.result;
+  outcome = c.store_register_at-made.result;
   did = c.store_register_at-made.ensures.visit;
   result_is = c.begun_or.ensures;
 })

@@ -16,7 +16,7 @@ returns-clause-visit g c = inr (record {
   does = (
     refl,
     record {
-      told = c.register_made_at-made.result.0;
+      outcome = c.register_made_at-made.result.0;
       made = c.register_made_at-made.ensures.made;
       unmade = c.register_made_at-made.ensures.unmade;
       fault = c.register_made_at-made.ensures.fault;

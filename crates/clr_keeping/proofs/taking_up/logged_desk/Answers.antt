@@ -19,6 +19,7 @@ returns-in-Ok-clause-up g c =
       opened = subst (λ (m : _). g.R.Databases.opens c.args.rt.now c.args.path.now up.before m) (sym up.taken_up.0) up.opened;
       mode = up.mode;
       good = given.kept.good up.good;
+      staffed = (given.fit (up.good, up.staffed)).1;
       uncounted = c.in-Ok.ensures.faults;
       taken_up = takes_up g.R.Tables.Store up.before was.store was.book.register up.taken_up.1
           (logs g.R.Journals g.R.Log.Journal g.R.Time.Clock.shows) c.args.journal.now c.open_desk.new.rt c.logged.new.rt now.store now.book.register given;

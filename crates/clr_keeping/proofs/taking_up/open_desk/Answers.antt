@@ -13,6 +13,7 @@ returns-in-Ok-clause-up g c = record {
   opened = c.in_ok-connection.ensures.opens;
   mode = c.in_ok-connection.ensures.mode;
   good = c.in-Ok.ensures.good;
+  staffed = c.in-Ok.ensures.staffed;
   uncounted = c.in-Ok.ensures.faults;
   taken_up = (
     refl,

@@ -2,6 +2,7 @@ use Rattle.std.proofs.Common.{◌≡◌, ◌∙◌, ap, inr, subst, sym}
 use Rattle.sqlite.specs.Held.{Held, state}
 use Rattle.sqlite.specs.State.{Survives}
 use Rattle.clr_book.specs.Book.{Shelved}
+use Rattle.clr_rules.specs.Fit.{IsFit}
 use Rattle.clr_desk.specs.Kept.{Keeps}
 use Rattle.clr_desk.specs.Taking.{HearsNothing, PassesOver}
 use Rattle.clr_desk.specs.declared.desk.Desk.{Desk}
@@ -9,6 +10,7 @@ use Rattle.clr_level.specs.Crash.{AreRolled}
 use Rattle.clr_level.specs.Forward.{CanBeOpened, StopsAt}
 use Rattle.clr_level.specs.Journaling.{HasText}
 use Rattle.clr_level.proofs.Rolling.{rolls_keep}
+use Rattle.clr_level.proofs.Staffing.{rolls_fit}
 use Rattle.clr_keeping.specs.TakenUp.{entries_of, store_place}
 use Rattle.clr_keeping.proofs.taking_up.taken_up.Goals as goal
 
@@ -21,6 +23,13 @@ returns-in-Ok-clause-kept g c =
     let keeps = rolls_keep (λ h. state g.S.Store h) PassesOver HearsNothing store_place c.args.desk led.before led.led in
     subst (λ (b : Shelved). Keeps old R (state g.S.Store c.in-Ok.desk.store.keeper) b.register) (sym led.book)
     (subst (λ h. Keeps old R (state g.S.Store h) led.before.book.register) (sym led.keeper) keeps)
+
+-- it stays fit
+pub returns-in-Ok-clause-fit : goal.returns-in-Ok-clause-fit
+returns-in-Ok-clause-fit g c fit =
+    let led = c.in-Ok.ensures.led in
+    subst (λ (b : Shelved). IsFit b.register) (sym led.book)
+    (rolls_fit (λ h. state g.S.Store h) PassesOver HearsNothing store_place c.args.desk led.before led.led fit)
 
 -- and the place is after it
 pub returns-in-Ok-clause-rolled : goal.returns-in-Ok-clause-rolled

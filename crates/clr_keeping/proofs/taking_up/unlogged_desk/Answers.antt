@@ -1,6 +1,7 @@
 use Rattle.std.proofs.Common.{◌≡◌, ◌∙◌, inr, subst, sym}
 use Rattle.clr_book.specs.Book.{Shelved}
 use Rattle.clr_rules.specs.Good.{IsGood}
+use Rattle.clr_rules.specs.Staffed.{IsStaffed}
 use Rattle.clr_keeping.specs.Keeping.{IsNotUp, IsReadFrom, unlogged}
 use Rattle.clr_keeping.specs.TakenUp.{IsOfTakingUp}
 use Rattle.clr_edge.proofs.Databases.{IfErr-passed}
@@ -21,6 +22,7 @@ returns-in-Ok-clause-up g c =
       opened = up.opened;
       mode = up.mode;
       good = subst (λ (b : Shelved). IsGood b.register) (sym c.in-Ok.ensures.book) up.good;
+      staffed = subst (λ (b : Shelved). IsStaffed b.register) (sym c.in-Ok.ensures.book) up.staffed;
       uncounted = c.in-Ok.ensures.faults;
       taken_up = (
         up.taken_up.0,

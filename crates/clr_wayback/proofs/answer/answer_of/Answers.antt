@@ -1,7 +1,6 @@
-use Rattle.std.proofs.Common.{◌≡◌, ◌∙◌, Some, ap, false, rules, sym}
+use Rattle.std.proofs.Common.{◌≡◌, ◌∙◌, Some, ap, rules, sym}
 use Rattle.clr_rules.specs.Records.{record_of}
-use Rattle.clr_wayback.proofs.OpenPart.{open_is_walked, over_is_done}
-use Rattle.clr_wayback.specs.Open.{is_over, over_in}
+use Rattle.clr_wayback.proofs.OpenPart.{over_is_done}
 use Rattle.clr_wayback.specs.declared.answer.WayBack.TheVariants.{Commands}
 use Rattle.clr_wayback.proofs.answer.answer_of.Goals as goal
 

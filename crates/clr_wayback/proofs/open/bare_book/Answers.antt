@@ -1,10 +1,8 @@
-use Rattle.std.proofs.Common.{◌≡◌, ◌∙◌, List, ap, map, rules}
+use Rattle.std.proofs.Common.{◌≡◌, ◌∙◌, ap, map, rules}
 use Rattle.clr_desk.proofs.Filling.{hands_taken}
 use Rattle.clr_desk.specs.Filling.{grid_now, hand_edit}
 use Rattle.clr_rules.specs.Edits.{after_edits, fit}
 use Rattle.clr_rules.specs.Register.{opening}
-use Rattle.clr_rules.specs.declared.change.Edit.{Edit}
-use Rattle.clr_rules.specs.declared.point_state.PointState.{PointState}
 use Rattle.clr_wayback.proofs.OpenPart.{bare_is}
 use Rattle.clr_wayback.proofs.open.bare_book.Goals as goal
 

@@ -1,8 +1,8 @@
-use Rattle.std.proofs.Common.{◌≡◌, ◌∙◌, Bor, List, [], ap, filter, map, subst, sym, true}
+use Rattle.std.proofs.Common.{◌≡◌, ◌∙◌, Bor, [], ap, filter, map, subst, sym, true}
 use Rattle.std.specs.List.Sorted.{IsStrictlySortedBy}
 use Rattle.clr_book.specs.Book.{open_in}
 use Rattle.clr_net.proofs.ListFacts.{map-map}
-use Rattle.clr_rules.specs.Id.{Id, id_cmp, id_cmp_total}
+use Rattle.clr_rules.specs.Id.{id_cmp, id_cmp_total}
 use Rattle.clr_rules.specs.Records.{is_open, record_key}
 use Rattle.clr_rules.specs.Register.{Register}
 use Rattle.clr_rules.specs.StepKey.{step_key, step_key_cmp, step_key_cmp_total}
@@ -12,7 +12,7 @@ use Rattle.clr_rules.specs.declared.step_row.StepRow.{StepRow}
 use Rattle.clr_shelf.proofs.KeyOrder.{in_key_order-filter}
 use Rattle.clr_shelf.specs.Rows.{in_key_order}
 use Rattle.clr_wayback.proofs.OpenPart.{is_of, keys_rise, lacks_closed, open_ids}
-use Rattle.clr_wayback.specs.Open.{bare}
+use Rattle.clr_wayback.specs.Open.{bare_register}
 use Rattle.clr_wayback.proofs.open.open_part.Goals as goal
 
 pub rows_in-requires : goal.rows_in-requires
@@ -61,6 +61,6 @@ returns g c good =
     c.in_ok-steps-2.ensures ∙ ap (map shown) c.deref-4.ensures.value ∙ c.in_ok-steps.ensures ∙ (λ i. filter (is_of (ids i)) (all_steps i)) in
     let holds : g.H.Shelf.rows c.in_ok-holds-2.holds ≡ R.holds =
     c.in_ok-holds-2.ensures ∙ ap (map (λ (h : Bor Hold). h.now)) c.deref-5.ensures.value ∙ c.in_ok-holds.ensures ∙ all_holds in
-    let made : c.in_ok-bare_book.field-0.register ≡ record (bare R) { holds = [] } = c.in_ok-bare_book.ensures good in
+    let made : c.in_ok-bare_book.field-0.register ≡ record (bare_register R) { holds = [] } = c.in_ok-bare_book.ensures good in
     lacks_closed R good c.in_ok-part.part.register
     (c.in_ok-part.ensures.register ∙ (λ i. record (made i) { records = records i; steps = steps i; holds = holds i }))

@@ -1,9 +1,7 @@
-use Rattle.std.proofs.Common.{◌≡◌, ◌∙◌, Bool, List, ap, rules, subst, sym}
+use Rattle.std.proofs.Common.{◌≡◌, ◌∙◌, ap, rules, subst, sym}
 use Rattle.clr_answer.specs.Decision.{answer_of_decision}
 use Rattle.clr_rules.specs.Answer.{Answer, answer}
 use Rattle.clr_rules.specs.Edits.{after_edits}
-use Rattle.clr_rules.specs.Register.{Register}
-use Rattle.clr_rules.specs.declared.change.Edit.{Edit}
 use Rattle.clr_rules.specs.laws.WayBack.{is_accepted}
 use Rattle.clr_wayback.proofs.Lacking.{answered_alike, lacks_after}
 use Rattle.clr_wayback.specs.Open.{LacksOnly}

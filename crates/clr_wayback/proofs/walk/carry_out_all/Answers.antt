@@ -1,9 +1,6 @@
-use Rattle.std.proofs.Common.{◌≡◌, ◌∙◌, ◌+◌, ◌∷◌, Bool, true, false, List, [], ap, sym, drop, refl, rules, subst}
+use Rattle.std.proofs.Common.{◌≡◌, ◌∙◌, ◌+◌, ◌∷◌, true, false, [], sym, drop, refl, rules, subst}
 use Rattle.std.proofs.lemmas.List.{drop_all}
 use Rattle.clr_answer.proofs.RowLoops.{drop_step}
-use Rattle.clr_rules.specs.Answer.{Answer, answer}
-use Rattle.clr_rules.specs.declared.command.Command.{Command}
-use Rattle.clr_rules.specs.laws.WayBack.{is_accepted}
 use Rattle.clr_wayback.proofs.Walking.{Left, all_are_left, first_is_refused, first_named, none_is_left, rest_is_left}
 use Rattle.clr_wayback.proofs.walk.carry_out_all.Goals as goal
 
