@@ -15,7 +15,7 @@ use Rattle.clr_archive.proofs.Kept.{closed_not_open}
 use Rattle.clr_archive.specs.Acts.{ShowsNoneOf, is_show}
 use Rattle.clr_rules.specs.declared.refusal.Refusal.{Refusal}
 use Rattle.clr_rules.specs.declared.reply.Reply.TheVariants.{Refused}
-use Rattle.clr_rules.specs.declared.command.Kind.TheVariants.{Order, Instruct, Repeat, Report, Grant, Test, Ground, Unground, SignOn, SignOff, Transfer, Release, Cancel, Restore, Amend, Show, Request, Switch, Jumper}
+use Rattle.clr_rules.specs.declared.command.Kind.TheVariants.{Order, Instruct, Repeat, Report, Grant, Transfer, Cancel, Restore, Amend, Show, Request, Switch, Jumper}
 
 -- a command names a record that is Closed
 abbrev NamesClosed : Register → Option Id → Type 0
@@ -53,7 +53,7 @@ module _ (R : Register) (gone : Id → Bool) (by : List ℕ) (at : ℕ) where
       let (s, found, fits, _) = holder_begun R c phases (all_pass (by_holder R by at c roles phases []) pass) in
       absurd (unfit c phases none closed s found fits))
 
-  -- so the first is the same without steps
+  -- so the first is the same without steps. Most commands are the holder's while the record is Granted
   same_first : (k h : Known) (kind : Kind) → is_show kind ≡ false → NamesClosed R (named_clearance kind)
       → first_refusal (checks k R by at kind) ≡ first_refusal (checks h (without_steps_of gone R) by at kind)
   same_first k h (Request section) shown closed = absurd closed
@@ -67,14 +67,9 @@ module _ (R : Register) (gone : Id → Bool) (by : List ℕ) (at : ℕ) where
   same_first k h (Grant c) shown closed = role_stops c closed is_operator is_ordered refl _ _
   same_first k h (Restore c tasks) shown closed = role_stops c closed is_operator is_released refl _ _
   same_first k h (Amend c n) shown closed = role_stops c closed is_operator is_restoring refl _ _
-  same_first k h (Test c section dead) shown closed = holder_stops c closed is_charge is_granted refl _ _
-  same_first k h (Ground c section) shown closed = holder_stops c closed is_charge is_granted refl _ _
-  same_first k h (Unground c section) shown closed = holder_stops c closed is_charge is_granted refl _ _
-  same_first k h (SignOn c crew) shown closed = holder_stops c closed is_charge is_granted refl _ _
-  same_first k h (SignOff c crew) shown closed = holder_stops c closed is_charge is_granted refl _ _
-  same_first k h (Release c notified clear) shown closed = holder_stops c closed is_charge is_granted refl _ _
   same_first k h (Cancel c) shown closed = holder_stops c closed is_charge_or_operator is_cancellable refl _ _
   same_first k h (Transfer c to emergency) shown closed = refl
+  same_first k h _ shown closed = holder_stops _ closed is_charge is_granted refl _ _
 
 -- ---- a command that names a Closed record is refused, with its steps and without them
 

@@ -5,7 +5,7 @@ use Rattle.serde_json.specs.Data.{Data}
 use Rattle.clr_deeds.specs.Deeds.{Deed, after_deed, after_deeds}
 use Rattle.clr_rules.specs.Register.{Register}
 use Rattle.clr_journal.specs.Answered.{deed_replies, deed_reply}
-use Rattle.clr_journal.proofs.JournalsRead.{commands_grow, lines_grow}
+use Rattle.clr_journal.proofs.JournalsRead.{deeds_grow, lines_grow}
 use Rattle.clr_journal.specs.Journals.{carried_out, in_turn, onto_some, own_pair, withdraws}
 use Rattle.clr_journal.specs.Line.{Entry, carried, withdrawn, is_accepted}
 use Rattle.clr_chain.specs.First.{first_turn_at}
@@ -131,7 +131,7 @@ steps_keep first R start place entries level idle rest receipt q is none accepte
     let entry : Entry = line_at R receipt q in
     let idle_kept : withdraws idle ≡ false = front_kept idle (entry ∷ rest) (subst (λ more. withdraws more ≡ false) is level.kept) in
     let pairs : carried_out ((level.had ++ idle) ++ entry ∷ []) ≡ carried_out level.had ++ (q, reply) ∷ [] =
-    commands_grow (level.had ++ idle) receipt q reply
+    deeds_grow (level.had ++ idle) receipt q reply
     ∙ ap₂ (λ xs ys. xs ++ ys) (nothing_more level.had idle idle_kept none) (accepted_one (is_accepted reply) (q, reply) accepted) in
     record {
       had = (level.had ++ idle) ++ entry ∷ [];

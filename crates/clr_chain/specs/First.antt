@@ -13,12 +13,12 @@ use Rattle.clr_text.specs.Values.{whole}
 use Rattle.clr_journal.specs.Line.{at_key}
 use Rattle.clr_journal.specs.declared.reading.Turn.{Turn}
 use Rattle.clr_chain.specs.declared.chain_end.ChainEnd.{ChainEnd}
+use Rattle.clr_chain.specs.declared.first.TheConstants.{RULES}
 use Rattle.clr_place.specs.declared.place.Place.{Place}
 
--- THE RULES that the program goes by. The number changes with each change of a reply to a command,
--- and of what an update's or an archive's line does
+-- THE RULES that the program goes by: the number that `src/first.rt` has
 abbrev pub rules : ℕ
-rules = 1
+rules = RULES
 
 abbrev pub first_data_by : ℕ → Place → Data
 first_data_by number place =

@@ -52,7 +52,7 @@ pub struct Ahead {
 
 impl Ahead {
     /// The deeds to carry out: those that were accepted and not withdrawn, in order.
-    pub fn commands<'a>(&'a self, alloc: Global) -> Result<Vec<&'a Carried>, AllocError>
+    pub fn deeds<'a>(&'a self, alloc: Global) -> Result<Vec<&'a Carried>, AllocError>
         ensures { IfOk result (λ found.
             map (λ one. (deed_of one.now.deed, view one.now.reply)) found.items
             ≡ carried_out (map entry_of self.now.lines.items)) }

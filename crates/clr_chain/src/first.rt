@@ -17,7 +17,7 @@ use std::alloc::{AllocError, Global};
 
 /// The rules that the program goes by. The number changes with each change of a reply to a command,
 /// and of what an update's or an archive's line does.
-const RULES: u64 = 1;
+pub const RULES: u64 = 1;
 
 /// How many bytes the first line has at most, with its line feed.
 pub(crate) const FRONT: usize = 4096;

@@ -27,7 +27,7 @@ pub use clock::Clock;
 pub use clr_place::Place;
 pub use fault::{ChainFault, NewFault};
 pub use finding::{Ahead, Found, found_in};
-pub use first::{other_rules_in, print_first, read_first};
+pub use first::{RULES, other_rules_in, print_first, read_first};
 pub use looking::{Looked, look};
 pub use opening::{OpenedChain, open_chain};
 pub use print::{Link, print_archived, print_carried, print_updated, print_withdrawn};

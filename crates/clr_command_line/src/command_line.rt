@@ -40,9 +40,9 @@ use std::convert::AsStr;
 use std::io;
 
 /// Does what the words ask, of which the first is the program's name, on a machine and the files at
-/// paths. The answer, and help that is asked for, go to `output`; a fault, why words do not parse, and
-/// why there are none, to `errors`. Returns the exit status: 0; 1 after a fault; 2 for words that do
-/// not parse.
+/// paths. The answer, and help that is asked for, go to `output`; a fault, why words do not parse,
+/// and why there are none, to `errors`. Returns the exit status: 0; 1 after a fault; 2 for words
+/// that do not parse.
 pub fn command_line<'a, R, O, S, I, W, E>(
     rt: &mut R,
     paths: &O,

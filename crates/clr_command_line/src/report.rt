@@ -8,8 +8,8 @@ use clr_edge::line::line_of;
 use clr_edge::output::write_out;
 use clr_stream::CountedFlush;
 
-/// Writes an answer to `output`, or a fault to `errors`, and returns the exit status: 0, or 1 after a
-/// fault. What cannot be written to `errors` is lost.
+/// Writes an answer to `output`, or a fault to `errors`, and returns the exit status: 0, or 1 after
+/// a fault. What cannot be written to `errors` is lost.
 pub fn report<W: CountedFlush, E: CountedFlush>(
     answer: Result<String, Fault>,
     output: &mut W,

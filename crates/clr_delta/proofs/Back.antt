@@ -18,13 +18,13 @@ use Rattle.clr_staff.specs.declared.employee.Role.{Role}
 use Rattle.clr_staff.specs.declared.employee.Role.TheVariants.{Charge, Field, Operator}
 use Rattle.clr_staff.specs.declared.employee.StaffRow.{StaffRow}
 use Rattle.clr_text.specs.CommandLaws.{is_before, is_plain, items_are_plain, members_are_plain}
-use Rattle.clr_text.specs.Json.{list_data, name_data, optional_data, position_text}
+use Rattle.clr_text.specs.Json.{list_data, name_data, optional_data, position_text, role_text}
 use Rattle.clr_text.specs.Values.{all_read, name_in}
 use Rattle.clr_update.specs.Changes.{Changes}
 use Rattle.clr_delta.specs.Delta.{both_data, can_be_said, changes_data, changes_in, list_in}
 use Rattle.clr_delta.specs.Laws.{ChangesReadBack, ChangeValuesArePlain}
 use Rattle.clr_delta.specs.Rows.{employee_data, employee_in, gone_data, gone_in, is_name_or_none, is_open, is_said_employee, is_said_gone, is_said_point, is_said_section, point_data, point_in}
-use Rattle.clr_delta.specs.Rows.{position_in, role_in, role_text, section_data, section_in, supervisor_in}
+use Rattle.clr_delta.specs.Rows.{position_in, role_in, section_data, section_in, supervisor_in}
 
 -- ---- columns
 

@@ -13,15 +13,10 @@ use Rattle.clr_net.specs.declared.section.SectionRow.{SectionRow}
 use Rattle.clr_staff.specs.declared.employee.Role.{Role}
 use Rattle.clr_staff.specs.declared.employee.Role.TheVariants.{Charge, Field, Operator}
 use Rattle.clr_staff.specs.declared.employee.StaffRow.{StaffRow}
-use Rattle.clr_text.specs.Json.{name_data, optional_data, position_text}
+use Rattle.clr_text.specs.Json.{name_data, optional_data, position_text, role_text}
 use Rattle.clr_text.specs.Values.{name_in}
 
 -- ---- writing
-
-abbrev pub role_text : Role → List ℕ
-role_text Operator = codes "operator"
-role_text Field = codes "field"
-role_text Charge = codes "charge"
 
 abbrev pub section_data : SectionRow → Data
 section_data row =

@@ -5,15 +5,16 @@ ghost use Rattle.serde_json.specs.View.{view};
 ghost use Rattle.clr_delta.specs.Rows.{at_key, employee_data, employee_in, gone_data, gone_in};
 ghost use Rattle.clr_delta.specs.Rows.{is_said_employee, is_said_point, is_said_section};
 ghost use Rattle.clr_delta.specs.Rows.{point_data, point_in, position_in, position_named, role_in};
-ghost use Rattle.clr_delta.specs.Rows.{role_named, role_text, section_data, section_in};
+ghost use Rattle.clr_delta.specs.Rows.{role_named, section_data, section_in};
 ghost use Rattle.clr_delta.specs.Rows.{supervisor_in};
 ghost use Rattle.clr_net.specs.Name.{is_name};
-ghost use Rattle.clr_text.specs.Json.{name_data, optional_data, position_text};
+ghost use Rattle.clr_text.specs.Json.{name_data, optional_data};
 ghost use Rattle.clr_text.specs.Values.{name_in};
 
 use crate::form::Form;
 use clr_net::{Name, PointRow, Position, SectionRow};
 use clr_staff::{Role, StaffRow};
+use clr_text::{position_text, role_text};
 use serde_json::{Value, json};
 use std::alloc::{AllocError, Global};
 
@@ -250,16 +251,6 @@ fn position_named(text: &str) -> Option<Position>
     }
 }
 
-/// The position of a point as a text.
-fn position_text(position: Position) -> &'static str
-    ensures { result.now ≡ position_text position }
-{
-    match position {
-        Position::Opened => "open",
-        Position::Closed => "closed",
-    }
-}
-
 /// The role at `role`.
 fn role_at(value: &Value) -> Option<Role>
     ensures { result ≡ at_key role_in (codes "role")
@@ -280,17 +271,6 @@ fn role_named(text: &str) -> Option<Role>
         "field" => Some(Role::Field),
         "charge" => Some(Role::Charge),
         _ => None,
-    }
-}
-
-/// A role as a text.
-fn role_text(role: Role) -> &'static str
-    ensures { result.now ≡ role_text role }
-{
-    match role {
-        Role::Operator => "operator",
-        Role::Field => "field",
-        Role::Charge => "charge",
     }
 }
 

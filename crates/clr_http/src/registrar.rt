@@ -36,8 +36,8 @@ pub trait Registrar {
     /// Whether it is not known if the change of the last command was kept.
     ghost doubts: { Self → Bool };
 
-    /// Whether it is not known if the change of the last command was kept: only opening the register
-    /// again decides that.
+    /// Whether it is not known if the change of the last command was kept: only opening the
+    /// register again decides that.
     fn is_in_doubt(&self) -> bool
         ensures { result ≡ doubts self.now };
 

@@ -1,6 +1,6 @@
 //! The request: what its head and the bytes after it ask for.
-ghost use Rattle.std.specs.Prelude.{◌≡◌, ◌≢◌, ◌≤◌, ◌<◌, ◌+◌, ℕ, All, List, [], Option, Some, None, Ok};
-ghost use Rattle.std.specs.Prelude.{Err, IfOk, IfErr, IfSome, drop, length, map, take};
+ghost use Rattle.std.specs.Prelude.{◌≡◌, ◌≢◌, ◌≤◌, ◌<◌, ◌+◌, ℕ, All, List, [], Option, Some, None};
+ghost use Rattle.std.specs.Prelude.{Ok, Err, IfOk, IfErr, IfSome, drop, length, map, take};
 ghost use Rattle.std.specs.Prelude.{◌&&◌, true, false, vec_len};
 ghost use Rattle.std.specs.Str.{IsUtf8};
 ghost use Rattle.std.specs.Io.KnownBytes.{Consumes, IsAtEnd};

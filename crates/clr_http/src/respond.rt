@@ -62,8 +62,8 @@ fn body_response<D: Registrar>(
     body: &[u8],
 ) -> Result<Response, AllocError>
     ensures turn { let s = speaker.now in IsGood (D.keeper desk.old).register → IsTurned
-        (checked_outcome s.logins.now s.login (D.keeper desk.old).register asked_for.Command body.now)
-        (D.keeper desk.old) (D.keeper desk.new) result }
+        (checked_outcome s.logins.now s.login (D.keeper desk.old).register asked_for.Command
+        body.now) (D.keeper desk.old) (D.keeper desk.new) result }
     ensures accounts { AccountsFor (D.keeper desk.old) (D.keeper desk.new) result }
     ensures put { PutsSpoken D.hears D.takes speaker.now
         (target_asks asked_for.Command body.now) (IsErr result) desk.old desk.new }

@@ -75,8 +75,8 @@ impl From<ReadFault> for HttpFault {
     }
 }
 
-/// Serves one connection at the plain service: reads its request, answers it at the desk, and writes
-/// the response, which is whole before its first byte goes out.
+/// Serves one connection at the plain service: reads its request, answers it at the desk, and
+/// writes the response, which is whole before its first byte goes out.
 ///
 /// A command that the desk accepted stays carried out where its response cannot be made or written.
 /// What comes after the request is not looked at.
@@ -106,10 +106,9 @@ pub fn serve_one<D: Registrar, R: CountedRead, W: CountedWrite>(
 
 /// Serves one connection at a service, as `serve_one` does at the plain one.
 ///
-/// With `desk` a request that a page of elsewhere may have sent is refused, and the network and ways
-/// back are shown.
-/// With `logins` a command or a view is refused in a name that the login of the request may not use.
-/// A request that is refused does not come to the desk.
+/// With `desk` a request that a page of elsewhere may have sent is refused, and the network and
+/// ways back are shown. With `logins` a command or a view is refused in a name that the login of
+/// the request may not use. A request that is refused does not come to the desk.
 pub fn serve_request<D: Registrar, R: CountedRead, W: CountedWrite>(
     alloc: Global,
     service: &Service,

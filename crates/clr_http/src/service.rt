@@ -27,8 +27,8 @@ pub fn inputs_are_answered_once()
     ensures { AnsweredOnce }
 {}
 
-/// A body that is posted to `/command` asks the command that it reads as: a law, so that what is said
-/// of requests that ask commands is said of some.
+/// A body that is posted to `/command` asks the command that it reads as: a law, so that what is
+/// said of requests that ask commands is said of some.
 pub fn posted_bodies_ask()
     ensures { PostedBodiesAsk }
 {}
@@ -69,8 +69,8 @@ pub fn headline_holds_of_requests()
 
 /// Serves requests that lie in memory, each as a connection of its own, one after the other. Gives
 /// the bytes that go out to each, which are a run of the commands that were carried out. Where the
-/// desk counts no fault they are what the definitions answer, from its register on, and it keeps the
-/// register that they leave.
+/// desk counts no fault they are what the definitions answer, from its register on, and it keeps
+/// the register that they leave.
 pub fn serve_all<D: Registrar>(
     alloc: Global,
     desk: &mut D,

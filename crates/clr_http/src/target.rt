@@ -46,8 +46,8 @@ pub(crate) struct OrderRequest {
     pub round: u8,
 }
 
-/// What a target asks for. A view, an order or a way back is `None` where a name, a number or the round
-/// in the path does not read.
+/// What a target asks for. A view, an order or a way back is `None` where a name, a number or the
+/// round in the path does not read.
 #[derive(Clone, Copy)]
 pub(crate) enum Target {
     Command,

@@ -9,7 +9,7 @@ use Rattle.clr_result.specs.Results.{◌>>=◌}
 use Rattle.clr_deeds.specs.Deeds.{Deed}
 use Rattle.clr_text.proofs.PlainTexts.{one_line}
 use Rattle.clr_journal.specs.Journals.{bad_line, carried_out, first_turn, if_next, in_turn, is_next, journal_text, lines_read, next_line, next_place, onto_some, own_pair, turn_after, withdraws}
-use Rattle.clr_journal.specs.Laws.{CommandsGrow, JournalsReadBack, LinesAreOneLine, LinesGrow, ReadBack, WithdrawnIsLeftOut, turn_behind}
+use Rattle.clr_journal.specs.Laws.{DeedsGrow, JournalsReadBack, LinesAreOneLine, LinesGrow, ReadBack, WithdrawnIsLeftOut, turn_behind}
 use Rattle.clr_journal.specs.Line.{Entry, carried, withdrawn, entry_data, is_accepted, line_text, read_line}
 use Rattle.clr_journal.specs.declared.reading.Turn.{Turn}
 
@@ -65,7 +65,7 @@ grown_text (one ∷ rest) entry =
 pub lines_grow : LinesGrow
 lines_grow turn entries entry turns next = (grown_turn turn entries entry turns next, grown_text entries entry)
 
--- ---- a command more
+-- ---- a deed more
 
 onto_pairs : (o : Option (Deed × Data)) (rest more : List (Deed × Data)) → onto_some o (rest ++ more) ≡ onto_some o rest ++ more
 onto_pairs None rest more = refl
@@ -83,24 +83,24 @@ own_same (withdrawn n) rest entry more h = refl
 own_same (carried receipt q reply) rest entry more h =
     ap (λ (b : Bool). cond (is_accepted reply && not b) (Some (q, reply)) None) (same_withdraws rest entry more h)
 
--- lines that begin with a command are carried out after those before them
-before_command : (entries : List Entry) (entry : Entry) (more : List Entry) → withdraws (entry ∷ []) ≡ false
+-- lines that begin with a deed are carried out after those before them
+before_deed : (entries : List Entry) (entry : Entry) (more : List Entry) → withdraws (entry ∷ []) ≡ false
     → carried_out (entries ++ entry ∷ more) ≡ carried_out entries ++ carried_out (entry ∷ more)
 unfolding carried_out
-before_command [] entry more h = refl
-before_command (one ∷ rest) entry more h =
+before_deed [] entry more h = refl
+before_deed (one ∷ rest) entry more h =
     ap (λ (o : Option (Deed × Data)). onto_some o (carried_out (rest ++ entry ∷ more))) (own_same one rest entry more h)
-    ∙ ap (onto_some (own_pair one rest)) (before_command rest entry more h)
+    ∙ ap (onto_some (own_pair one rest)) (before_deed rest entry more h)
     ∙ onto_pairs (own_pair one rest) (carried_out rest) (carried_out (entry ∷ more))
 
-last_command : (b : Bool) (pair : Deed × Data) → onto_some (cond (b && true) (Some pair) None) [] ≡ cond b (pair ∷ []) []
-last_command true pair = refl
-last_command false pair = refl
+last_deed : (b : Bool) (pair : Deed × Data) → onto_some (cond (b && true) (Some pair) None) [] ≡ cond b (pair ∷ []) []
+last_deed true pair = refl
+last_deed false pair = refl
 
-pub commands_grow : CommandsGrow
+pub deeds_grow : DeedsGrow
 unfolding carried_out
-commands_grow entries receipt q reply =
-    before_command entries (carried receipt q reply) [] refl ∙ ap (λ more. carried_out entries ++ more) (last_command (is_accepted reply) (q, reply))
+deeds_grow entries receipt q reply =
+    before_deed entries (carried receipt q reply) [] refl ∙ ap (λ more. carried_out entries ++ more) (last_deed (is_accepted reply) (q, reply))
 
 none_more : (b : Bool) (pair : Deed × Data) → onto_some (cond (b && false) (Some pair) None) [] ≡ []
 none_more true pair = refl
@@ -109,6 +109,6 @@ none_more false pair = refl
 pub withdrawn_is_left_out : WithdrawnIsLeftOut
 unfolding carried_out
 withdrawn_is_left_out entries receipt q reply n =
-    before_command entries (carried receipt q reply) (withdrawn n ∷ []) refl
+    before_deed entries (carried receipt q reply) (withdrawn n ∷ []) refl
     ∙ ap (λ more. carried_out entries ++ more) (none_more (is_accepted reply) (q, reply))
     ∙ append-nil (carried_out entries)

@@ -6,8 +6,7 @@ use Rattle.std.specs.Prelude.{if◌then◌else◌, option_and_then}
 use Rattle.serde_json.specs.Data.{Data}
 use Rattle.clr_append.specs.Lines.{ended_lines, text_of}
 use Rattle.clr_result.specs.Results.{◌>>=◌}
-use Rattle.clr_deeds.specs.Deeds.{Deed, commands_among}
-use Rattle.clr_rules.specs.declared.command.Command.{Command}
+use Rattle.clr_deeds.specs.Deeds.{Deed}
 use Rattle.clr_journal.specs.Line.{Entry, carried, withdrawn, is_accepted, line_text, read_line}
 use Rattle.clr_journal.specs.declared.reading.Turn.{Turn}
 
@@ -89,7 +88,3 @@ carried_out (entry ∷ rest) = onto_some (own_pair entry rest) (carried_out rest
 
 abbrev pub deeds_of : List Entry → List Deed
 deeds_of entries = map (λ pair. pair.0) (carried_out entries)
-
--- the commands among them
-abbrev pub commands_of : List Entry → List Command
-commands_of entries = commands_among (deeds_of entries)

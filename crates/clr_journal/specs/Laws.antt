@@ -106,8 +106,8 @@ abbrev pub if_accepted : Deed → Data → List (Deed × Data)
 if_accepted deed reply = if is_accepted reply then (deed, reply) ∷ [] else []
 
 -- A DEED MORE is carried out where it is accepted; one that the next line withdraws is not
-abbrev pub CommandsGrow : Type 0
-CommandsGrow = (entries : List Entry) (receipt : Receipt) (deed : Deed) (reply : Data)
+abbrev pub DeedsGrow : Type 0
+DeedsGrow = (entries : List Entry) (receipt : Receipt) (deed : Deed) (reply : Data)
     → carried_out (entries ++ carried receipt deed reply ∷ [])
     ≡ carried_out entries ++ if_accepted deed reply
 

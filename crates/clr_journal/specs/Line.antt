@@ -1,6 +1,6 @@
 -- HOW A LINE OF A JOURNAL IS WRITTEN, AND READ: one JSON object without blanks, its keys in the
 -- order of their bytes.
-use Rattle.std.specs.Prelude.{ℕ, Bool, true, false, ◌||◌, List, Option, None, Some, codes}
+use Rattle.std.specs.Prelude.{ℕ, Bool, true, false, ◌||◌, List, [], Option, None, Some, codes}
 use Rattle.std.specs.Prelude.{if◌then◌else◌, is_some, option_map, option_and_then}
 use Rattle.std.specs.Result.{result_ok}
 use Rattle.std.specs.Str.{bytes_eq}
@@ -10,6 +10,8 @@ use Rattle.serde_json.specs.Find.{as_bool, as_str, get}
 use Rattle.serde_json.specs.View.{view}
 use Rattle.serde_json.specs.Written.{compact_text}
 use Rattle.clr_rules.specs.declared.command.Command.{Command}
+use Rattle.clr_rules.specs.declared.command.Kind.{Kind}
+use Rattle.clr_rules.specs.declared.command.Kind.TheVariants as kinds
 use Rattle.clr_deeds.specs.Deeds.{Deed, archive, command, deed_of, update}
 use Rattle.clr_delta.specs.Delta.{changes_data, changes_in}
 use Rattle.clr_text.specs.CommandText.{command_data}
@@ -39,6 +41,14 @@ done = object (member (codes "reply") (string (codes "accepted")) no_members)
 -- a receipt without its login, as such a line has it
 abbrev pub bare : Receipt → Receipt
 bare receipt = record { number = receipt.number; received = receipt.received; login = None }
+
+-- a command in brief, if it is of a kind that has lists or a text: it has none of them
+abbrev pub brief_kind : Kind → Option Kind
+brief_kind (kinds.Order c points tasks) = Some (kinds.Order c [] [])
+brief_kind (kinds.Restore c tasks) = Some (kinds.Restore c [])
+brief_kind (kinds.Switch tasks) = Some (kinds.Switch [])
+brief_kind (kinds.Repeat c n text) = Some (kinds.Repeat c n [])
+brief_kind kind = None
 
 abbrev pub archive_data : ℕ → Data
 archive_data before = object (member (codes "before") (whole_data before) no_members)

@@ -1,5 +1,5 @@
 //! Laws of the definitions: the contract of each function is the law.
-ghost use Rattle.clr_journal.specs.Laws.{CommandsGrow, FrontsRead, JournalsReadBack};
+ghost use Rattle.clr_journal.specs.Laws.{DeedsGrow, FrontsRead, JournalsReadBack};
 ghost use Rattle.clr_journal.specs.Laws.{LinesAreOneLine, LinesGrow, LinesReadBack};
 ghost use Rattle.clr_journal.specs.Laws.{WithdrawnIsLeftOut};
 
@@ -32,7 +32,7 @@ pub fn lines_grow()
 
 /// A deed that was accepted is one more that was carried out; one that the next line withdraws is
 /// none.
-pub fn commands_grow()
-    ensures accepted { CommandsGrow }
+pub fn deeds_grow()
+    ensures accepted { DeedsGrow }
     ensures withdrawn { WithdrawnIsLeftOut }
 {}

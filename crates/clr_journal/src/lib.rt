@@ -2,7 +2,7 @@
 //! update of network and staff, and each archive.
 #![tactic(auto)]
 
-mod commands;
+mod deeds;
 pub mod laws;
 mod line;
 mod print;
@@ -11,7 +11,7 @@ mod reading;
 
 pub use clr_append::{Journal, OnDisk, WriteFault};
 pub use clr_deeds::{Changes, Deed};
-pub use commands::carried_out;
+pub use deeds::carried_out;
 pub use line::{Carried, Line, Receipt, is_accepted};
 pub use print::{
     archived_value, before_value, commanded_value, login_value, print_archived, print_carried,

@@ -1,5 +1,5 @@
-//! What the clauses of the other subcommands that use a database say of a machine of which this much
-//! is known, to the last byte. What they ask is met by the machine in memory.
+//! What the clauses of the other subcommands that use a database say of a machine of which this
+//! much is known, to the last byte. What they ask is met by the machine in memory.
 ghost use Rattle.std.specs.Prelude.{IfSome, Ok, Some, codes, pos};
 ghost use Rattle.clr_stream.specs.Counted.{counted_inner};
 ghost use Rattle.clr_edge.specs.Database.{IsOfLine};

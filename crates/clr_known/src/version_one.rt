@@ -65,8 +65,8 @@ impl Databases for OldKnown {
     }
 }
 
-/// A machine whose databases have the register of JONES/1 in tables of version 1, and whose disks are
-/// clean.
+/// A machine whose databases have the register of JONES/1 in tables of version 1, and whose disks
+/// are clean.
 pub trait OldMachine: Databases + Journals {
     ghost knows: { KnowsOldJones Self.Tables.Store Self.opens };
 

@@ -45,7 +45,8 @@ impl JonesMachine for Known {
       comes = λ old new listener deadline connection came.
           (ap (λ (bytes : List ℕ). Some bytes) came.1, ap (λ (bytes : List ℕ). Some bytes) came.2);
       misses = λ old new listener tries kind missed. missed;
-      keeps = λ old new connection is_expected left. ap (λ (m : AnyKnown). Some m.response.items) (sym left);
+      keeps = λ old new connection is_expected left.
+          ap (λ (m : AnyKnown). Some m.response.items) (sym left);
       ended = λ old new database closed back. ap (λ (m : AnyKnown). m.response.items) back;
     } };
 }
@@ -66,8 +67,8 @@ fn service_of_jones<'a, R: JonesMachine, O: Opens<'a>, W: CountedFlush, E: Count
     serve(alloc, machine, paths, args, output, errors)
 }
 
-/// The same of the machine in memory: what went out over the connection is the response to a request
-/// for the board, unless a failure was reported.
+/// The same of the machine in memory: what went out over the connection is the response to a
+/// request for the board, unless a failure was reported.
 pub fn known_service<W: CountedFlush, E: CountedFlush>(
     machine: &mut Known,
     output: &mut W,

@@ -31,8 +31,8 @@ const PIECE: usize = 65_536;
 /// What `journal FILE [CLEARANCE] [--part FILE]... [--offset MINUTES] [--commands]` prints: the
 /// switching log of the journal, or with `--commands` the commands that were carried out, each on a
 /// line that `run` takes; where a clearance is named, of that one alone. The parts follow one
-/// another. Each line that does not hold its sum has a line of the log; so has half a line at the end
-/// of a part, with the next number.
+/// another. Each line that does not hold its sum has a line of the log; so has half a line at the
+/// end of a part, with the next number.
 ///
 /// `NoSuch` where the word names no clearance; then no file is opened. `Journal(BadLine)`, once all
 /// is printed, with the number of the first line that does not hold its sum; at once with 0 where

@@ -325,8 +325,8 @@ impl<S: Alter + Drop> Store<S> {
         load_rows(&mut self.connection)
     }
 
-    /// Reads all rows of the tables as `load` does, with the same faults; clearances, steps and holds
-    /// go into what the caller keeps them in, one after another.
+    /// Reads all rows of the tables as `load` does, with the same faults; clearances, steps and
+    /// holds go into what the caller keeps them in, one after another.
     pub fn load_into<C: Fill<Record>, T: Fill<StepRow>, H: Fill<Hold>>(
         &mut self,
     ) -> Result<Loaded<C, T, H>, StoreFault>
@@ -447,8 +447,8 @@ impl<S: Alter + Drop> Store<S> {
     /// transaction.
     ///
     /// `Sql` where the register has no journal, where the number is 2^63 or more, and where the
-    /// database refuses or fails; `NoMemory` where memory runs out, and then the connection is open.
-    /// On a fault none of it is done.
+    /// database refuses or fails; `NoMemory` where memory runs out, and then the connection is
+    /// open. On a fault none of it is done.
     pub fn commit_at(&mut self, change: &Change, place: &Place) -> Result<(), StoreFault>
         ensures made { HasCleanDisk (state S.Store self.new)
             → OnOk result (MakesEditsAt (state S.Store self.old).now change.now.edits.items
@@ -566,8 +566,8 @@ impl<S: Alter + Drop> Store<S> {
     /// journal, both in one transaction.
     ///
     /// `Sql` where the register has no journal, where the number is 2^63 or more, and where the
-    /// database refuses or fails; `NoMemory` where memory runs out, and then the connection is open.
-    /// On a fault none of it is done.
+    /// database refuses or fails; `NoMemory` where memory runs out, and then the connection is
+    /// open. On a fault none of it is done.
     pub fn take_steps_at(&mut self, keys: &[StepKey], place: &Place) -> Result<(), StoreFault>
         ensures taken { HasCleanDisk (state S.Store self.new)
             → OnOk result (TakesStepsAt (state S.Store self.old).now keys.now
@@ -633,8 +633,8 @@ impl<S: Alter + Drop> Store<S> {
     /// transaction.
     ///
     /// `Sql` where the register has no journal, where the number is 2^63 or more, and where the
-    /// database refuses or fails; `NoMemory` where memory runs out, and then the connection is open.
-    /// On a fault none of it is done.
+    /// database refuses or fails; `NoMemory` where memory runs out, and then the connection is
+    /// open. On a fault none of it is done.
     pub fn update_at(
         &mut self,
         network: &Network,

@@ -1,7 +1,7 @@
 //! A journal is begun and written, its disk crashes, and it is opened again. The sums are reckoned
 //! outside, by the rules of clr_chain.
 use clr_chain::{
-    ChainFault, Link, NewFault, OpenedChain, Place, first_sum, new_chain, open_chain,
+    ChainFault, Link, NewFault, OpenedChain, Place, RULES, first_sum, new_chain, open_chain,
     print_carried, print_withdrawn,
 };
 use clr_journal::{Deed, Journal, OnDisk, Receipt};
@@ -35,10 +35,7 @@ const JONES_ASKS: &str = r#"{"at":100,"by":"JONES","do":"request","section":"L2"
 
 const KIM_ASKS: &str = r#"{"at":105,"by":"KIM","do":"request","section":"L3"}"#;
 
-/// The lines.
-const FIRST: &str =
-    r#"{"journal":"room","number":0,"rules":1,"sum":"28474b298dd765d10e6f33d4fe675bd5d94edfa45a239abeee031f22dabeadb8"}"#;
-
+/// The lines after the first one.
 const JONES: &str =
     r#"{"command":{"at":100,"by":"JONES","do":"request","section":"L2"},"login":null,"number":1,"received":1795503841,"reply":{"card":{"clearance":"JONES/1","done":0,"holder":"JONES","phase":"Requested","round":0,"steps":0},"reply":"accepted"},"sum":"ceb991cb18ea80eea8d444fa9ee4f575a05fb5b27c84d18a9d6872778fb134ac"}"#;
 
@@ -48,12 +45,16 @@ const KIM: &str =
 const WITHDRAWN: &str =
     r#"{"number":2,"sum":"29799b8949e292f725f292d35df6a9dd336b7c64aaa8aa77713bb8a147ef62b4","withdrawn":true}"#;
 
-/// First lines of another journal, and of another number of the rules.
-const OTHER: &str =
-    r#"{"journal":"yard","number":0,"rules":1,"sum":"28474b298dd765d10e6f33d4fe675bd5d94edfa45a239abeee031f22dabeadb8"}"#;
+/// The first line of the journal of this id, by rules of this number.
+fn first_line_by(alloc: Global, id: &str, rules: u64) -> Result<String, Fail> {
+    let front = format!(in alloc; "{{\"journal\":\"{id}\",\"number\":0,\"rules\":{rules},")?;
+    Ok(format!(in alloc; "{front}\"sum\":\"{FIRST_SUM}\"}}")?)
+}
 
-const NEXT_RULES: &str =
-    r#"{"journal":"room","number":0,"rules":2,"sum":"28474b298dd765d10e6f33d4fe675bd5d94edfa45a239abeee031f22dabeadb8"}"#;
+/// That of the journal that is begun.
+fn first_line(alloc: Global) -> Result<String, Fail> {
+    first_line_by(alloc, ID, RULES)
+}
 
 fn text(alloc: Global, text: &str) -> Result<Text, Fail> {
     let text = String::from_str(alloc, text)?;
@@ -188,7 +189,8 @@ fn holding(alloc: Global, text: &str) -> Result<Memory, Fail> {
 fn lines_are_read_after_a_crash(rt: HostRuntime) -> Result<(), Fail> {
     let alloc = rt.alloc();
     let disk = written(alloc)?;
-    let text = ended(alloc, &[FIRST, JONES, KIM, WITHDRAWN])?;
+    let first = first_line(alloc)?;
+    let text = ended(alloc, &[first.as_str(), JONES, KIM, WITHDRAWN])?;
     assert_eq!(rt; disk.bytes(), text.as_bytes());
     let OpenedChain { journal, ahead } = match opened(alloc, disk, 0, FIRST_SUM)? {
         Ok(opened) => opened,
@@ -197,9 +199,9 @@ fn lines_are_read_after_a_crash(rt: HostRuntime) -> Result<(), Fail> {
     assert_eq!(rt; ahead.lines.len(), 3);
     assert_eq!(rt; ahead.end.sum.as_str(), LAST_SUM);
     assert_eq!(rt; ahead.rest, 0);
-    let commands = ahead.commands(alloc)?;
-    assert_eq!(rt; commands.len(), 1);
-    for carried in &commands {
+    let deeds = ahead.deeds(alloc)?;
+    assert_eq!(rt; deeds.len(), 1);
+    for carried in &deeds {
         let Deed::Command(command) = &carried.deed else {
             return Err(Fail::new("what was carried out is no command"));
         };
@@ -224,7 +226,8 @@ fn left_at_jones(alloc: Global, text: &str) -> Result<(Memory, usize), Fail> {
 #[test]
 fn unfinished_line_is_cut_off(rt: HostRuntime) -> Result<(), Fail> {
     let alloc = rt.alloc();
-    let kept = ended(alloc, &[FIRST, JONES])?;
+    let first = first_line(alloc)?;
+    let kept = ended(alloc, &[first.as_str(), JONES])?;
     for rest in [
         "",
         "{",
@@ -284,8 +287,9 @@ fn what_is_no_journal_is_refused(rt: HostRuntime) -> Result<(), Fail> {
 #[test]
 fn journal_by_other_rules_is_refused(rt: HostRuntime) -> Result<(), Fail> {
     let alloc = rt.alloc();
-    let next = refusal_of(alloc, &[NEXT_RULES, JONES], 0, FIRST_SUM)?;
-    assert_eq!(rt; next, ChainFault::OtherRules(2));
+    let next = first_line_by(alloc, ID, RULES + 1)?;
+    let fault = refusal_of(alloc, &[&next, JONES], 0, FIRST_SUM)?;
+    assert_eq!(rt; fault, ChainFault::OtherRules(RULES + 1));
     Ok(())
 }
 
@@ -294,17 +298,19 @@ fn journal_by_other_rules_is_refused(rt: HostRuntime) -> Result<(), Fail> {
 #[test]
 fn another_journal_is_refused(rt: HostRuntime) -> Result<(), Fail> {
     let alloc = rt.alloc();
-    let other = refusal_of(alloc, &[OTHER], 0, FIRST_SUM)?;
+    let first = first_line(alloc)?;
+    let other = first_line_by(alloc, "yard", RULES)?;
+    let other = refusal_of(alloc, &[&other], 0, FIRST_SUM)?;
     assert_eq!(rt; other, ChainFault::OtherRegister);
-    let short = refusal_of(alloc, &[FIRST], 1, JONES_SUM)?;
+    let short = refusal_of(alloc, &[first.as_str()], 1, JONES_SUM)?;
     assert_eq!(rt; short, ChainFault::TooShort);
-    let short = refusal_of(alloc, &[FIRST, JONES, KIM, WITHDRAWN], 3, LAST_SUM)?;
+    let short = refusal_of(alloc, &[first.as_str(), JONES, KIM, WITHDRAWN], 3, LAST_SUM)?;
     assert_eq!(rt; short, ChainFault::TooShort);
-    let differs = refusal_of(alloc, &[FIRST, JONES], 1, KIM_SUM)?;
+    let differs = refusal_of(alloc, &[first.as_str(), JONES], 1, KIM_SUM)?;
     assert_eq!(rt; differs, ChainFault::Differs(1));
-    let differs = refusal_of(alloc, &[FIRST, JONES, KIM, WITHDRAWN], 2, KIM_SUM)?;
+    let differs = refusal_of(alloc, &[first.as_str(), JONES, KIM, WITHDRAWN], 2, KIM_SUM)?;
     assert_eq!(rt; differs, ChainFault::Differs(2));
-    let bad = refusal_of(alloc, &[FIRST, "no line", JONES], 0, FIRST_SUM)?;
+    let bad = refusal_of(alloc, &[first.as_str(), "no line", JONES], 0, FIRST_SUM)?;
     assert_eq!(rt; bad, ChainFault::BadLine(1));
     Ok(())
 }
@@ -313,11 +319,12 @@ fn another_journal_is_refused(rt: HostRuntime) -> Result<(), Fail> {
 #[test]
 fn front_of_a_first_line_is_refused(rt: HostRuntime) -> Result<(), Fail> {
     let alloc = rt.alloc();
-    for text in ["", "{", "{\"journal\":", FIRST] {
+    let first = first_line(alloc)?;
+    for text in ["", "{", "{\"journal\":", first.as_str()] {
         let fault = refusal(alloc, text, 0, FIRST_SUM)?;
         assert_eq!(rt; fault, ChainFault::BadLine(0));
     }
-    for text in ["{", FIRST] {
+    for text in ["{", first.as_str()] {
         let disk = holding(alloc, text)?;
         match begun(alloc, disk)? {
             Ok(_) => return Err(Fail::new("a journal was begun over bytes")),

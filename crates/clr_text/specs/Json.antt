@@ -1,10 +1,12 @@
--- What names, clearances, holds, points and steps are as JSON values.
+-- What names, clearances, holds, points, roles and steps are as JSON values.
 use Rattle.std.specs.Prelude.{ℕ, List, Option, None, Some, codes, map}
 use Rattle.serde_json.specs.Data.{Data, Members, array, member, no_members, null, number, object}
 use Rattle.serde_json.specs.Data.{string, unsigned}
 use Rattle.serde_json.specs.View.{items_of}
 use Rattle.clr_rules.specs.Prelude.{Position, Step}
 use Rattle.clr_net.specs.declared.point.Position.TheVariants.{Closed, Opened}
+use Rattle.clr_staff.specs.declared.employee.Role.{Role}
+use Rattle.clr_staff.specs.declared.employee.Role.TheVariants.{Charge, Field, Operator}
 use Rattle.clr_order.specs.Step.{state_text, task}
 use Rattle.clr_order.specs.Texts.{step_text}
 use Rattle.clr_rules.specs.HoldKind.{hold_kind_text}
@@ -37,6 +39,11 @@ member_if key (Some d) others = member key d others
 abbrev pub position_text : Position → List ℕ
 position_text Opened = codes "open"
 position_text Closed = codes "closed"
+
+abbrev pub role_text : Role → List ℕ
+role_text Operator = codes "operator"
+role_text Field = codes "field"
+role_text Charge = codes "charge"
 
 abbrev pub hold_data : Hold → Data
 hold_data hold =

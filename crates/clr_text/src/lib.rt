@@ -17,6 +17,7 @@ mod reply_texts;
 mod said;
 mod sent;
 mod values;
+mod words;
 
 pub use clr_print::{print_board, print_order};
 pub use commands::{command_text, command_value};
@@ -27,3 +28,4 @@ pub use reading::{command_in, command_of};
 pub use replies::reply_value;
 pub use reply_texts::reply_text;
 pub use sent::can_be_sent;
+pub use words::{position_text, role_text};

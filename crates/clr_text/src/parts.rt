@@ -3,9 +3,10 @@ ghost use Rattle.std.specs.Prelude.{◌≡◌, IfOk};
 ghost use Rattle.serde_json.specs.Data.{Data};
 ghost use Rattle.serde_json.specs.View.{view};
 ghost use Rattle.clr_text.specs.Json.{hold_data, id_data, list_data, name_data, optional_data};
-ghost use Rattle.clr_text.specs.Json.{point_data, position_text, step_data};
+ghost use Rattle.clr_text.specs.Json.{point_data, step_data};
 
-use clr_net::{Name, Position};
+use crate::words::position_text;
+use clr_net::Name;
 use clr_order::{Step, step_text};
 use clr_rules::{ClearanceId, Hold, PointState};
 use serde_json::{Value, json};
@@ -89,15 +90,5 @@ impl ToJson for Step {
         let reader = optional_value(alloc, &self.reader)?;
         let text = step_text(alloc, self)?;
         json!(in alloc; {"reader": reader, "state": self.state.text(), "text": text})
-    }
-}
-
-/// The position of a point as a text.
-fn position_text(position: Position) -> &'static str
-    ensures { result.now ≡ position_text position }
-{
-    match position {
-        Position::Opened => "open",
-        Position::Closed => "closed",
     }
 }

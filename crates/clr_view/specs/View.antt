@@ -6,8 +6,6 @@ use Rattle.serde_json.specs.Written.{compact_text}
 use Rattle.clr_net.specs.declared.point.PointRow.{PointRow}
 use Rattle.clr_net.specs.declared.point.Position.{Position}
 use Rattle.clr_net.specs.declared.section.SectionRow.{SectionRow}
-use Rattle.clr_staff.specs.declared.employee.Role.{Role}
-use Rattle.clr_staff.specs.declared.employee.Role.TheVariants.{Charge, Field, Operator}
 use Rattle.clr_staff.specs.declared.employee.StaffRow.{StaffRow}
 use Rattle.clr_rules.specs.Hold.{is_in_hold_group}
 use Rattle.clr_rules.specs.HoldKind.{hold_kind_text}
@@ -18,6 +16,7 @@ use Rattle.clr_rules.specs.declared.hold.Hold.{Hold}
 use Rattle.clr_rules.specs.declared.hold.HoldGroup.{HoldGroup}
 use Rattle.clr_rules.specs.declared.hold.HoldGroup.TheVariants.{AtPoint, AtSection}
 use Rattle.clr_text.specs.Json.{id_data, list_data, name_data, optional_data, position_text}
+use Rattle.clr_text.specs.Json.{role_text}
 
 -- what holds a place: a clearance, with the kind of its hold
 abbrev pub holder_data : Hold → Data
@@ -53,11 +52,6 @@ section_data R s =
     (member (codes "live") (boolean (is_live R.net R.states s.name))
     (member (codes "section") (name_data s.name)
     (member (codes "source") (boolean s.source) no_members))))
-
-abbrev pub role_text : Role → List ℕ
-role_text Operator = codes "operator"
-role_text Field = codes "field"
-role_text Charge = codes "charge"
 
 -- an employee
 abbrev pub employee_data : StaffRow → Data

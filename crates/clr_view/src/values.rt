@@ -4,11 +4,12 @@ ghost use Rattle.json.specs.Token.{begin_array, begin_object, end_array, end_obj
 ghost use Rattle.serde_json.specs.Data.{boolean, null, string};
 ghost use Rattle.clr_text.specs.Json.{id_data, list_data, name_data, optional_data};
 ghost use Rattle.clr_view.specs.Tokens.{Adds, data_tokens, member_tokens};
-ghost use Rattle.clr_view.specs.View.{employee_data, holder_data, position_data, role_text};
+ghost use Rattle.clr_view.specs.View.{employee_data, holder_data, position_data};
 
 use clr_net::{Name, Position};
 use clr_rules::{ClearanceId, Hold};
-use clr_staff::{Role, StaffRow};
+use clr_staff::StaffRow;
+use clr_text::role_text;
 use json::Writer;
 use std::alloc::{AllocError, Global};
 
@@ -173,14 +174,4 @@ fn push_employee(out: &mut Writer, row: &StaffRow) -> Result<(), AllocError>
     push_text(out, "role", role_text(row.role))?;
     push_name_or_null(out, "supervisor", &row.supervisor)?;
     end(out)
-}
-
-fn role_text(role: Role) -> &'static str
-    ensures { result.now ≡ role_text role }
-{
-    match role {
-        Role::Operator => "operator",
-        Role::Field => "field",
-        Role::Charge => "charge",
-    }
 }

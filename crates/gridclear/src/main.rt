@@ -113,8 +113,8 @@ fn program(rt: &HostRuntime) -> ExitCode
 }
 
 /// Answers the words of a process on a machine, whose system opens databases and listens, with the
-/// files that another value of that system opens. What is asked of the streams is said here, and what
-/// is asked of a machine in `answer`: at the host both together take too much memory.
+/// files that another value of that system opens. What is asked of the streams is said here, and
+/// what is asked of a machine in `answer`: at the host both together take too much memory.
 fn answer_line<'a, Y, I, W, E>(
     machine: &mut Machine<Y>,
     line: &mut CommandLine<'a, Paths<'a, Y>, I, W, E>,

@@ -3,7 +3,7 @@ use Rattle.serde_json.specs.View.{view}
 use Rattle.clr_deeds.specs.Deeds.{deed_of}
 use Rattle.clr_journal.specs.Journals.{carried_out}
 use Rattle.clr_journal.specs.Line.{entry_of}
-use Rattle.clr_journal.proofs.commands.carried_out.Given as goal
+use Rattle.clr_journal.proofs.deeds.carried_out.Given as goal
 
 -- what was found so far, and what the rest has, are all
 abbrev pub invariant-loop-line : goal.invariant-loop-line

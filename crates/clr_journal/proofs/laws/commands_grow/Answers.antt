@@ -1,8 +1,0 @@
-use Rattle.clr_journal.proofs.JournalsRead.{commands_grow, withdrawn_is_left_out}
-use Rattle.clr_journal.proofs.laws.commands_grow.Goals as goal
-
-pub returns-clause-accepted : goal.returns-clause-accepted
-returns-clause-accepted c = commands_grow
-
-pub returns-clause-withdrawn : goal.returns-clause-withdrawn
-returns-clause-withdrawn c = withdrawn_is_left_out
