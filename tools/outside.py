@@ -49,10 +49,10 @@ def missing(text):
     sys.exit(2)
 
 
-def program_behind(command):
+def program_of(command):
     """The program that a command ends in, which may be a script: it is looked at while it waits for its input."""
-    told = subprocess.run([command, "--help"], capture_output=True, check=False)
-    if told.returncode != 0:
+    shown = subprocess.run([command, "--help"], capture_output=True, check=False)
+    if shown.returncode != 0:
         missing(f"{command} does not run")
     with subprocess.Popen([command, "run", *FILES], stdin=subprocess.PIPE, stdout=subprocess.DEVNULL) as waiting:
         while True:
@@ -77,7 +77,7 @@ class Bench:
         with open(source, "w", encoding="ascii") as file:
             file.write(library)
         subprocess.run(["gcc", "-O1", "-shared", "-fPIC", "-o", self.library, source, "-ldl"], check=True)
-        self.program = program_behind(GRIDCLEAR)
+        self.program = program_of(GRIDCLEAR)
 
     def under(self, **words):
         """An environment in which the library is loaded and finds these words."""

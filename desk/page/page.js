@@ -22,6 +22,7 @@ import { RequestForm } from "./orders/request.js";
 import { SwitchEditor } from "./orders/switch-order.js";
 import { give, isSending, onSending, setCaller, takeUpPending } from "./replies/commands.js";
 import { lookUpOpen, recallRefused } from "./replies/not-known.js";
+import { readRefusals } from "./replies/refusals.js";
 import { showReplies } from "./replies/replies.js";
 import { drawNameless, keptName, listCallers, mayUse, readLogin, showCaller } from "./shared/caller.js";
 import { tidyDrafts } from "./shared/drafts.js";
@@ -259,6 +260,7 @@ async function start() {
   requestAnimationFrame(() => requestAnimationFrame(() => performance.measure("drawn", "network-read")));
   speakAs(keptName());
   takeUpPending();
+  readRefusals();
   document.body.dataset.ready = "yes";
 }
 

@@ -376,8 +376,8 @@ def old_program(root, board):
 
 def migrate(root, tally):
     print("a register of an earlier version", flush=True)
-    told = (TOP / "tools" / "try" / "version-1.told").read_text(encoding="utf-8")
-    board = told[:told.index("ORDER ")]
+    printed = (TOP / "tools" / "try" / "version-1.printed").read_text(encoding="utf-8")
+    board = printed[:printed.index("ORDER ")]
     root.run("systemctl stop gridclear; rm -rf /var/backups/gridclear /var/lib/gridclear/*")
     root.path(f"{DATA}/room.db").write_bytes(lzma.decompress((TOP / "tools" / "try" / "version-1.db.xz").read_bytes()))
     root.run("chown gridclear: /var/lib/gridclear/room.db; chmod 600 /var/lib/gridclear/room.db")

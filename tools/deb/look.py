@@ -105,6 +105,12 @@ def program(package, tally):
     tally.check("its sum is that of dist/SOURCES", f"{hashlib.sha256(content).hexdigest()}  gridclear" in sums)
 
 
+def page(package, tally):
+    """The page has the table of refusals, which is a link in the tree."""
+    files = package.files(package.data)
+    tally.check("the page has RULES", files.get("usr/share/gridclear/page/replies/RULES.md") == (TOP / "docs/RULES.md").read_bytes())
+
+
 def unpacked(package, folder):
     for one, content in package.data:
         path = folder / one.name
@@ -155,6 +161,7 @@ def look(deb, folder, tally):
     shape(package, tally)
     control(package, tally)
     program(package, tally)
+    page(package, tally)
     unpacked(package, folder)
     words(folder, tally)
     with tempfile.TemporaryDirectory(prefix="pauses-") as place:

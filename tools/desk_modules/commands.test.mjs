@@ -1,17 +1,26 @@
-// What is shown after a command, what the board lacks of the log, who is offered what, and the title of the tab.
+// The words of each command, what is shown after one, what the board lacks of the log, who is offered what, and the title of the tab.
 
 import assert from "node:assert/strict";
+import { readFileSync } from "node:fs";
 import test from "node:test";
 
 import { viewAfter } from "../../desk/page/clearances/after-command.js";
 import { momentInOrder } from "../../desk/page/clearances/last-moment.js";
 import { offersOf } from "../../desk/page/clearances/offers.js";
 import { isLacking } from "../../desk/page/log/board-lacks.js";
+import { COMMANDS } from "../../desk/page/replies/command-words.js";
 import { titleOf } from "../../desk/page/shared/tab-title.js";
 
 const STAFF = new Map([["NG", { name: "NG", role: "operator" }], ["KIM", { name: "KIM", role: "charge" }], ["REED", { name: "REED", role: "field" }]]);
 const card = (phase) => ({ clearance: "KIM/1", phase, holder: "KIM", round: 1, done: 0, steps: 2 });
 const view = (phase, state) => ({ card: card(phase), crews: [], holds: [], fence: [], steps: [{ text: "OPEN S1", state, reader: null }, { text: "TAG S1", state: "Waiting", reader: null }] });
+
+test("the page has words for each command of RULES but show", () => {
+  const rules = readFileSync(new URL("../../docs/RULES.md", import.meta.url), "utf8");
+  const names = [...rules.matchAll(/^\| \*\*`(\w+)/gm)].map(([, name]) => name).filter((name) => name !== "show");
+  assert.deepEqual(Object.keys(COMMANDS).sort(), names.sort());
+  for (const name of names) assert.ok(COMMANDS[name].said && COMMANDS[name].logged, name);
+});
 
 test("a cancel is offered while no step is out", () => {
   const offered = (phase, state) => offersOf(view(phase, state), STAFF).map(({ does }) => does);

@@ -16,7 +16,7 @@ import tempfile
 
 from looks import FILES, TOP, copied, run
 
-RULES = int(re.search(r"(?m)^rules = (\d+)$", (TOP / "crates/clr_chain/specs/First.antt").read_text(encoding="utf-8"))[1])
+RULES = int(re.search(r"(?m)^pub const RULES: u64 = (\d+);$", (TOP / "crates/clr_chain/src/first.rt").read_text(encoding="utf-8"))[1])
 FRONT = 4096  # bytes that a first line may have, with its line feed
 BRIEF = 2048  # bytes of the line of a refused command that has all that it says
 NAMES = ("command", "login", "number", "received", "reply")

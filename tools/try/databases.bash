@@ -31,10 +31,10 @@ END
 
 # A log that a run leaves that is killed: it has the commands, and the database beside it has none of them.
 new_register "$work/killed.db"
-: >"$work/told"
-"$program" serve "$work/killed.db" --port "$port" --count 1000 >"$work/told" 2>/dev/null &
+: >"$work/printed"
+"$program" serve "$work/killed.db" --port "$port" --count 1000 >"$work/printed" 2>/dev/null &
 server=$!
-for _ in $(seq 100); do [ -s "$work/told" ] || sleep 0.1; done
+for _ in $(seq 100); do [ -s "$work/printed" ] || sleep 0.1; done
 while IFS= read -r line; do
   ask 'POST /command HTTP/1.1' "Content-Length: ${#line}" "$line" >/dev/null
 done <"$work/two"

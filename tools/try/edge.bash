@@ -133,10 +133,10 @@ serving_opens() {
     shift
   done
   shift
-  : >"$work/told"
-  "${traced[@]}" "$program" serve "${words[@]}" --port "$port" --count 1 >"$work/told" 2>"$work/faults" &
+  : >"$work/printed"
+  "${traced[@]}" "$program" serve "${words[@]}" --port "$port" --count 1 >"$work/printed" 2>"$work/faults" &
   server=$!
-  for _ in $(seq 100); do [ -s "$work/told" ] || sleep 0.1; done
+  for _ in $(seq 100); do [ -s "$work/printed" ] || sleep 0.1; done
   ask 'POST /command HTTP/1.1' 'Host: 127.0.0.1' 'X-Forwarded-User: JONES' "Content-Length: ${#show}" "$show" >/dev/null
   served "$title whose calls are looked at" ''
   opened_alone "$title" "$@"

@@ -252,12 +252,12 @@ def changed(folder, shift, words):
 
 def in_namespace():
     """Runs this again where it may mount; without such a place it is left out."""
-    apart = ["unshare", "-Urm"]
-    tried = shutil.which("unshare") and subprocess.run([*apart, "true"], capture_output=True, check=False)
+    unshared = ["unshare", "-Urm"]
+    tried = shutil.which("unshare") and subprocess.run([*unshared, "true"], capture_output=True, check=False)
     if not tried or tried.returncode:
         print("left out: a disk that is full: a namespace of its own is not to be made\nall looks were made")
         return
-    words = [*apart, sys.executable, "-B", __file__]
+    words = [*unshared, sys.executable, "-B", __file__]
     sys.exit(subprocess.run(words, env={**os.environ, "IN_NAMESPACE": "1"}, check=False).returncode)
 
 

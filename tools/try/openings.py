@@ -295,9 +295,9 @@ def openings(_):
     look("each kind of outcome has some", tried < 14 or all(counts[kind] for kind in kinds), counted)
     sides = (f"{side} {' '.join(str(gaps[f'{side} {size}']) for size in range(21))}" for side in ("behind", "ahead"))
     held = ", ".join(f"{count} with {name}" for name, count in lines.items())
-    told = f"registers by lines, 0 to 20: {', '.join(sides)}; {held}; {lost} losses of power, each opened"
-    look("each gap on each side, and withdrawals in each kind, had some", tried < 2_000 or all((gaps | lines).values()), told)
-    print(f"{sum(counts.values())} openings of {tried} shifts: {counted}", told, sep="\n", flush=True)
+    summary = f"registers by lines, 0 to 20: {', '.join(sides)}; {held}; {lost} losses of power, each opened"
+    look("each gap on each side, and withdrawals in each kind, had some", tried < 2_000 or all((gaps | lines).values()), summary)
+    print(f"{sum(counts.values())} openings of {tried} shifts: {counted}", summary, sep="\n", flush=True)
 
 
 if __name__ == "__main__":

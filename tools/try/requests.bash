@@ -47,14 +47,14 @@ def response(command):
         with connection.makefile("rb") as stream:
             return stream.read()
 
-with open(others, "wb") as told:
+with open(others, "wb") as statuses:
     for line in open(commands):
         mark, _, command = line.rstrip("\n").partition(" ")
         found = response(command)
         if mark == "=":
             sys.stdout.buffer.write(found)
         else:
-            told.write(found.partition(b"\r\n")[0] + b"\n")
+            statuses.write(found.partition(b"\r\n")[0] + b"\n")
 END
 }
 

@@ -3,17 +3,17 @@
 
 # serving NAME COUNT: starts a server of $work/NAME.db for COUNT connections, and waits for its line.
 serving() {
-  : >"$work/told"
-  "$program" serve "$work/$1.db" --port "$port" --count "$2" >"$work/told" 2>"$work/faults" &
+  : >"$work/printed"
+  "$program" serve "$work/$1.db" --port "$port" --count "$2" >"$work/printed" 2>"$work/faults" &
   server=$!
-  for _ in $(seq 100); do [ -s "$work/told" ] || sleep 0.1; done
+  for _ in $(seq 100); do [ -s "$work/printed" ] || sleep 0.1; done
 }
 
 # served TITLE ERRORS: a server has ended, with status 0, its line and these errors.
 served() {
   wait "$server"
   found=$?
-  cp "$work/told" "$work/output"
+  cp "$work/printed" "$work/output"
   cp "$work/faults" "$work/errors"
   judge "$1" 0 "serving 127.0.0.1:$port$feed" "$2" "$found"
 }
@@ -118,10 +118,10 @@ try 'the board after it, of one request' 0 "~BOARD 1$feed" '' board "$work/faili
 
 # What cannot be printed on standard error is lost, and the next connection is served.
 new_register "$work/failing.db"
-: >"$work/told"
-"$program" serve "$work/failing.db" --port "$port" --count 3 >"$work/told" 2>&- &
+: >"$work/printed"
+"$program" serve "$work/failing.db" --port "$port" --count 3 >"$work/printed" 2>&- &
 server=$!
-for _ in $(seq 100); do [ -s "$work/told" ] || sleep 0.1; done
+for _ in $(seq 100); do [ -s "$work/printed" ] || sleep 0.1; done
 : >"$work/faults"
 failing cut asked >"$work/output"
 judge 'those after a connection that fails, standard error closed' 0 "$empty_board" '' $?

@@ -84,10 +84,10 @@ after 2 "$work/mixed.db"
 cp "$work/mixed.db" "$work/monday.db"
 sed -n 3,21p "$files/shift.jsonl" >"$work/commands"
 bounded run --db "$work/mixed.db" <"$work/commands" >/dev/null
-: >"$work/told"
-"$program" serve "$work/mixed.db" --port "$port" --count 1000 >"$work/told" 2>/dev/null &
+: >"$work/printed"
+"$program" serve "$work/mixed.db" --port "$port" --count 1000 >"$work/printed" 2>/dev/null &
 server=$!
-for _ in $(seq 100); do [ -s "$work/told" ] || sleep 0.1; done
+for _ in $(seq 100); do [ -s "$work/printed" ] || sleep 0.1; done
 line='{"at":1795509700,"by":"KIM","do":"request","section":"L3"}'
 ask 'POST /command HTTP/1.1' "Content-Length: ${#line}" "$line" >/dev/null
 kill -9 "$server"

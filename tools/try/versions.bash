@@ -1,7 +1,7 @@
 # A register of version 1, made by the last program that wrote that version: it is refused until `migrate` has moved it,
 # and then answers as it did. Read by tools/try-program, after databases.bash.
 # version-1.db.xz has the first 28 commands of the shift, a switch order CLOSE S4, and its step given out: a granted
-# clearance with a ground and a crew, and S4 in the hand of OPS/2. version-1.told is what that program printed of it.
+# clearance with a ground and a crew, and S4 in the hand of OPS/2. version-1.printed is what that program printed of it.
 
 python3 - "$tools/try/version-1.db.xz" "$work/version-1.db" <<'END'
 import lzma, sys
@@ -14,7 +14,7 @@ for of in JONES/1 OPS/1 OPS/2; do
 done
 
 # The board, each order and each view of a register of these clearances.
-told_of() {
+print_all_of() {
   bounded board "$1"
   for of in JONES/1 OPS/1 OPS/2; do bounded order "$1" "$of" 1; done
   bounded run --db "$1" <"$work/shows"
@@ -40,8 +40,8 @@ try 'migrate, a register of version 1' 0 "$moved" '' migrate "$place/room.db"
 rows_in "$place/room.db" $others network_point >"$work/rows"
 expect 'each row was moved, and no point is a jumper' diff "$work/rows-before" "$work/rows"
 expect 'no row is left in point' test "$(rows_in "$place/room.db" point)" = 'point []'
-told_of "$place/room.db" >"$work/told"
-expect 'what was moved is printed as before' diff "$tools/try/version-1.told" "$work/told"
+print_all_of "$place/room.db" >"$work/printed"
+expect 'what was moved is printed as before' diff "$tools/try/version-1.printed" "$work/printed"
 cp "$place/room.db" "$work/moved.db"
 try 'migrate, a register of version 2' 0 "$moved" '' migrate "$place/room.db"
 expect 'migrate, a register of version 2: the database is unchanged' cmp "$place/room.db" "$work/moved.db"

@@ -31,8 +31,8 @@ def greatest(folder):
     before, after = network(folder, "before", "no"), network(folder, "after", "yes")
     register = ["register.db", "--journal", "journal"]
     same("the greatest network", run("init", *before, "--db", *register, folder=folder)[0], 0)
-    status, told, _ = run("update", "register.db", *after, *register[1:], folder=folder)
-    same("each point is another", (status, told.count("\n")), (0, POINTS))
+    status, printed, _ = run("update", "register.db", *after, *register[1:], folder=folder)
+    same("each point is another", (status, printed.count("\n")), (0, POINTS))
     same("its line is of more than a mebibyte", (folder / "journal").stat().st_size > 1 << 20, True)
     same("an opening reads it", run("run", "--db", *register, folder=folder), (0, "", ""))
     same("verify reads it", run("verify", "register.db", "journal", *before, folder=folder), (0, "verified 1 commands\n", ""))

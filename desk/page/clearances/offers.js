@@ -1,6 +1,7 @@
 // Who may do what next with a clearance, by its phase, its present step, its holder and the staff's roles. It is what
 // the page offers; whether a command is accepted, the register alone says.
 
+import { WORK } from "../replies/command-words.js";
 import { namesOfRole } from "../shared/network.js";
 
 // The first step that is not done, with its number; null where none is left.
@@ -51,7 +52,7 @@ const OFFERS = {
   Ordered: (view, staff, operators) => [
     ...stepOffers(view, staff), ...grantOffers(view, operators), ...cancelOffers(view, "cancel the order"), ...handing(view, staff)],
   Granted: (view, staff) => [
-    { does: "work", says: "test, ground, sign crews on and off", names: [view.card.holder] },
+    { does: "work", says: WORK, names: [view.card.holder] },
     { does: "release", says: "release the clearance", names: [view.card.holder] }, ...handing(view, staff)],
   Released: (view, staff, operators) => [{ does: "restore", says: "write the restoring order", names: operators }],
   Restoring: (view, staff, operators) => [

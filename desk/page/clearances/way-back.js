@@ -1,7 +1,7 @@
 // The way back where a record is not closed: what the register answers, in words. Nothing is sent from here.
 
 import { living } from "../orders/findings-shown.js";
-import { saidOf } from "../replies/words.js";
+import { saidOf } from "../replies/command-words.js";
 import { el, panel } from "../shared/elements.js";
 import { getWayBack } from "../shared/register.js";
 import { room } from "../shared/watch.js";

@@ -33,7 +33,7 @@ function tracks(items, key, low, high, name) {
   for (const item of [...items].sort((x, y) => inner(x) - inner(y) || (high(x) - low(x)) - (high(y) - low(y)))) {
     const list = lists.get(key(item)) ?? lists.set(key(item), []).get(key(item));
     let track = 0;
-    while ((list[track] ?? []).some((had) => low(item) < high(had) && low(had) < high(item))) track++;
+    while ((list[track] ?? []).some((other) => low(item) < high(other) && low(other) < high(item))) track++;
     (list[track] ??= []).push(item);
     item[name] = track;
   }

@@ -1,13 +1,11 @@
 // The journal as a log: what each entry says in words, with the texts of steps, and the story of a record.
 
+import { COMMANDS } from "../replies/command-words.js";
 import { shortTime, span, wholeTime } from "../shared/moments.js";
 import { isLackedByBoard } from "./board-lacks.js";
 import { journal } from "./journal.js";
 
 const LATE = 60; // seconds from the stated moment to that of the machine that are said
-const numbered = ({ step }, text) => (text ? `${step} ${text}` : `${step}`);
-const points = (c) => c.points.map((point) => ` ${point}`).join("");
-const steps = (c) => c.steps.map((step) => `, ${step}`).join("");
 
 const KINDS = { sections: "section", points: "point", staff: "employee" };
 
@@ -19,21 +17,16 @@ function changedWords(changes) {
   });
 }
 
-// What a command says: the words of `gridclear journal`.
-const WORDS = {
-  request: (c) => `request ${c.section}`,
-  order: (c) => `order${points(c)}${steps(c)}`, restore: (c) => `restore${steps(c)}`, switch: (c) => `switch${steps(c)}`,
-  instruct: (c, text) => `instruct ${numbered(c, text)}`, amend: (c, text) => `amend ${numbered(c, text)}`,
-  repeat: (c, text) => `repeat ${numbered(c, text)} ${JSON.stringify(c.text)}`,
-  report: (c, text) => `report ${numbered(c, text)} ${c.done ? "done" : "not done"}`,
-  test: (c) => `test ${c.section} ${c.dead ? "dead" : "not dead"}`,
-  ground: (c) => `ground ${c.section}`, unground: (c) => `unground ${c.section}`,
-  sign_on: (c) => `sign on ${c.crew}`, sign_off: (c) => `sign off ${c.crew}`,
-  transfer: (c) => `${c.emergency ? "emergency transfer" : "transfer"} to ${c.to}`,
-  release: (c) => `release, ${c.notified ? "notified" : "not notified"}, ${c.clear ? "clear" : "not clear"}`,
-  update: (c) => `update: ${changedWords(c).join(", ") || "nothing changes"}`, archive: (c) => `archive of what was closed before ${wholeTime(c.before)}`,
-  jumper: (c) => `jumper ${c.point} from ${c.from} to ${c.to}${c.lockable ? ", lockable" : ""}${c.remote ? ", remote" : ""}`,
+// What an entry says that is no command, in the words of `gridclear journal` too.
+const OTHERS = {
+  update: (c) => `update: ${changedWords(c).join(", ") || "nothing changes"}`,
+  archive: (c) => `archive of what was closed before ${wholeTime(c.before)}`,
 };
+
+function wordsOf(command, text) {
+  const logged = COMMANDS[command.do]?.logged ?? OTHERS[command.do];
+  return logged ? logged(command, text) : command.do;
+}
 
 export function recordOf({ command, reply }) {
   return command.clearance ?? reply.card?.clearance ?? null;
@@ -66,7 +59,7 @@ function rowsOf(entries) {
     const texts = orders.get(`${id} ${round}`) ?? [];
     const text = command.step ? texts[command.step - 1] ?? repeated.get(`${id} ${round}.${command.step}`) ?? null : null;
     if (done && command.do === "amend" && text) texts[command.step - 1] = text.replace(/^CLOSE/, "LEAVE");
-    return { entry, id, round, at: command.at ?? entry.received, by: command.by, text, done, what: WORDS[command.do]?.(command, text) ?? command.do };
+    return { entry, id, round, at: command.at ?? entry.received, by: command.by, text, done, what: wordsOf(command, text) };
   });
 }
 

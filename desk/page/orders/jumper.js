@@ -44,9 +44,9 @@ export class JumperForm {
 
   // A section that is pressed on the diagram becomes the end that is missing, or no longer is one.
   toggle(name) {
-    const had = ["from", "to"].find((part) => this.#name(part) === name), free = ["from", "to"].find((part) => !this.#name(part)) ?? "to";
-    const input = this.#inputs[had ?? free];
-    input.value = had ? "" : name;
+    const end = ["from", "to"].find((part) => this.#name(part) === name), free = ["from", "to"].find((part) => !this.#name(part)) ?? "to";
+    const input = this.#inputs[end ?? free];
+    input.value = end ? "" : name;
     input.dispatchEvent(new Event("input"));
   }
 

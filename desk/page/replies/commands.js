@@ -11,10 +11,10 @@ import { postCommand } from "../shared/register.js";
 import { keepIn, readKept } from "../shared/storage.js";
 import { asOwn } from "../shared/waiting-lists.js";
 import { boardLine, lookAt, lookNow, putView, viewOf } from "../shared/watch.js";
+import { saidOf } from "./command-words.js";
 import { giveAgain } from "./give-again.js";
 import { addLost, addRefused, knownBefore, lookUp } from "./not-known.js";
 import { addReply, changeReply, onReplyAct, plainLines, repliesOf, replyOf } from "./replies.js";
-import { saidOf } from "./words.js";
 
 const FAR = 120;     // seconds off the clock that are asked about
 const PENDING = "gridclear-pending";
@@ -147,7 +147,7 @@ async function send(command) {
   const known = knownBefore(command);
   keepPending({ command, known });
   const answer = await postCommand(command), isKnown = answer.kind !== "lost" && answer.status !== 503;
-  const reply = isKnown ? addReply(replyOf(command, answer)) : noteUnknown(command, answer, known);
+  const reply = isKnown ? addReply(await replyOf(command, answer)) : noteUnknown(command, answer, known);
   keepPending(null);
   if (isKnown) return noteKnown(command, answer.body ?? {});
   await lookUp(reply);

@@ -5,7 +5,7 @@ import { grant, release } from "../clearances/grant-release.js";
 import { groundOff, signOff, signOn } from "../clearances/work.js";
 import { ask } from "../shared/question.js";
 import { viewOf } from "../shared/watch.js";
-import { saidOf } from "./words.js";
+import { saidOf } from "./command-words.js";
 
 const ASKED = {
   grant: (view, command, act) => grant(view, act),

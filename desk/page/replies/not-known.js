@@ -13,9 +13,9 @@ import { network } from "../shared/network.js";
 import { contact, noteRefused } from "../shared/register.js";
 import { asOwn } from "../shared/waiting-lists.js";
 import { boardLine, lookAt, lookNow, room, viewOf } from "../shared/watch.js";
+import { saidOf } from "./command-words.js";
 import { judgeJumper, judgeLogged, judgeNew, judgeRecord } from "./outcome.js";
 import { addReply, changeReply, line, onReplyAct, plainLines, repliesOf } from "./replies.js";
-import { saidOf } from "./words.js";
 
 const WAIT = 3000;    // between two looks
 const LOOKS = 1200;   // an hour of looks, then the operator has to look
@@ -28,7 +28,7 @@ const lineOf = (command) => boardLine(command.clearance)?.line ?? null;
 export function knownBefore(command) {
   const view = command.clearance ? viewOf(command.clearance) ?? null : null;
   const ids = [...room.closed.keys(), ...room.board.map((row) => row.id)];
-  return { view, ids, had: network.points.has(command.point), number: newestNumber(), near: isNear(command.at), line: lineOf(command) };
+  return { view, ids, existed: network.points.has(command.point), number: newestNumber(), near: isNear(command.at), line: lineOf(command) };
 }
 
 // What is new of this caller: a request or a switch order has no name before it is answered.
@@ -39,7 +39,7 @@ async function newRecords(command, known) {
 }
 
 async function judgedByBoard(command, known) {
-  if (command.do === "jumper") return judgeJumper(command, known.had, network.points.get(command.point));
+  if (command.do === "jumper") return judgeJumper(command, known.existed, network.points.get(command.point));
   if (!command.clearance) return judgeNew(command, await newRecords(command, known));
   await lookAt(command.clearance);
   return judgeRecord(command, known.view, viewOf(command.clearance), boardLine(command.clearance)?.last ?? null);

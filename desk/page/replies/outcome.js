@@ -1,147 +1,29 @@
-// What became of a command without a reply: judged by what it does, at the record as it was before and as it is now.
-// Each judgement is { found, text }: found is "yes", "no", "either" where another desk may have given the same, or
-// "unknown" where the register keeps nothing that would show it. The log, where there is one, has the reply itself.
+// What became of a command without a reply: judged by what it does (`effects`), or by the log, which has the reply itself
+// where this desk has one.
 
 import { shortTime } from "../shared/moments.js";
-import { stateWord } from "./words.js";
-
-const yes = (text) => ({ found: "yes", text });
-const no = (text) => ({ found: "no", text });
-const either = (text) => ({ found: "either", text });
-const unknown = (text) => ({ found: "unknown", text });
-
-function has(view, kind, place) {
-  return view.holds.some((hold) => hold.kind === kind && hold.place === place && hold.by === view.card.clearance);
-}
-
-// What is there now and was not before is the command's trace. What was there before shows nothing.
-function trace(was, is, { there, missing, before }) {
-  if (was) return unknown(before);
-  return is ? yes(there) : no(missing);
-}
-
-function placed(kind, word) {
-  return ({ section }, before, after) => trace(has(before, kind, section), has(after, kind, section), {
-    there: `${section} is ${word}.`, missing: `${section} is not ${word}.`, before: `${section} was ${word} before, so the register shows no difference.` });
-}
-
-function taken(kind, word) {
-  return ({ section }, before, after) => trace(!has(before, kind, section), !has(after, kind, section), {
-    there: `${section} is no longer ${word}.`, missing: `${section} is still ${word}.`,
-    before: `${section} was not ${word} before, so the register shows no difference.` });
-}
-
-function crewIs(on) {
-  return ({ crew }, before, after) => trace(before.crews.includes(crew) === on, after.crews.includes(crew) === on, {
-    there: `Crew ${crew} is ${on ? "on" : "off"}.`, missing: `Crew ${crew} is ${on ? "not" : "still"} on.`,
-    before: `Crew ${crew} was ${on ? "on" : "off"} before, so the register shows no difference.` });
-}
-
-// Whether the step has come as far as the command brings it.
-function stepIs(reached, what) {
-  return (command, before, after) => {
-    const was = before.steps[command.step - 1], step = after.steps[command.step - 1];
-    if (!was || !step || before.card.round !== after.card.round) return unknown("The record has another round of steps now.");
-    const now = `Step ${command.step} (${step.text}) is ${stateWord(step.state)}${step.reader ? `, ${step.reader}` : ""}.`;
-    return trace(reached(was, command), reached(step, command), { there: now, missing: now, before: `${now} It was ${what} before, too.` });
-  };
-}
-
-function phaseOf(command, view) {
-  return `${command.clearance} is ${view.card.phase}.`;
-}
-
-// A record that is Released or further on may have been granted, or cancelled before a grant.
-function granted(command, before, after) {
-  const text = phaseOf(command, after), { phase } = after.card;
-  if (before.card.phase !== "Ordered") return unknown(text);
-  if (phase === "Ordered") return no(text);
-  return phase === "Granted" ? yes(text) : unknown(`${text} It was released since, or cancelled.`);
-}
-
-function released(command, before, after) {
-  const text = phaseOf(command, after);
-  if (before.card.phase !== "Granted") return unknown(text);
-  return after.card.phase === "Granted" ? no(text) : yes(text);
-}
-
-// Where a step is left, nothing but a cancel ends a switch order, or gives back what was ordered.
-function cancelled(command, before, after) {
-  const text = phaseOf(command, after), { phase } = after.card;
-  const over = phase === "Released" || phase === "Closed";
-  if (!over) return phase === "Restoring" ? unknown(text) : no(text);
-  if (before.card.phase === phase) return unknown(text);
-  const ended = after.steps.length > 0 && after.steps.every((step) => step.state === "Done");
-  return ended ? unknown(`${text} All its steps are done, which may have ended it too.`) : yes(text);
-}
-
-// An order's steps, where a CLOSE may have been amended since.
-function sameSteps(steps, view) {
-  const plain = (text) => text.replace(/^(CLOSE|LEAVE) /, "END ");
-  return steps.length === view.steps.length && steps.every((text, place) => plain(text) === plain(view.steps[place].text));
-}
-
-// An order is written once in a round: another's steps there are none of this command.
-function ordered(phase, round) {
-  return (command, before, after) => {
-    const text = phaseOf(command, after);
-    if (before.card.phase !== phase) return unknown(text);
-    if (after.card.round < round) return no(text);
-    if (after.card.round > round) return unknown(`${text} It has a restoring order by now.`);
-    return sameSteps(command.steps, after) ? yes(`${text} Its steps are those of this order.`) : no(`${text} Its steps are another order's.`);
-  };
-}
-
-// A test that is gone may have gone with its ground.
-function foundLive(command, before, after) {
-  const withGround = has(before, "Ground", command.section) && !has(after, "Ground", command.section);
-  return withGround ? unknown(`${command.section} has neither test nor ground now.`) : taken("Tested", "tested dead")(command, before, after);
-}
-
-const JUDGES = {
-  order: ordered("Requested", 1),
-  restore: ordered("Released", 2),
-  instruct: stepIs((step) => step.state !== "Waiting", "given out"),
-  repeat: stepIs((step, { by }) => step.reader === by, "repeated by the same"),
-  report: stepIs((step, { done }) => step.state === (done ? "Done" : "Waiting"), "so"),
-  amend: stepIs((step) => step.text.startsWith("LEAVE "), "a LEAVE"),
-  grant: granted,
-  release: released,
-  cancel: cancelled,
-  test: (command, before, after) => (command.dead ? placed("Tested", "tested dead") : foundLive)(command, before, after),
-  ground: placed("Ground", "grounded"),
-  unground: taken("Ground", "grounded"),
-  sign_on: crewIs(true),
-  sign_off: crewIs(false),
-  transfer: ({ to }, before, after) => trace(before.card.holder === to, after.card.holder === to, {
-    there: `Its holder is ${to}.`, missing: `Its holder is ${after.card.holder}.`, before: `Its holder was ${to} before, too.` }),
-};
-
-// What undoes itself: a later command of another desk may have taken the trace away again.
-const UNDONE_BY = {
-  instruct: "reported as not done", report: "given out again", repeat: "repeated by another",
-  sign_on: "signed off", sign_off: "signed on", ground: "taken off", unground: "put on", test: "tested again", transfer: "handed on",
-};
+import { COMMANDS } from "./command-words.js";
+import { either, no, sameSteps, unknown, yes } from "./effects.js";
 
 // A command about a record: `before` is its view from before the command, null where none was known; `last` the last
 // moment of the record now, null where it is not on the board.
 export function judgeRecord(command, before, after, last) {
   if (!after) return unknown(`${command.clearance} could not be looked at: show it before you go on.`);
   if (!before) return unknown(`${command.clearance} was not known before the command: look at it before you go on.`);
-  const { found, text } = JUDGES[command.do](command, before, after);
+  const { effect, undone } = COMMANDS[command.do], { found, text } = effect(command, before, after);
   if (found === "yes" && last !== null && last !== command.at) {
     return either(`${text} The last moment is ${shortTime(last)}, not that of this command.`);
   }
   const later = last !== null && last > command.at;
-  if (found === "no" && later && UNDONE_BY[command.do] && !(command.do === "report" && command.done)) {
-    return unknown(`${text} A later command was carried out, at ${shortTime(last)}: this one may have been, and then ${UNDONE_BY[command.do]}.`);
+  if (found === "no" && later && undone && !(command.do === "report" && command.done)) {
+    return unknown(`${text} A later command was carried out, at ${shortTime(last)}: this one may have been, and then ${undone}.`);
   }
   return { found, text };
 }
 
-// A jumper: `had` is whether a point of its name was there before, `point` that which is there now.
-export function judgeJumper(command, had, point) {
-  if (had) return unknown(`${command.point} was in the network before.`);
+// A jumper: `existed` is whether a point of its name was there before, `point` that which is there now.
+export function judgeJumper(command, existed, point) {
+  if (existed) return unknown(`${command.point} was in the network before.`);
   if (!point) return no(`The network has no ${command.point}.`);
   const fits = ["from", "to", "lockable", "remote"].every((part) => point[part] === command[part]);
   return fits ? yes(`${command.point} is in the network, between ${point.from} and ${point.to}.`) : no(`The network has another ${command.point}, between ${point.from} and ${point.to}.`);

@@ -1,39 +1,34 @@
-// What each refusal means, and what to do. Written by tools/refusal-table from docs/RULES.md.
+// What each refusal means, and what to do, by the table of docs/RULES.md. RULES.md lies beside this file, as a link to that
+// one or a copy of it.
 
-export const REFUSALS = {
-  UNKNOWN_CALLER: ["The caller, by, is not in the staff.", "Use a name of the staff list; an update of the register changes it."],
-  WRONG_ROLE: ["The caller has another role than this command asks for.", "Let somebody of that role give it."],
-  UNKNOWN_SECTION: ["The network has no such section.", "Look at the section's name."],
-  TOO_MANY_CLEARANCES: ["The caller's greatest number is 9,999.", "Let another employee ask, and transfer it if need be: numbers are never used again."],
-  UNKNOWN_CLEARANCE: ["The register has no clearance or switch order of this name.", "Look at the board: a refused request made none."],
-  NOT_HOLDER: ["The caller is not the present holder; in a transfer, nor the holder's supervisor in an emergency.", "Let the holder give it, whom show names, or have the clearance transferred first."],
-  EARLIER: ["The moment of the command, at, is before the record's last moment.", "The board has the last moment. Give it again with a moment that is not before it (a wrong at)."],
-  WRONG_PHASE: ["The phase is not one in which this may be given.", "show has the phase: give first what comes before."],
-  EMPTY_ORDER: ["An order has no points, or a restore or switch no steps.", "Name at least one. A section that no point joins to others cannot have an order."],
-  LONG_ORDER: ["An order has more than 64 points, or there are more than 256 steps.", "Order a smaller part, or split a switch order."],
-  POINT_TWICE: ["A point is given twice in points.", "Give it once."],
-  SOURCE_INSIDE: ["A source can be reached from the work section without passing a point of the order.", "Add a point on each way to it. An open point is a way too, and the way may begin far from the source. gridclear fence SECTIONS POINTS WORK CUT... prints what these points leave together: the section that does not belong there shows the way. A work section that is a source cannot have an order: cancel the request."],
-  NOT_ON_FENCE: ["A point of the order is unknown, or has both ends inside the fence, or none.", "Look at its name; or leave it out; or, where it is inside, cut the way round it too."],
-  STEPS_WRONG: ["The steps at a point are not exactly those of an isolating or restoring order, or it is no point of the order; switch: a step is neither OPEN nor CLOSE.", "Isolating: OPEN, BLOCK if lockable, CONTROL if remote, TAG. Restoring: UNTAG, UNCONTROL, UNBLOCK for what show has there, then CLOSE or LEAVE. The reply is the same for a missing step, one too many, a wrong sequence and a point without steps."],
-  UNKNOWN_POINT: ["The network has no such point (switch alone).", "Look at the point's name."],
-  NO_STEP: ["The present round has no step of this number.", "The printed order numbers the steps, from 1."],
-  OUT_OF_TURN: ["An earlier step of the round is not Done.", "Run the earlier steps first."],
-  STEP_STATE: ["The step is not in the state that the command needs; cancel: a step is given out; amend: it is no CLOSE that waits.", "show has the states. A step is given out while it waits, repeated when it was given out, and reported when it was repeated. Before a cancel let the step be repeated and reported, done or not."],
-  IN_HAND: ["Another clearance has the point in hand: its step there is given out.", "Wait for its report."],
-  HELD: ["The point is to be closed, and a hold is there.", "Wait until it is off; or amend the CLOSE of a restoring order; or cancel the switch order."],
-  REPEAT_DIFFERS: ["The text is not the step's.", "The operator reads the step out again from the printed order or show; then repeat it."],
-  WRONG_REPORTER: ["Another employee repeated the step last.", "Let that one report; or repeat it, and report it then."],
-  STEPS_LEFT: ["A step of round 1 is not Done.", "Run the steps that are left."],
-  OUTSIDE_FENCE: ["The section is not in the clearance's fence, or is unknown.", "show has the fence. Work elsewhere needs its own clearance."],
-  NOT_TESTED: ["This clearance has not found the section dead: ground there, sign_on at the work section.", "Test it. Another's test does not serve, and unground took its own."],
-  GROUNDED: ["This clearance's own ground is on: there (ground), anywhere (release).", "For a ground there is nothing to do; before a release take the grounds off."],
-  NOT_GROUNDED: ["This clearance's own ground is not on: there (unground), at the work section (sign_on).", "Look at the section; or ground the work section first."],
-  CREWS_ON: ["A crew is on: release, unground of the work section.", "Sign the crews off when they have left."],
-  CREW_STATE: ["The crew is on already, or is not on.", "show has the crews: look at the spelling."],
-  BAD_TRANSFER: ["The new holder, to, is unknown, not of role charge, or the holder already.", "Name another of role charge."],
-  NOT_ATTESTED: ["It is not attested that all employees are notified and clear: notified or clear is false.", "Notify all employees, see that all are clear, and state both."],
-  POINT_EXISTS: ["The network has a point of this name.", "Give the jumper another name."],
-  CROSSES_FENCE: ["Exactly one end lies in the fence of a clearance that is Ordered, Granted, Released or Restoring; a new section lies in none.", "It would be a way in that no step of that clearance guards. Lay it when that one is Closed, or between two sections of its fence."],
-  NETWORK_FULL: ["There would be over 10,000 points or 5,000 sections.", "An update takes out what is no longer there. A network beyond the limits is two registers."],
-  SAME_ENDS: ["Both ends, from and to, are one section.", "Name two sections."],
-};
+const ROW = /^\| \d+ \| ([A-Z_]+) \| (.*) \|.*\| (.*) \|$/gm; // number, name, where it applies, what it names, what to do
+const PATIENCE = 10000; // milliseconds
+
+let reading = null;
+
+// A text of the table without the marks of Markdown.
+function plain(text) {
+  return text.replace(/\[([^\]]*)\]\([^)]*\)/g, "$1").replaceAll("`", "");
+}
+
+// Of each refusal by its name, the two texts.
+export function refusalsOf(rules) {
+  return new Map([...rules.matchAll(ROW)].map(([, name, means, todo]) => [name, [plain(means), plain(todo)]]));
+}
+
+async function read() {
+  try {
+    const answer = await fetch(new URL("RULES.md", import.meta.url), { signal: AbortSignal.timeout(PATIENCE) });
+    if (answer.ok) return refusalsOf(await answer.text());
+  } catch {
+    // A refusal is shown without these words then.
+  }
+  reading = null;
+  return new Map();
+}
+
+// The table: read once, and again where no answer came; it is empty then.
+export function readRefusals() {
+  reading ??= read();
+  return reading;
+}

@@ -4,7 +4,8 @@
 import { el, button, panel } from "../shared/elements.js";
 import { now, shortTime, wholeTime } from "../shared/moments.js";
 import { keepIn, readKept } from "../shared/storage.js";
-import { cardWords, faultWords, refusalWords, saidOf, statusWords } from "./words.js";
+import { saidOf } from "./command-words.js";
+import { cardWords, faultWords, refusalWords, statusWords } from "./words.js";
 
 const STORED = "gridclear-replies", MOST = 20;
 const replies = readKept("sessionStorage", STORED) ?? [];
@@ -116,15 +117,15 @@ export function repliesOf(kind) {
 }
 
 // What the register answered to a command, or the proxy in its place.
-export function replyOf(command, answer) {
+export async function replyOf(command, answer) {
   const clearance = answer.body?.card?.clearance ?? command.clearance;
-  return { said: saidOf(command), clearance, ...answered(answer) };
+  return { said: saidOf(command), clearance, ...await answered(answer) };
 }
 
-function answered({ kind, status, body }) {
+async function answered({ kind, status, body }) {
   if (kind === "barred") return { kind: "fault", lines: refusedLines(statusWords(status)) };
   if (body.reply === "accepted") return { kind: "accepted", lines: plainLines(cardWords(body.card)) };
   if (body.reply === "added") return { kind: "accepted", lines: plainLines(`Jumper ${body.point} is in the register, open.`) };
-  if (body.reply === "refused") return { kind: "refused", lines: refusedLines(refusalWords(body)) };
+  if (body.reply === "refused") return { kind: "refused", lines: refusedLines(await refusalWords(body)) };
   return { kind: "fault", lines: refusedLines(faultWords(status, body)) };
 }

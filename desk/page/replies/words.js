@@ -1,4 +1,4 @@
-import { REFUSALS } from "./refusals.js";
+import { readRefusals } from "./refusals.js";
 
 // Each fault and status in words: what it means, and what to do.
 
@@ -69,8 +69,8 @@ function namedBy(body) {
 }
 
 // A refusal or fault as { name, named, means, todo }.
-export function refusalWords(body) {
-  const [means, todo] = REFUSALS[body.refusal] ?? ["The register refused.", "Look at the clearance."];
+export async function refusalWords(body) {
+  const [means, todo] = (await readRefusals()).get(body.refusal) ?? ["The register refused.", "Look at the clearance."];
   return { name: `${body.refusal}, number ${body.number}`, named: namedBy(body), means, todo };
 }
 
@@ -83,32 +83,6 @@ export function faultWords(status, body) {
 export function statusWords(status) {
   const [means, todo] = STATUSES[status] ?? [`The proxy answered with the status ${status}.`, "Report it to whoever keeps this desk."];
   return { name: `status ${status}`, named: "not passed on to the register", means, todo };
-}
-
-// A command as one would say it.
-const SAID = {
-  request: (c) => `request section ${c.section}`,
-  order: (c) => `order ${c.clearance}: points ${c.points.join(", ")}, ${c.steps.length} steps`,
-  instruct: (c) => `instruct step ${c.step} of ${c.clearance}`,
-  repeat: (c) => `repeat step ${c.step} of ${c.clearance}: “${c.text}”`,
-  report: (c) => `report step ${c.step} of ${c.clearance} ${c.done ? "done" : "not done"}`,
-  grant: (c) => `grant ${c.clearance}`,
-  cancel: (c) => `cancel ${c.clearance}`,
-  test: (c) => `test ${c.section} under ${c.clearance}: ${c.dead ? "dead" : "live"}`,
-  ground: (c) => `ground ${c.section} under ${c.clearance}`,
-  unground: (c) => `take the ground off ${c.section} under ${c.clearance}`,
-  sign_on: (c) => `sign crew ${c.crew} on to ${c.clearance}`,
-  sign_off: (c) => `sign crew ${c.crew} off from ${c.clearance}`,
-  transfer: (c) => `transfer ${c.clearance} to ${c.to}${c.emergency ? ", emergency" : ""}`,
-  release: (c) => `release ${c.clearance}`,
-  restore: (c) => `restore ${c.clearance}: ${c.steps.length} steps`,
-  amend: (c) => `amend step ${c.step} of ${c.clearance} to LEAVE`,
-  jumper: (c) => `add jumper ${c.point} between ${c.from} and ${c.to}${c.lockable ? ", lockable" : ""}${c.remote ? ", remote" : ""}`,
-  switch: (c) => `switch order: ${c.steps.join(", ")}`,
-};
-
-export function saidOf(command) {
-  return `${command.by}: ${SAID[command.do](command)}`;
 }
 
 export function cardWords(card) {

@@ -73,7 +73,7 @@ function noteView(id, view) {
 
 // What the register shows now: `room` as the watch has it.
 export function noteRoom(room) {
-  const had = JSON.stringify([...own.values()]);
+  const kept = JSON.stringify([...own.values()]);
   for (const [id, view] of room.views) if (before.get(id)?.view !== view) noteView(id, view);
   if (room.read !== null) {
     const phases = new Map(room.board.map((row) => [row.id, row.phase]));
@@ -81,7 +81,7 @@ export function noteRoom(room) {
     for (const id of over) drop(id, () => true);
     for (const id of before.keys()) if (!phases.has(id)) before.delete(id);
   }
-  if (JSON.stringify([...own.values()]) !== had) keep();
+  if (JSON.stringify([...own.values()]) !== kept) keep();
 }
 
 // All alarms, as { id, section }.

@@ -1,7 +1,7 @@
 // On every page: whether the register answers, whether the clocks agree, and the alarms.
 
 import { lacking } from "../log/board-lacks.js";
-import { saidOf } from "../replies/words.js";
+import { saidOf } from "../replies/command-words.js";
 import { clockWords } from "./clocks.js";
 import { el, panel } from "./elements.js";
 import { alarms } from "./live-alarms.js";
