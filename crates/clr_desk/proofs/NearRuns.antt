@@ -9,7 +9,8 @@ use Rattle.clr_rules.specs.Register.{Register}
 use Rattle.clr_rules.specs.RunHeadline.{with_reply}
 use Rattle.clr_rules.specs.declared.command.Command.{Command}
 use Rattle.clr_rules.specs.declared.reply.Reply.{Reply}
-use Rattle.clr_desk.specs.Asking.{near_after, near_answer, near_network}
+use Rattle.clr_own.specs.Own.{asked_answer}
+use Rattle.clr_desk.specs.Asking.{near_after, near_network}
 use Rattle.clr_desk.specs.NearRun.{IsNearRun, near_after_all, near_network_all, near_replies}
 
 after_all-append : (R : Register) (earlier : List Command) (q : Command)
@@ -19,10 +20,10 @@ after_all-append R [] q = refl
 after_all-append R (p ∷ earlier) q = after_all-append (near_after R p) earlier q
 
 replies-append : (R : Register) (earlier : List Command) (q : Command)
-    → near_replies R (earlier ++ q ∷ []) ≡ near_replies R earlier ++ Answer.reply (near_answer (near_after_all R earlier) q) ∷ []
+    → near_replies R (earlier ++ q ∷ []) ≡ near_replies R earlier ++ Answer.reply (asked_answer (near_after_all R earlier) q) ∷ []
 unfolding near_replies near_after_all
 replies-append R [] q = refl
-replies-append R (p ∷ earlier) q = ap (λ rest. Answer.reply (near_answer R p) ∷ rest) (replies-append (near_after R p) earlier q)
+replies-append R (p ∷ earlier) q = ap (λ rest. Answer.reply (asked_answer R p) ∷ rest) (replies-append (near_after R p) earlier q)
 
 pub near_run_of_none : (R : Register) (done : List Command) (told : List Reply) → done ≡ [] → told ≡ [] → IsNearRun R done told R
 unfolding near_replies near_after_all
@@ -32,16 +33,16 @@ near_run_of_none R done told none no_reply = record {
 }
 
 near_run_of_more : (R X Y : Register) (done : List Command) (q : Command) (told : List Reply) (reply : Reply) → IsNearRun R done told X
-    → reply ≡ Answer.reply (near_answer X q) → Y ≡ near_after X q → IsNearRun R (done ++ q ∷ []) (told ++ reply ∷ []) Y
+    → reply ≡ Answer.reply (asked_answer X q) → Y ≡ near_after X q → IsNearRun R (done ++ q ∷ []) (told ++ reply ∷ []) Y
 near_run_of_more R X Y done q told reply run is left = record {
-  replied = (λ i. run.replied i ++ is i ∷ []) ∙ ap (λ (Z : Register). near_replies R done ++ Answer.reply (near_answer Z q) ∷ []) run.register
+  replied = (λ i. run.replied i ++ is i ∷ []) ∙ ap (λ (Z : Register). near_replies R done ++ Answer.reply (asked_answer Z q) ∷ []) run.register
       ∙ sym (replies-append R done q);
   register = left ∙ ap (λ (Z : Register). near_after Z q) run.register ∙ sym (after_all-append R done q);
 }
 
 -- the command at a place, after those before it
 pub near_run_of_next : (R X Y : Register) (commands : List Command) (i : ℕ) (q : Command) (told more : List Reply) (reply : Reply) → i < length commands
-    → q ≡ get_or commands i q → more ≡ told ++ reply ∷ [] → IsNearRun R (take i commands) told X → reply ≡ Answer.reply (near_answer X q)
+    → q ≡ get_or commands i q → more ≡ told ++ reply ∷ [] → IsNearRun R (take i commands) told X → reply ≡ Answer.reply (asked_answer X q)
     → Y ≡ near_after X q → IsNearRun R (take (i + 1) commands) more Y
 near_run_of_next R X Y commands i q told more reply within at grown run is left =
     let split : take i commands ++ q ∷ [] ≡ take (i + 1) commands =

@@ -7,15 +7,11 @@ use Rattle.clr_rules.specs.declared.command.Command.{Command}
 use Rattle.clr_book.specs.Growth.{network_after_all}
 use Rattle.clr_own.specs.Own.{asked_answer}
 
--- the answer from what the command looks at, which is near it; of a good register that is the answer
--- of the whole register
-abbrev pub near_answer : Register → Command → Answer
-near_answer R q = asked_answer R q
-
--- the register with the edits of that answer
+-- the register with the edits of the answer from what the command looks at; of a good register that
+-- is the answer of the whole register
 abbrev pub near_after : Register → Command → Register
-near_after R q = after_edits (Answer.edits (near_answer R q)) R
+near_after R q = after_edits (Answer.edits (asked_answer R q)) R
 
 -- a network whose rows have positions, with what those edits add
 abbrev pub near_network : Register → Command → Grid → Grid
-near_network R q g = network_after_all (Answer.edits (near_answer R q)) g
+near_network R q g = network_after_all (Answer.edits (asked_answer R q)) g

@@ -15,7 +15,8 @@ use Rattle.clr_tables.specs.Tables.{tables_of}
 use Rattle.clr_tables.specs.TypedRows.{is_typed_command}
 use Rattle.clr_desk.specs.Answering.{has_accepted}
 use Rattle.clr_desk.specs.Commit.{Stays}
-use Rattle.clr_desk.specs.Asking.{near_after, near_answer, near_network}
+use Rattle.clr_own.specs.Own.{asked_answer}
+use Rattle.clr_desk.specs.Asking.{near_after, near_network}
 use Rattle.clr_desk.specs.Crash.{AreAfter}
 use Rattle.clr_desk.specs.Faults.{IsOfKeeper}
 use Rattle.clr_desk.specs.declared.desk.Desk.{Desk}
@@ -24,8 +25,8 @@ use Rattle.clr_desk.specs.declared.desk_fault.DeskFault.{DeskFault}
 -- A DESK CARRIES OUT A COMMAND, and what came of it is this
 pub record CarriesOut {K : Type 0} (kept : K → State) (fails : DeskFault → Type 0)
     (old new : Desk K) (q : Command) (result : Result Reply DeskFault) : Type 0 where
-  -- the reply and the register are those of the command's near part, whatever the register,
-  pub near : IfOk result (λ reply. reply ≡ Answer.reply (near_answer old.book.register q))
+  -- the reply and the register are those of what the command looks at, whatever the register,
+  pub near : IfOk result (λ reply. reply ≡ Answer.reply (asked_answer old.book.register q))
   pub changed : OnOk result (new.book.register ≡ near_after old.book.register q)
   -- and of a good register those of the whole register
   pub reply : IsGood old.book.register

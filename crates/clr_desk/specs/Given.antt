@@ -6,7 +6,8 @@ use Rattle.clr_rules.specs.Register.{Register}
 use Rattle.clr_rules.specs.declared.command.Command.{Command}
 use Rattle.clr_rules.specs.declared.reply.Reply.{Reply}
 use Rattle.clr_desk.specs.Answering.{has_accepted}
-use Rattle.clr_desk.specs.Asking.{near_after, near_answer}
+use Rattle.clr_own.specs.Own.{asked_answer}
+use Rattle.clr_desk.specs.Asking.{near_after}
 use Rattle.clr_desk.specs.Kept.{Keeps}
 use Rattle.clr_desk.specs.Taking.{Hearing, Taking, TakesOne}
 use Rattle.clr_desk.specs.declared.desk.Desk.{Desk}
@@ -17,11 +18,11 @@ pub data Given : Type 0 where
   command : Command → Result Reply DeskFault → Given
   login : Option (List ℕ) → Given
 
--- a command: the reply and the register are those of its near part, a fault leaves the register,
+-- a command: the reply and the register are those of what it looks at, a fault leaves the register,
 -- and the keeper was called as is said of one command
 pub record IsAnswered {K : Type 0} (takes : Taking K) (R : Register) (k : K) (q : Command)
     (result : Result Reply DeskFault) (S : Register) (l : K) : Type 0 where
-  pub reply : IfOk result (λ reply. reply ≡ Answer.reply (near_answer R q))
+  pub reply : IfOk result (λ reply. reply ≡ Answer.reply (asked_answer R q))
   pub register : OnOk result (S ≡ near_after R q)
   pub unchanged : has_accepted result ≡ false → S ≡ R
   pub taken : TakesOne takes R k q result l

@@ -1,18 +1,19 @@
--- A RUN OF ANY REGISTER, also of one that no commands make: each command is answered from its near
--- part. Of a good register that is the run.
+-- A RUN OF ANY REGISTER, also of one that no commands make: each command is answered from what it
+-- looks at. Of a good register that is the run.
 use Rattle.std.specs.Prelude.{◌≡◌, List, [], ◌∷◌}
 use Rattle.clr_net.specs.Grid.{Grid}
 use Rattle.clr_rules.specs.Answer.{Answer}
 use Rattle.clr_rules.specs.Register.{Register}
 use Rattle.clr_rules.specs.declared.command.Command.{Command}
 use Rattle.clr_rules.specs.declared.reply.Reply.{Reply}
-use Rattle.clr_desk.specs.Asking.{near_after, near_answer, near_network}
+use Rattle.clr_own.specs.Own.{asked_answer}
+use Rattle.clr_desk.specs.Asking.{near_after, near_network}
 
 -- the replies
 unfoldable pub near_replies : Register → List Command → List Reply
 near_replies R [] = []
 near_replies R (q ∷ commands) =
-    Answer.reply (near_answer R q) ∷ near_replies (near_after R q) commands
+    Answer.reply (asked_answer R q) ∷ near_replies (near_after R q) commands
 
 -- the register that is left
 unfoldable pub near_after_all : Register → List Command → Register

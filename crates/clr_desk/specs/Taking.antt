@@ -9,7 +9,7 @@ use Rattle.clr_rules.specs.Register.{Register}
 use Rattle.clr_rules.specs.declared.command.Command.{Command}
 use Rattle.clr_rules.specs.declared.reply.Reply.{Reply}
 use Rattle.clr_rules.specs.declared.reply.Reply.TheVariants.{Accepted, Shown, Refused, Added}
-use Rattle.clr_desk.specs.Asking.{near_answer}
+use Rattle.clr_own.specs.Own.{asked_answer}
 use Rattle.clr_desk.specs.declared.desk_fault.DeskFault.{DeskFault}
 use Rattle.clr_desk.specs.declared.desk_fault.DeskFault.TheVariants.{NoMemory}
 
@@ -45,7 +45,7 @@ abbrev pub TakesOne : {K : Type 0} → Taking K → Register → K → Command �
     → K → Type 0
 TakesOne takes R old q (Ok reply) new = Takes takes old q reply (Ok tt) new
 TakesOne takes R old q (Err fault) new = ((fault ≡ NoMemory) × (new ≡ old))
-    ⊎ Takes takes old q (Answer.reply (near_answer R q)) (Err fault) new
+    ⊎ Takes takes old q (Answer.reply (asked_answer R q)) (Err fault) new
 
 -- the first commands of a list, one after the other, with these replies
 unfoldable pub TakesAll : {K : Type 0} → Taking K → K → List Command → List Reply → K → Type 0

@@ -4,7 +4,7 @@ ghost use Rattle.std.specs.Prelude.{◌≡◌, true, IfOk};
 ghost use Rattle.clr_answer.specs.Decision.{ChangesIfAccepted, answer_of_decision};
 ghost use Rattle.clr_book.specs.Book.{Fits, needs};
 ghost use Rattle.clr_rules.specs.Edits.{fit};
-ghost use Rattle.clr_desk.specs.Asking.{near_answer};
+ghost use Rattle.clr_own.specs.Own.{asked_answer};
 
 use crate::book::DeskBook;
 use clr_answer::Decision;
@@ -18,7 +18,7 @@ use std::alloc::AllocError;
 /// Where memory runs out the book has the rows that it had, and so has its network.
 pub(crate) fn prepare(book: &mut DeskBook, command: &Command) -> Result<Decision, AllocError>
     ensures answer { IfOk result
-        (λ d. answer_of_decision d ≡ near_answer book.old.register command.now) }
+        (λ d. answer_of_decision d ≡ asked_answer book.old.register command.now) }
     ensures nothing { IfOk result ChangesIfAccepted }
     ensures fits { IfOk result (λ d. fit book.new.register.net d.change.edits.items ≡ true) }
     ensures room { IfOk result (λ d. Fits (needs d.change.edits.items) book.new.room) }

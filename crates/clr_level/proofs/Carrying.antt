@@ -15,7 +15,8 @@ use Rattle.clr_book.specs.Book.{Shelved}
 use Rattle.clr_place.specs.declared.place.Place.{Place}
 use Rattle.clr_tables.specs.Tables.{tables_of}
 use Rattle.clr_load.specs.Stored.{HasTables}
-use Rattle.clr_desk.specs.Asking.{near_after, near_answer}
+use Rattle.clr_own.specs.Own.{asked_answer}
+use Rattle.clr_desk.specs.Asking.{near_after}
 use Rattle.clr_desk.specs.Carrying.{CarriesOut}
 use Rattle.clr_desk.specs.Commit.{Stays}
 use Rattle.clr_desk.specs.Crash.{AreAfter}
@@ -92,7 +93,7 @@ module _ {K : Type 0} (takes : Taking K) (kept : K → State) (has_place : Placi
       → TakesOne (Carries takes kept has_place) R old q result new → TakesOne takes R old.keeper q result new.keeper
   one_below R old new q (Ok reply) taken = takes_below old new q reply (Ok tt) taken
   one_below R old new q (Err fault) (inl out) = inl (out.0, ap (λ (it : Placed K). it.keeper) out.1)
-  one_below R old new q (Err fault) (inr taken) = inr (takes_below old new q (Answer.reply (near_answer R q)) (Err fault) taken)
+  one_below R old new q (Err fault) (inr taken) = inr (takes_below old new q (Answer.reply (asked_answer R q)) (Err fault) taken)
 
   takes_place : (old new : Placed K) (q : Command) (reply : Reply) (came : Came) → Takes (Carries takes kept has_place) old q reply came new → new.place ≡ old.place
   takes_place old new q (Accepted card) came taken = taken.same
@@ -104,7 +105,7 @@ module _ {K : Type 0} (takes : Taking K) (kept : K → State) (has_place : Placi
       → TakesOne (Carries takes kept has_place) R old q result new → new.place ≡ old.place
   same_place R old new q (Ok reply) taken = takes_place old new q reply (Ok tt) taken
   same_place R old new q (Err fault) (inl out) = ap (λ (it : Placed K). it.place) out.1
-  same_place R old new q (Err fault) (inr taken) = takes_place old new q (Answer.reply (near_answer R q)) (Err fault) taken
+  same_place R old new q (Err fault) (inr taken) = takes_place old new q (Answer.reply (asked_answer R q)) (Err fault) taken
 
   takes_comes : (old new : Placed K) (q : Command) (reply : Reply) → is_accepted reply ≡ true → Takes (Carries takes kept has_place) old q reply (Ok tt) new
       → ComesTo has_place (kept old.keeper) (kept new.keeper) old.place
@@ -132,7 +133,7 @@ module _ {K : Type 0} (takes : Taking K) (kept : K → State) (has_place : Placi
   one_stays R old new q (Ok reply) taken = tt
   one_stays R old new q (Err fault) (inl out) =
       subst (λ (it : Placed K). StaysShown (kept old.keeper) (kept it.keeper)) (sym out.1) (shown_itself (kept old.keeper))
-  one_stays R old new q (Err fault) (inr taken) = takes_stays old new q (Answer.reply (near_answer R q)) fault taken
+  one_stays R old new q (Err fault) (inr taken) = takes_stays old new q (Answer.reply (asked_answer R q)) fault taken
 
   takes_left : (old new : Placed K) (q : Command) (reply : Reply) (came : Came) → Takes (Carries takes kept has_place) old q reply came new
       → Survives (kept old.keeper) (kept new.keeper) (ArePlacedAt has_place (kept old.keeper).now old.place)
@@ -150,7 +151,7 @@ module _ {K : Type 0} (takes : Taking K) (kept : K → State) (has_place : Placi
   one_left R old new q (Err fault) (inl out) =
       subst (λ (it : Placed K). Survives (kept old.keeper) (kept it.keeper) (ArePlacedAt has_place (kept old.keeper).now old.place)) (sym out.1)
       (left_itself (kept old.keeper) (ArePlacedAt has_place (kept old.keeper).now old.place))
-  one_left R old new q (Err fault) (inr taken) = takes_left old new q (Answer.reply (near_answer R q)) (Err fault) taken
+  one_left R old new q (Err fault) (inr taken) = takes_left old new q (Answer.reply (asked_answer R q)) (Err fault) taken
 
   -- ---- the desk below
 

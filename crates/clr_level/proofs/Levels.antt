@@ -27,7 +27,7 @@ use Rattle.clr_chain.specs.First.{first_turn_at}
 use Rattle.clr_chain.specs.Laws.{line_at}
 use Rattle.clr_chain.specs.Level.{IsLevel, IsRunOf, place_after, place_with}
 use Rattle.clr_chain.proofs.LevelKept.{carried_out-append, steps_keep}
-use Rattle.clr_desk.specs.Asking.{near_answer}
+use Rattle.clr_own.specs.Own.{asked_answer}
 use Rattle.clr_desk.specs.Given.{AreGiven, Given, IsAnswered, command, login}
 use Rattle.clr_desk.specs.Taking.{Takes, Taking}
 use Rattle.clr_desk.specs.declared.desk_fault.DeskFault.{DeskFault}
@@ -132,7 +132,7 @@ module _ (first : Register) (start place : Place) (R : Register) where
   said_of Owed bytes at more certain up due = withdrawal_more bytes at more up due
   said_of Doubtful bytes at more certain up due = absurd (cc certain)
 
-  -- a line of a command that is carried out is had
+  -- once a deed is carried out, its line is no longer ahead of the register
   pub had_more : (bytes : List ℕ) (at : Place) (more : List Entry) (receipt : Receipt) (q : Deed) (S : Register)
       → (up : IsUpTo first start place R bytes at (more ++ line_at R receipt q ∷ [])) → carried_out more ≡ []
       → is_accepted (deed_reply R q) ≡ true → S ≡ after_deed R q → IsUpTo first start at S bytes at []
@@ -402,7 +402,7 @@ module _ {K J C : Type 0} (kept : K → State) (has_place : Placing) (text : J �
         subst (λ (X : Register). Level X new) (sym (is.unchanged refl)) (at is.taken)
       where
         due : Reply
-        due = Answer.reply (near_answer R q)
+        due = Answer.reply (asked_answer R q)
 
         whole_due : due ≡ Answer.reply (answer R q)
         whole_due = ap (λ (a : Answer). a.reply) (near_is_whole R q (good_now R old good level))

@@ -16,7 +16,7 @@ use Rattle.clr_journal.specs.Journals.{carried_out}
 use Rattle.clr_chain.specs.Chain.{chain_text}
 use Rattle.clr_chain.specs.Level.{IsRunOf, place_after}
 use Rattle.clr_chain.proofs.LevelKept.{carried_out-append}
-use Rattle.clr_desk.specs.Asking.{near_answer}
+use Rattle.clr_own.specs.Own.{asked_answer}
 use Rattle.clr_desk.specs.Given.{AreGiven, Given, IsAnswered, command, login}
 use Rattle.clr_desk.specs.Placing.{Placing}
 use Rattle.clr_desk.specs.Taking.{Takes, Taking, TakesOne}
@@ -96,7 +96,7 @@ module _ {K J C : Type 0} (takes : Taking K) (kept : K → State) (has_place : P
     where
       at : TakesOne It R old q (Err fault) new → Safe S new
       at (inl (memory, same)) = as_it_was R S old new (is.unchanged refl) same safe
-      at (inr taken) = missed R S old new q (Answer.reply (near_answer R q)) fault (is.unchanged refl) taken safe
+      at (inr taken) = missed R S old new q (Answer.reply (asked_answer R q)) fault (is.unchanged refl) taken safe
 
   login_safe : (R S : Register) (old new : Keeper K J C) (it : Option (List ℕ)) → S ≡ R → HearsLogin old it new → Safe R old → Safe S new
   login_safe R S old new it same heard safe =

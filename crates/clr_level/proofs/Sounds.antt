@@ -7,7 +7,7 @@ use Rattle.clr_rules.specs.Register.{Register}
 use Rattle.clr_rules.specs.declared.command.Command.{Command}
 use Rattle.clr_rules.specs.declared.reply.Reply.{Reply}
 use Rattle.clr_rules.specs.declared.reply.Reply.TheVariants.{Accepted, Shown, Refused, Added}
-use Rattle.clr_desk.specs.Asking.{near_answer}
+use Rattle.clr_own.specs.Own.{asked_answer}
 use Rattle.clr_desk.specs.Given.{AreGiven, Given, command, login}
 use Rattle.clr_desk.specs.Taking.{Came, Takes, TakesOne, Taking}
 use Rattle.clr_desk.specs.declared.desk_fault.DeskFault.{DeskFault}
@@ -34,7 +34,7 @@ module _ {K J C : Type 0} (takes : Taking K) (kept : K → State) (has_place : P
       → Sound old → Sound new
   one_sound R old q (Ok reply) new taken sound = taken_sound old q reply (Ok tt) new taken sound
   one_sound R old q (Err fault) new (inl (memory, same)) sound = subst Sound (sym same) sound
-  one_sound R old q (Err fault) new (inr taken) sound = taken_sound old q (Answer.reply (near_answer R q)) (Err fault) new taken sound
+  one_sound R old q (Err fault) new (inr taken) sound = taken_sound old q (Answer.reply (asked_answer R q)) (Err fault) new taken sound
 
   login_sound : (old : Keeper K J C) (it : Option (List ℕ)) (new : Keeper K J C) → HearsLogin old it new → Sound old → Sound new
   login_sound old it new heard sound = record {

@@ -20,7 +20,7 @@ use Rattle.clr_desk.specs.Taking.{Came, Hearing, Taking}
 use Rattle.clr_desk.specs.declared.desk.Desk.{Desk}
 use Rattle.clr_desk.specs.declared.desk_fault.DeskFault.{DeskFault}
 use Rattle.clr_desk.proofs.OneCommand.{near_after_is_after}
-use Rattle.clr_level.specs.Forward.{GoesThrough, IsRenewed, RollsTo}
+use Rattle.clr_level.specs.Forward.{GoesThrough, RollsTo}
 
 deed_staffed : (R : Register) (deed : Deed) → IsFit R → IsStaffed (after_deed R deed)
 unfolding after_deeds

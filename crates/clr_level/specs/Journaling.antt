@@ -91,8 +91,7 @@ is_doubtful Doubtful = true
 -- ---- one command
 
 -- THE LINE OF A COMMAND is added to what the journal says: the next number, the login that was
--- heard, which is that of no other command, the command and its reply. It was received when the
--- clock shows
+-- noted for this command alone, the command and its reply. It was received when the clock shows
 pub record IsNoted {K J C : Type 0} (shows : C → ℕ → Type 0) (text : J → List ℕ)
     (old : Keeper K J C) (q : Command) (reply : Reply) (new : Keeper K J C) : Type 0 where
   pub receipt : Receipt
@@ -294,7 +293,7 @@ pub record Journals {K J C : Type 0} (takes : Taking K) (kept : K → State) (ha
   pub safe : StaySafe text may_leave old.journal new.journal
   pub withdrawn : IsWithdrawn text may_leave old new
 
--- the login of the next command is heard; nothing else changes
+-- the login of the next command is noted; nothing else changes
 pub record HearsLogin {K J C : Type 0} (old : Keeper K J C) (login : Option (List ℕ))
     (new : Keeper K J C) : Type 0 where
   pub heard : new.login ≡ login

@@ -28,7 +28,7 @@ pub struct Keeper<K: CommitAt, J: Journal + Drop, C: Clock> {
 
 impl<K: CommitAt, J: Journal + Drop, C: Clock> Keeper<K, J, C> {
     /// A keeper with a journal that has come to this place, and whose deeds are all carried out,
-    /// refused or withdrawn. No login was heard.
+    /// refused or withdrawn. No login is noted.
     pub(crate) fn new(alloc: Global, keeper: K, journal: J, clock: C, at: Place) -> Keeper<K, J, C>
         ensures keeper { result.keeper ≡ keeper }
         ensures journal { result.journal ≡ journal }

@@ -1,9 +1,13 @@
 -- What the own rows have of a clearance is what the register has: its record, its steps, and of holds and hands those at which a command looks.
 use Rattle.std.proofs.Common.{◌≡◌, ◌∙◌, ℕ, Bool, true, false, ◌&&◌, ◌==◌, List, [], ◌∷◌, Option, None, Some, is_some, not, filter, Contains, refl, sym, ap, subst, if◌then◌else◌}
-use Rattle.std.proofs.Common.{eq-eqb, map, true≢false}
+use Rattle.std.proofs.Common.{eq-eqb, map, option_to_list, true≢false}
 use Rattle.clr_rules.proofs.live.FenceCuts.{has_name-once}
 use Rattle.clr_rules.proofs.lists.Filters.{name_says}
-use Rattle.clr_rules.specs.Holds.{first_of_each, held_among, held_at}
+use Rattle.std.proofs.Common.{◌||◌}
+use Rattle.clr_rules.specs.declared.command.Kind.TheVariants as kinds
+use Rattle.std.specs.List.{list_any}
+use Rattle.clr_rules.specs.HoldKind.{is_crew, is_section_kind}
+use Rattle.clr_rules.specs.Holds.{first_of_each, has_some_hold, held_among, held_at}
 use Rattle.std.proofs.lemmas.Option.{same_Some}
 use Rattle.clr_net.proofs.Walks.{same_itself}
 use Rattle.clr_rules.proofs.Common.{Contains-here, Contains-later, or_left, and_from, and_parts, nat_list_cmp_total, name_cmp, same_name, has_name, has_name-row, there_mapped, one_name, equal, same_text, filter-filter_wider, hand_in, is_close, own_id, Contains-filter, Task, task}
@@ -21,9 +25,9 @@ use Rattle.clr_rules.proofs.near.OwnParts.{steps_of-own}
 use Rattle.clr_rules.proofs.near.OwnQuestions.{same_present}
 use Rattle.clr_shelf.proofs.KeyOrder.{in_key_order-filter}
 use Rattle.std.specs.List.Sorted.{IsStrictlySortedBy}
-use Rattle.clr_book.proofs.LookedUp.{listed}
+use Rattle.clr_book.proofs.LookedUp.{listed, own_record}
 use Rattle.clr_shelf.specs.Rows.{in_key_order}
-use Rattle.clr_own.specs.Own.{crews_at, own_rows, points_at, sections_among, sections_at, work_in, work_of}
+use Rattle.clr_own.specs.Own.{crews_at, fence_at, own_rows, points_at, sections_among, sections_at, work_in, work_of}
 use Rattle.clr_rules.specs.declared.hold.Hold.{Hold}
 use Rattle.clr_rules.specs.declared.hold_kind.HoldKind.{HoldKind}
 use Rattle.clr_rules.specs.declared.command.Kind.{Kind}
@@ -31,7 +35,7 @@ use Rattle.clr_rules.specs.declared.point_state.PointState.{PointState}
 use Rattle.clr_rules.specs.declared.record.Record.{Record}
 use Rattle.clr_rules.specs.declared.refusal.Refusal.{Refusal}
 use Rattle.clr_rules.specs.declared.step_row.StepRow.{StepRow}
-use Rattle.clr_rules.specs.declared.hold_kind.HoldKind.TheVariants.{HeldOpen, Block, Control, Tag}
+use Rattle.clr_rules.specs.declared.hold_kind.HoldKind.TheVariants.{HeldOpen, Block, Control, Tag, Crew}
 use Rattle.clr_rules.specs.declared.command.Kind.TheVariants.{Instruct, Restore, SignOn}
 use Rattle.clr_rules.specs.declared.refusal.Refusal.TheVariants.{NoStep}
 
@@ -65,6 +69,32 @@ same_hold_there R c d kind of place near =
     sym (ap is_some (row_of-filter_inside hold_cmp hold_key hold_cmp_total test (hold_of d of place) R.holds
     (λ h tied. subst (λ (x : Hold). test x ≡ true) (sym (same_hold h (hold_of d of place) (equal (hold_cmp h (hold_of d of place)) tied))) near)))
 
+-- the crews at which it looks
+list_any-wider : {X : Type 0} (p q : X → Bool) → ((x : X) → p x ≡ true → q x ≡ true) → (xs : List X) → list_any p xs ≡ list_any p (filter q xs)
+list_any-wider p q wider [] = refl
+list_any-wider p q wider (x ∷ xs) = at (q x) refl (p x) refl (list_any-wider p q wider xs)
+  where
+    at : (a : Bool) → q x ≡ a → (b : Bool) → p x ≡ b → list_any p xs ≡ list_any p (filter q xs) → list_any p (x ∷ xs) ≡ list_any p (filter q (x ∷ xs))
+    at true e b f more = rw e (ap (λ (t : Bool). p x || t) more)
+    at false e true f more = absurd (true≢false (sym (wider x f) ∙ e))
+    at false e false f more = rw (e, f) more
+
+pub same_crews : (R : Register) (c : Id) (kind : Kind) → crews_at kind ≡ Some c → has_some_hold R.holds c Crew ≡ has_some_hold (Register.holds (own_rows R c kind)) c Crew
+unfolding has_some_hold
+same_crews R c kind looks =
+    let test = is_near_hold (has_name (sections_at R c kind)) (has_name (points_at R c kind)) (crews_at kind) in
+    list_any-wider (λ (h : Hold). same_id c h.id && same_kind Crew h.kind) test
+    (λ h both. rw looks (crew_near h (and_parts (same_id c h.id) (same_kind Crew h.kind) both).0 (and_parts (same_id c h.id) (same_kind Crew h.kind) both).1)) R.holds
+  where
+    crew_near : (h : Hold) → same_id c h.id ≡ true → same_kind Crew h.kind ≡ true
+        → is_near_hold (has_name (sections_at R c kind)) (has_name (points_at R c kind)) (Some c) h ≡ true
+    crew_near h own is = of_kind h.kind is
+      where
+        of_kind : (k : HoldKind) → same_kind Crew k ≡ true
+            → ((is_point_kind k && has_name (points_at R c kind) h.place) || ((is_section_kind k && has_name (sections_at R c kind) h.place) || (is_crew k && same_id c h.id))) ≡ true
+        of_kind Crew is = own
+        of_kind _ is = cc is
+
 -- a check of the work section of a clearance to which a crew signs on
 pub same_at_work : (R : Register) (c : Id) (crew : List ℕ) (check other : List ℕ → Option Refusal)
     → ((work : List ℕ) → has_name (sections_at R c (SignOn c crew)) work ≡ true → check work ≡ other work)
@@ -84,17 +114,15 @@ same_at_work R c crew check other alike =
 
 -- ---- the step that is given out
 
-step_point : (rows : List StepRow) (row : StepRow) → Contains rows row → has_name (points_of rows) row.step.point ≡ true
-step_point rows row there = has_name-row (λ (t : Task). t.point) (tasks_of rows) (task row.step) (there_mapped (λ (row : StepRow). task row.step) rows row there)
-
 -- its point is one at which the command looks
 point_there : (R : Register) (c : Id) (n : ℕ) (s : FoundStep R c n) → has_name (points_at R c (Instruct c n)) s.row.step.point ≡ true
 unfolding steps_of
 point_there R c n s =
     let own = Contains-filter (λ (row : StepRow). same_id c row.id) R.steps s.row s.is_present.there
     (subst (λ (d : Id). same_id c d ≡ true) (sym s.is_present.own) (own_id c)) in
-    step_point (filter (λ row. row.ordinal == n) (filter (λ row. same_id c row.id) R.steps)) s.row
-    (Contains-filter (λ (row : StepRow). row.ordinal == n) (filter (λ row. same_id c row.id) R.steps) s.row own (eq-eqb s.row.ordinal n s.ordinal))
+    let rows = filter (λ (row : StepRow). row.ordinal == n) (filter (λ row. same_id c row.id) R.steps) in
+    let there = Contains-filter (λ (row : StepRow). row.ordinal == n) (filter (λ row. same_id c row.id) R.steps) s.row own (eq-eqb s.row.ordinal n s.ordinal) in
+    has_name-row (λ (t : Task). t.point) (tasks_of rows) (task s.row.step) (there_mapped (λ (row : StepRow). task row.step) rows s.row there)
 
 -- what is at a point at which it looks is the same
 module _ (R : Register) (c : Id) (kind : Kind) (p : List ℕ) (looked : has_name (points_at R c kind) p ≡ true) where
@@ -190,8 +218,25 @@ found_rises (Some r) = work_rises r.work
 pub sections_rise : (o : Option Record) (kind : Kind) → IsStrictlySortedBy name_cmp (sections_among o kind)
 unfolding IsStrictlySortedBy
 sections_rise o (SignOn c crew) = found_rises o
+sections_rise o (kinds.Ground c section) = (tt, tt)
+sections_rise o (kinds.Unground c section) = (tt, tt)
 sections_rise o _ = tt
 
-pub one_in_order : (o : Option Record) → in_key_order id_cmp record_key (listed o) ≡ true
+pub fence_rises : (kind : Kind) → IsStrictlySortedBy name_cmp (fence_at kind)
+unfolding IsStrictlySortedBy
+fence_rises (kinds.Ground c section) = (tt, tt)
+fence_rises (kinds.Unground c section) = (tt, tt)
+fence_rises _ = tt
+
+-- the records of a clearance are the one that is found
+as_list : (o : Option Record) → listed o ≡ option_to_list o
+as_list None = refl
+as_list (Some r) = refl
+
+pub own_found : (c : Id) (records : List Record) → in_key_order id_cmp record_key records ≡ true
+    → filter (λ r. same_id c r.id) records ≡ option_to_list (record_of records c)
+own_found c records ordered = own_record c records ordered ∙ as_list (record_of records c)
+
+pub one_in_order : (o : Option Record) → in_key_order id_cmp record_key (option_to_list o) ≡ true
 one_in_order None = refl
 one_in_order (Some r) = refl

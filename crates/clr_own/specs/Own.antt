@@ -1,11 +1,11 @@
 -- WHAT A COMMAND LOOKS AT THAT NEEDS NO FENCE: the record of the clearance that it names, its steps,
 -- and of the holds and hands only what is at few places. How many sections the clearance's fence has
 -- does not matter to it.
-use Rattle.std.specs.Prelude.{ℕ, ◌==◌, List, [], ◌∷◌, filter, Option, None, Some}
+use Rattle.std.specs.Prelude.{ℕ, Bool, true, false, ◌==◌, List, [], ◌∷◌, filter, Option, None, Some}
 use Rattle.clr_net.specs.Names.{has_name}
 use Rattle.clr_rules.specs.Answer.{Answer, answer_with}
 use Rattle.clr_rules.specs.GoodByPhase.{of_round}
-use Rattle.clr_rules.specs.Holds.{is_near_hold}
+use Rattle.clr_rules.specs.Holds.{has_hold, is_near_hold}
 use Rattle.clr_rules.specs.Id.{Id, same_id}
 use Rattle.clr_rules.specs.Near.{Near, near_of}
 use Rattle.clr_rules.specs.Records.{record_of}
@@ -13,24 +13,36 @@ use Rattle.clr_rules.specs.Register.{Register}
 use Rattle.clr_rules.specs.Steps.{points_of, steps_of}
 use Rattle.clr_rules.specs.declared.command.Command.{Command}
 use Rattle.clr_rules.specs.declared.command.Kind.{Kind}
+use Rattle.clr_rules.specs.declared.hold_kind.HoldKind.TheVariants.{Ground as Grounded, Tested}
 use Rattle.clr_rules.specs.declared.command.Kind.TheVariants.{Instruct, Repeat, Report, Grant}
 use Rattle.clr_rules.specs.declared.command.Kind.TheVariants.{SignOn, SignOff, Transfer, Restore}
-use Rattle.clr_rules.specs.declared.command.Kind.TheVariants.{Amend}
+use Rattle.clr_rules.specs.declared.command.Kind.TheVariants.{Amend, Ground, Unground}
 use Rattle.clr_rules.specs.declared.record.Record.{Record}
 use Rattle.clr_rules.specs.declared.step_row.StepRow.{StepRow}
 
--- the clearance of a command that needs no fence
-abbrev pub own_of : Kind → Option Id
-own_of (Instruct c n) = Some c
-own_of (Repeat c n text) = Some c
-own_of (Report c n done) = Some c
-own_of (Grant c) = Some c
-own_of (SignOn c crew) = Some c
-own_of (SignOff c crew) = Some c
-own_of (Transfer c to emergency) = Some c
-own_of (Restore c tasks) = Some c
-own_of (Amend c n) = Some c
-own_of kind = None
+abbrev pub own_where : Bool → Id → Option Id
+own_where true c = Some c
+own_where false c = None
+
+-- the clearance of a command that never needs a fence
+abbrev pub always_own : Kind → Option Id
+always_own (Instruct c n) = Some c
+always_own (Repeat c n text) = Some c
+always_own (Report c n done) = Some c
+always_own (Grant c) = Some c
+always_own (SignOn c crew) = Some c
+always_own (SignOff c crew) = Some c
+always_own (Transfer c to emergency) = Some c
+always_own (Restore c tasks) = Some c
+always_own (Amend c n) = Some c
+always_own kind = None
+
+-- the clearance of a command that needs no fence. A section that the clearance has tested or grounded
+-- is in its fence
+abbrev pub own_of : Register → Kind → Option Id
+own_of R (Ground c section) = own_where (has_hold R.holds c Tested section) c
+own_of R (Unground c section) = own_where (has_hold R.holds c Grounded section) c
+own_of R kind = always_own kind
 
 -- the points at which it looks, by the steps of the clearance: those of the steps that have the number
 -- of the step that it gives out, and those of the first round where it restores
@@ -47,10 +59,12 @@ abbrev pub work_of : Option Record → List (List ℕ)
 work_of None = []
 work_of (Some r) = work_in r.work
 
--- the sections at which it looks, by the record: the work section of a clearance to which a crew signs
--- on
+-- the sections at which it looks, by the record: the one that it grounds, and the work section of a
+-- clearance to which a crew signs on
 abbrev pub sections_among : Option Record → Kind → List (List ℕ)
 sections_among found (SignOn c crew) = work_of found
+sections_among found (Ground c section) = section ∷ []
+sections_among found (Unground c section) = section ∷ []
 sections_among found kind = []
 
 abbrev pub points_at : Register → Id → Kind → List (List ℕ)
@@ -63,7 +77,14 @@ sections_at R c kind = sections_among (record_of R.records c) kind
 abbrev pub crews_at : Kind → Option Id
 crews_at (SignOn c crew) = Some c
 crews_at (SignOff c crew) = Some c
+crews_at (Unground c section) = Some c
 crews_at kind = None
+
+-- the sections of the fence that it has to know of
+abbrev pub fence_at : Kind → List (List ℕ)
+fence_at (Ground c section) = section ∷ []
+fence_at (Unground c section) = section ∷ []
+fence_at kind = []
 
 -- WHAT IT LOOKS AT, read as a register
 abbrev pub own_rows : Register → Id → Kind → Register
@@ -79,7 +100,7 @@ own_rows R c kind = record {
 
 abbrev pub own_near : Register → Id → Kind → Near
 own_near R c kind = record {
-  known = record { greatest = 0; fence = []; crossed = None };
+  known = record { greatest = 0; fence = fence_at kind; crossed = None };
   rows = own_rows R c kind;
 }
 
@@ -89,7 +110,7 @@ near_by None R q = near_of R q
 
 -- what any command looks at: its own rows where they are enough, and otherwise what is near it
 abbrev pub asked_near : Register → Command → Near
-asked_near R q = near_by (own_of q.kind) R q
+asked_near R q = near_by (own_of R q.kind) R q
 
 -- the answer from that
 abbrev pub asked_answer : Register → Command → Answer

@@ -1,22 +1,23 @@
 //! What a command looks at that needs no fence, and the answer to it.
-ghost use Rattle.std.specs.Prelude.{◌≡◌, ◌==◌, ℕ, List, true, IfOk, filter, map, option_copied};
+ghost use Rattle.std.specs.Prelude.{◌≡◌, ◌==◌, ℕ, List, true, IfOk, filter, map};
+ghost use Rattle.std.specs.Prelude.{option_copied, option_to_list};
 ghost use Rattle.std.specs.List.Sorted.{IsStrictlySortedBy};
 ghost use Rattle.clr_net.specs.Name.{name_cmp};
 ghost use Rattle.clr_net.specs.Names.{has_name};
 ghost use Rattle.clr_rules.specs.Answer.{answer};
 ghost use Rattle.clr_rules.specs.Edits.{fit};
 ghost use Rattle.clr_rules.specs.Good.{IsGood};
-ghost use Rattle.clr_rules.specs.Holds.{is_near_hold};
+ghost use Rattle.clr_rules.specs.Holds.{has_hold, is_near_hold};
 ghost use Rattle.clr_rules.specs.Steps.{points_of};
 ghost use Rattle.clr_answer.specs.Decision.{ChangesIfAccepted, answer_of_decision};
-ghost use Rattle.clr_book.proofs.LookedUp.{listed};
-ghost use Rattle.clr_own.specs.Own.{asked_answer, crews_at, own_near, own_of, points_among};
+ghost use Rattle.clr_own.specs.Own.{own_where};
+ghost use Rattle.clr_own.specs.Own.{always_own, asked_answer, crews_at, fence_at, own_near, own_of, points_among};
 ghost use Rattle.clr_own.specs.Own.{sections_among};
 
 use clr_answer::{Decision, Near, decide, in_order};
 use clr_book::{Book, groups_near, rows_in};
 use clr_net::Name;
-use clr_rules::{ClearanceId, Command, Hold, Kind, PointState, Record, StepRow};
+use clr_rules::{ClearanceId, Command, Hold, HoldKind, Kind, PointState, Record, StepRow};
 use clr_shelf::Shelf;
 use std::alloc::{AllocError, Global};
 
@@ -39,7 +40,7 @@ where
     ensures fits { IfOk result
         (λ d. fit book.now.register.net d.change.edits.items ≡ true) }
 {
-    let Some(id) = own_of(&command.kind) else {
+    let Some(id) = own_of(book, &command.kind) else {
         let decision = book.answer(command)?;
         return Ok(decision);
     };
@@ -48,9 +49,51 @@ where
     Ok(decision)
 }
 
-/// The clearance of a command that needs no fence.
-fn own_of(kind: &Kind) -> Option<ClearanceId>
-    ensures { result ≡ own_of kind.now }
+/// The clearance of a command that needs no fence. A section that the clearance has tested or
+/// grounded is in its fence.
+fn own_of<P, C, T, H>(book: &Book<P, C, T, H>, kind: &Kind) -> Option<ClearanceId>
+where
+    P: Shelf<PointState>,
+    C: Shelf<Record>,
+    T: Shelf<StepRow>,
+    H: Shelf<Hold>,
+    ensures { result ≡ own_of book.now.register kind.now }
+{
+    match kind {
+        Kind::Ground { clearance, section } => {
+            where_held(book, *clearance, HoldKind::Tested, *section)
+        }
+        Kind::Unground { clearance, section } => {
+            where_held(book, *clearance, HoldKind::Ground, *section)
+        }
+        _ => always_own(kind),
+    }
+}
+
+/// The clearance, where it has this hold.
+fn where_held<P, C, T, H>(
+    book: &Book<P, C, T, H>,
+    id: ClearanceId,
+    kind: HoldKind,
+    place: Name,
+) -> Option<ClearanceId>
+where
+    P: Shelf<PointState>,
+    C: Shelf<Record>,
+    T: Shelf<StepRow>,
+    H: Shelf<Hold>,
+    ensures { result ≡ own_where (has_hold book.now.register.holds id kind place) id }
+{
+    let (_, _, _, holds) = book.shelves();
+    match holds.get(&Hold { kind, place, id }) {
+        Some(_) => Some(id),
+        None => None,
+    }
+}
+
+/// The clearance of a command that never needs a fence.
+fn always_own(kind: &Kind) -> Option<ClearanceId>
+    ensures { result ≡ always_own kind.now }
 {
     match kind {
         Kind::Instruct { clearance, .. } => Some(*clearance),
@@ -86,12 +129,13 @@ where
     let points = points_at(alloc, kind, &steps)?;
     let sections = sections_at(alloc, kind, found)?;
     let records = records_of(alloc, found)?;
+    let fence = fence_at(alloc, kind)?;
     let states = rows_in(alloc, states, &points)?;
     let holds = holds_at(alloc, holds, &sections, &points, crews_at(kind))?;
     let near = Near {
         alloc,
         greatest: 0,
-        fence: Vec::new(alloc),
+        fence,
         crossed: None,
         sections: Vec::new(alloc),
         points: Vec::new(alloc),
@@ -107,7 +151,7 @@ where
 /// The record that was found, as a list.
 fn records_of(alloc: Global, found: Option<&Record>) -> Result<Vec<&Record>, AllocError>
     ensures { IfOk result (λ records. map (λ row. row.now) records.items
-        ≡ listed (option_copied found.entry)) }
+        ≡ option_to_list (option_copied found.entry)) }
 {
     let mut records = Vec::new(alloc);
     if let Some(row) = found {
@@ -189,12 +233,16 @@ fn sections_at(alloc: Global, kind: &Kind, found: Option<&Record>) -> Result<Vec
         ≡ sections_among (option_copied found.entry) kind.now) }
 {
     let mut names = Vec::new(alloc);
-    if let Kind::SignOn { .. } = kind {
-        if let Some(row) = found {
-            if let Some(work) = row.work {
-                names.push(work)?;
+    match kind {
+        Kind::Ground { section, .. } | Kind::Unground { section, .. } => names.push(*section)?,
+        Kind::SignOn { .. } => {
+            if let Some(row) = found {
+                if let Some(work) = row.work {
+                    names.push(work)?;
+                }
             }
         }
+        _ => {}
     }
     Ok(names)
 }
@@ -206,8 +254,20 @@ fn crews_at(kind: &Kind) -> Option<ClearanceId>
     match kind {
         Kind::SignOn { clearance, .. } => Some(*clearance),
         Kind::SignOff { clearance, .. } => Some(*clearance),
+        Kind::Unground { clearance, .. } => Some(*clearance),
         _ => None,
     }
+}
+
+/// The sections of the fence of which a command has to know.
+fn fence_at(alloc: Global, kind: &Kind) -> Result<Vec<Name>, AllocError>
+    ensures { IfOk result (λ names. names.items ≡ fence_at kind.now) }
+{
+    let mut names = Vec::new(alloc);
+    if let Kind::Ground { section, .. } | Kind::Unground { section, .. } = kind {
+        names.push(*section)?;
+    }
+    Ok(names)
 }
 
 /// The holds at these sections and points, and of the crews of this clearance.

@@ -1,7 +1,6 @@
-use Rattle.std.proofs.Common.{◌≡◌, ◌∙◌, ℕ, true, List, Option, ap, filter, map, refl, subst, sym, Bor, arith}
+use Rattle.std.proofs.Common.{◌≡◌, ◌∙◌, ℕ, true, List, Option, option_to_list, ap, filter, map, refl, subst, sym, Bor, arith}
 use Rattle.std.specs.List.Sorted.{IsStrictlySortedBy}
 use Rattle.std.proofs.lemmas.Cmp.{nat_list_cmp_total}
-use Rattle.clr_book.proofs.LookedUp.{listed, own_record}
 use Rattle.clr_book.proofs.NearFacts.{lent_whole}
 use Rattle.clr_book.proofs.NearGroups.{has_name-back}
 use Rattle.clr_net.specs.Grid.{unplaced}
@@ -22,8 +21,8 @@ use Rattle.clr_rules.specs.declared.step_row.StepRow.{StepRow}
 use Rattle.clr_shelf.proofs.KeyOrder.{in_key_order-filter}
 use Rattle.clr_shelf.specs.Rows.{in_key_order}
 use Rattle.clr_own.specs.Own.{crews_at, own_rows, points_among, points_at, sections_among, sections_at}
-use Rattle.clr_own.proofs.Enough.{nothing_known}
-use Rattle.clr_own.proofs.OwnRows.{one_in_order, sections_rise}
+use Rattle.clr_own.proofs.Enough.{known_by}
+use Rattle.clr_own.proofs.OwnRows.{fence_rises, one_in_order, own_found, sections_rise}
 use Rattle.clr_own.proofs.own.own_near.Goals as goal
 
 pub holds_at-requires-clause-sections : goal.holds_at-requires-clause-sections
@@ -34,9 +33,9 @@ pub invariant_of-near : goal.invariant_of-near
 unfolding IsStrictlySortedBy
 invariant_of-near g c = (
   (omega arith),
-  rw c.new-2.ensures.items tt,
-  rw c.new-3.ensures.items tt,
   rw c.new.ensures.items tt,
+  rw c.new-2.ensures.items tt,
+  subst (λ (names : List (List ℕ)). IsStrictlySortedBy name_cmp names) (sym c.in_ok-fence.ensures) (fence_rises c.args.kind.now),
   subst (λ (rows : List PointState). in_key_order name_cmp state_key rows ≡ true)
       (sym (c.in_ok-states.ensures ∙ (λ i. filter (λ (state : PointState). has_name-back c.deref-2.result.now state.point i) (g.P.Shelf.rows c.shelves.result.0.now))))
       (in_key_order-filter name_cmp state_key nat_list_cmp_total (λ (state : PointState). has_name c.deref-2.result.now state.point) (g.P.Shelf.rows c.shelves.result.0.now)
@@ -66,19 +65,19 @@ returns g c =
     let sections : c.in_ok-sections.sections.items ≡ sections_at R id kind =
     c.in_ok-sections.ensures ∙ ap (λ (o : Option Record). sections_among o kind) (c.get-found.ensures ∙ found) in
     let at_points : has_name c.deref-4.result.now ≡ has_name (points_at R id kind) = ap has_name c.deref-4.ensures.value ∙ points in
-    lent_whole _ nothing_known (own_rows R id kind)
+    lent_whole _ (known_by kind) (own_rows R id kind)
     refl
-    c.new.ensures.items
+    c.in_ok-fence.ensures
     refl
-    (ap (map (λ (row : Bor SectionRow). row.now)) c.new-2.ensures.items)
-    (ap (map (λ (row : Bor PointRow). unplaced row.now)) c.new-3.ensures.items)
+    (ap (map (λ (row : Bor SectionRow). row.now)) c.new.ensures.items)
+    (ap (map (λ (row : Bor PointRow). unplaced row.now)) c.new-2.ensures.items)
     c.staff.ensures
     (c.in_ok-states.ensures
     ∙ (λ i. filter (λ (state : PointState). has_name-back c.deref-2.result.now state.point i) states)
     ∙ ap (λ (names : List (List ℕ)). filter (λ state. has_name names state.point) states) c.deref-2.ensures.value
     ∙ (λ i. filter (λ state. points i state.point) states)
     ∙ ap (λ (X : Register). filter (λ state. has_name (points_at R id kind) state.point) X.states) (sym whole))
-    (c.in_ok-records.ensures ∙ ap listed c.get-found.ensures ∙ sym (own_record id records (g.met.C.Shelf.in_order c.shelves.result.1.now))
+    (c.in_ok-records.ensures ∙ ap option_to_list c.get-found.ensures ∙ sym (own_found id records (g.met.C.Shelf.in_order c.shelves.result.1.now))
     ∙ ap (λ (X : Register). filter (λ r. same_id id r.id) X.records) (sym whole))
     own_steps
     (c.in_ok-holds.ensures
