@@ -191,17 +191,13 @@ impl Typed for Kind {
 
     fn typed(&self) {
         self.clearance().typed();
+        self.place().typed();
         match self {
-            Kind::Request { section }
-            | Kind::Test { section, .. }
-            | Kind::Ground { section, .. }
-            | Kind::Unground { section, .. } => section.typed(),
             Kind::Order { points, steps, .. } => {
                 names_are_typed(points);
                 tasks_are_typed(steps);
             }
             Kind::Restore { steps, .. } | Kind::Switch { steps } => tasks_are_typed(steps),
-            Kind::SignOn { crew, .. } | Kind::SignOff { crew, .. } => crew.typed(),
             Kind::Transfer { to, .. } => to.typed(),
             Kind::Jumper {
                 point,
@@ -213,7 +209,7 @@ impl Typed for Kind {
                 from.typed();
                 to.typed();
             }
-            // The others name a clearance, and neither a name nor a list beside it.
+            // The others name no more than a clearance and a place.
             _ => {}
         }
     }

@@ -1,4 +1,4 @@
--- EXAMPLES OF CHANGES: each of the nineteen kinds of command accepted in the worked network, with
+-- EXAMPLES OF CHANGES: each kind of command accepted in the worked network, with
 -- its reply and all its edits.
 use Rattle.std.specs.Prelude.{◌≡◌, ℕ, true, false, List, [], ◌∷◌, ◌++◌, codes, Some, None}
 use Rattle.clr_net.specs.declared.point.Position.TheVariants.{Opened, Closed as Shut}

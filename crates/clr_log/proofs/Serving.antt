@@ -22,7 +22,7 @@ use Rattle.clr_log.specs.About.{clearance_of, is_wanted, last_clearance, line_cl
 use Rattle.clr_log.specs.Log.{carried_line, entry_line, given_columns, id_or_dash, if_wanted, reply_words, said_columns, withdrawn_line}
 use Rattle.clr_log.specs.Steps.{amended_by, deed_steps, given_by, given_or, is_amend, is_amend_deed, is_withdrawn, left_if, step_at, step_before, step_known}
 use Rattle.clr_log.specs.Walked.{Serve, held_entries, idle_at_end, is_amending, is_amending_deed, is_remembered, step_text}
-use Rattle.clr_log.specs.Words.{flags_said, names_said, step_words, steps_said, verb}
+use Rattle.clr_log.specs.Words.{flags_said, names_said, numbered, step_words, steps_said, verb}
 use Rattle.clr_rules.specs.Command.{named_clearance}
 
 -- ---- what was amended since is a Leave
@@ -135,8 +135,8 @@ Serve-withdrawn wanted held older n serve = record {
 -- ---- what is printed
 
 numbered_alike : (wanted : Option Id) (held older : List Entry) (c : Id) (k : ℕ) → Serve wanted held older → is_wanted wanted (Some c) ≡ true
-    → step_words k (step_known held c k) ≡ step_words k (step_known older c k)
-numbered_alike wanted held older c k serve is = ap (step_words k) (serve.steps c is k)
+    → numbered held c k ≡ numbered older c k
+numbered_alike wanted held older c k serve is = ap (λ step. codes " " ++ step_words k step) (serve.steps c is k)
 
 steps_said_alike : (wanted : Option Id) (held older : List Entry) (what : Kind) (other : Option Id) → Serve wanted held older
     → is_wanted wanted (named_or (named_clearance what) other) ≡ true → steps_said held what ≡ steps_said older what

@@ -5,15 +5,22 @@ use Rattle.serde_json.specs.Data.{string}
 use Rattle.serde_json.specs.Written.{compact_text}
 use Rattle.clr_order.specs.Step.{Task}
 use Rattle.clr_order.specs.Texts.{step_text}
+use Rattle.clr_rules.specs.Command.{named_place}
 use Rattle.clr_rules.specs.Id.{Id}
 use Rattle.clr_rules.specs.declared.command.Kind.{Kind}
 use Rattle.clr_rules.specs.declared.command.Kind.TheVariants as kind
+use Rattle.clr_text.specs.Kinds.{word_of, word_text}
 use Rattle.clr_journal.specs.Line.{Entry}
 use Rattle.clr_log.specs.Steps.{step_known}
 
 -- a text as it was spoken: in quotes, as JSON
 unfoldable pub quoted : List ℕ → List ℕ
 quoted text = compact_text (string text)
+
+-- a name after a blank, if there is one
+abbrev pub place_words : Option (List ℕ) → List ℕ
+place_words None = []
+place_words (Some place) = codes " " ++ place
 
 abbrev pub points_words : List (List ℕ) → List ℕ
 points_words points = flat_map (λ point. codes " " ++ point) points
@@ -27,33 +34,18 @@ step_words k None = decimal k
 step_words k (Some t) = decimal k ++ codes " " ++ step_text t
 
 abbrev pub numbered : List Entry → Id → ℕ → List ℕ
-numbered older c k = step_words k (step_known older c k)
+numbered older c k = codes " " ++ step_words k (step_known older c k)
 
 abbrev pub either : Bool → List ℕ → List ℕ → List ℕ
 either b one other = if b then one else other
 
--- what a command is called
+-- what a command is called: as its word is written, where it has no other words
 abbrev pub verb : Kind → List ℕ
-verb (kind.Request section) = codes "request "
-verb (kind.Order c points steps) = codes "order"
-verb (kind.Instruct c k) = codes "instruct "
-verb (kind.Repeat c k text) = codes "repeat "
-verb (kind.Report c k done) = codes "report "
-verb (kind.Grant c) = codes "grant"
-verb (kind.Test c section dead) = codes "test "
-verb (kind.Ground c section) = codes "ground "
-verb (kind.Unground c section) = codes "unground "
-verb (kind.SignOn c crew) = codes "sign on "
-verb (kind.SignOff c crew) = codes "sign off "
+verb (kind.SignOn c crew) = codes "sign on"
+verb (kind.SignOff c crew) = codes "sign off"
 verb (kind.Transfer c to emergency) =
-    either emergency (codes "emergency transfer to ") (codes "transfer to ")
-verb (kind.Release c notified clear) = codes "release"
-verb (kind.Cancel c) = codes "cancel"
-verb (kind.Restore c steps) = codes "restore"
-verb (kind.Amend c k) = codes "amend "
-verb (kind.Switch steps) = codes "switch"
-verb (kind.Show c) = codes "show"
-verb (kind.Jumper point from to lockable remote) = codes "jumper "
+    either emergency (codes "emergency transfer to") (codes "transfer to")
+verb k = word_text (word_of k)
 
 -- the steps of an order, or the one that is named
 abbrev pub steps_said : List Entry → Kind → List ℕ
@@ -66,19 +58,13 @@ steps_said older (kind.Report c k done) = numbered older c k
 steps_said older (kind.Amend c k) = numbered older c k
 steps_said older _ = []
 
--- names, and the text that was spoken
+-- the text that was spoken, or names: the section or the crew, where it has no others
 abbrev pub names_said : Kind → List ℕ
-names_said (kind.Request section) = section
 names_said (kind.Repeat c k text) = codes " " ++ quoted text
-names_said (kind.Test c section dead) = section
-names_said (kind.Ground c section) = section
-names_said (kind.Unground c section) = section
-names_said (kind.SignOn c crew) = crew
-names_said (kind.SignOff c crew) = crew
-names_said (kind.Transfer c to emergency) = to
+names_said (kind.Transfer c to emergency) = codes " " ++ to
 names_said (kind.Jumper point from to lockable remote) =
-    point ++ codes " from " ++ from ++ codes " to " ++ to
-names_said _ = []
+    codes " " ++ point ++ codes " from " ++ from ++ codes " to " ++ to
+names_said k = place_words (named_place k)
 
 -- what is, or is not
 abbrev pub flags_said : Kind → List ℕ

@@ -70,7 +70,7 @@ pub(crate) fn push_points(out: &mut String, points: &Names) -> Result<(), AllocE
 }
 
 /// Writes a name after a blank.
-fn push_name(out: &mut String, name: &Name) -> Result<(), AllocError>
+pub(crate) fn push_name(out: &mut String, name: &Name) -> Result<(), AllocError>
     ensures { OnOk result (string_bytes out.new ≡ string_bytes out.old ++ 32 ∷ name.now) }
 {
     out.push(' ')?;

@@ -1,13 +1,15 @@
 //! What a command says, in words.
 ghost use Rattle.std.specs.Prelude.{◌≡◌, ◌++◌, OnOk, map, reverse, string_bytes};
 ghost use Rattle.clr_journal.specs.Line.{entry_of};
-ghost use Rattle.clr_log.specs.Words.{either, flags_said, names_said, numbered, steps_said, verb};
-ghost use Rattle.clr_log.specs.Words.{words};
+ghost use Rattle.clr_log.specs.Words.{either, flags_said, names_said, numbered, place_words};
+ghost use Rattle.clr_log.specs.Words.{steps_said, verb, words};
 
 use crate::steps::step_known;
-use crate::texts::{push_numbered, push_points, push_quoted, push_steps};
+use crate::texts::{push_name, push_numbered, push_points, push_quoted, push_steps};
 use clr_journal::Line;
+use clr_net::Name;
 use clr_rules::{ClearanceId, Kind};
+use clr_text::command_word;
 use std::alloc::{AllocError, Global};
 
 /// Writes what a command says, which comes after these lines.
@@ -26,34 +28,19 @@ pub(crate) fn push_words(
     push_flags(out, kind)
 }
 
-/// What a command is called.
+/// What a command is called: as its word is written, where it has no other words.
 fn verb(kind: &Kind) -> &'static str
     ensures { result.now ≡ verb kind.now }
 {
     match kind {
-        Kind::Request { .. } => "request ",
-        Kind::Order { .. } => "order",
-        Kind::Instruct { .. } => "instruct ",
-        Kind::Repeat { .. } => "repeat ",
-        Kind::Report { .. } => "report ",
-        Kind::Grant { .. } => "grant",
-        Kind::Test { .. } => "test ",
-        Kind::Ground { .. } => "ground ",
-        Kind::Unground { .. } => "unground ",
-        Kind::SignOn { .. } => "sign on ",
-        Kind::SignOff { .. } => "sign off ",
+        Kind::SignOn { .. } => "sign on",
+        Kind::SignOff { .. } => "sign off",
         Kind::Transfer { emergency, .. } => either(
             *emergency,
-            "emergency transfer to ",
-            "transfer to ",
+            "emergency transfer to",
+            "transfer to",
         ),
-        Kind::Release { .. } => "release",
-        Kind::Cancel { .. } => "cancel",
-        Kind::Restore { .. } => "restore",
-        Kind::Amend { .. } => "amend ",
-        Kind::Switch { .. } => "switch",
-        Kind::Show { .. } => "show",
-        Kind::Jumper { .. } => "jumper ",
+        _ => command_word(kind),
     }
 }
 
@@ -89,32 +76,39 @@ fn push_steps_said(
     }
 }
 
-/// Writes names, and the text that was spoken.
+/// Writes the text that was spoken, or names: the section or the crew, where it has no others.
 fn push_names(alloc: Global, out: &mut String, kind: &Kind) -> Result<(), AllocError>
     ensures { OnOk result
         (string_bytes out.new ≡ string_bytes out.old ++ names_said kind.now) }
 {
     match kind {
-        Kind::Request { section }
-        | Kind::Test { section, .. }
-        | Kind::Ground { section, .. }
-        | Kind::Unground { section, .. } => out.push_str(section.as_str()),
         Kind::Repeat { text, .. } => {
             out.push(' ')?;
             push_quoted(alloc, out, text.as_str())
         }
-        Kind::SignOn { crew, .. } | Kind::SignOff { crew, .. } => out.push_str(crew.as_str()),
-        Kind::Transfer { to, .. } => out.push_str(to.as_str()),
+        Kind::Transfer { to, .. } => push_name(out, to),
         Kind::Jumper {
             point,
             from,
             to,
             ..
         } => {
-            push_all(out, point.as_str(), " from ", from.as_str())?;
-            push_all(out, " to ", to.as_str(), "")
+            push_name(out, point)?;
+            push_all(out, " from ", from.as_str(), " to ")?;
+            out.push_str(to.as_str())
         }
-        _ => Ok(()),
+        _ => push_place(out, kind.place()),
+    }
+}
+
+/// Writes a name after a blank, if there is one.
+fn push_place(out: &mut String, place: Option<Name>) -> Result<(), AllocError>
+    ensures { OnOk result
+        (string_bytes out.new ≡ string_bytes out.old ++ place_words place) }
+{
+    match place {
+        Some(place) => push_name(out, &place),
+        None => Ok(()),
     }
 }
 
@@ -146,7 +140,7 @@ fn push_flags(out: &mut String, kind: &Kind) -> Result<(), AllocError>
     }
 }
 
-/// Writes the number of a step, and what it is, if one of the lines before says it.
+/// Writes the number of a step, after a blank, and what it is, if one of the lines before says it.
 fn push_known(
     alloc: Global,
     out: &mut String,
@@ -158,6 +152,7 @@ fn push_known(
         ++ numbered (reverse (map entry_of before.now)) clearance number) }
 {
     let step = step_known(before, clearance, number);
+    out.push(' ')?;
     push_numbered(alloc, out, number, step)
 }
 

@@ -1,5 +1,5 @@
 -- Commands. A variant of Kind takes its fields in the order in which they are declared.
-use Rattle.std.specs.Prelude.{Bool, true, false, Option, Some, None}
+use Rattle.std.specs.Prelude.{ℕ, Bool, true, false, List, Option, Some, None}
 use Rattle.clr_rules.specs.Prelude.{Kind, Id}
 use Rattle.clr_rules.specs.declared.command.Kind.TheVariants.{Request, Order, Instruct, Repeat}
 use Rattle.clr_rules.specs.declared.command.Kind.TheVariants.{Report, Grant, Test, Ground, Unground}
@@ -29,6 +29,16 @@ named_clearance (Amend clearance step) = Some clearance
 named_clearance (Switch steps) = None
 named_clearance (Show clearance) = Some clearance
 named_clearance (Jumper point from to lockable remote) = None
+
+-- the section or the crew that a command names
+abbrev pub named_place : Kind → Option (List ℕ)
+named_place (Request section) = Some section
+named_place (Test clearance section dead) = Some section
+named_place (Ground clearance section) = Some section
+named_place (Unground clearance section) = Some section
+named_place (SignOn clearance crew) = Some crew
+named_place (SignOff clearance crew) = Some crew
+named_place kind = None
 
 -- whether a command adds to the network
 abbrev pub is_jumper : Kind → Bool

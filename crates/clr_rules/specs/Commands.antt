@@ -1,4 +1,4 @@
--- THE RULES OF THE NINETEEN COMMANDS: what each is checked for, in this order, and what it changes
+-- THE RULES OF THE COMMANDS: what each is checked for, in this order, and what it changes
 -- where no check refuses it. The checks are stated one by one in Checks, the parts of a change in
 -- Changes.
 use Rattle.std.specs.Prelude.{ℕ, Bool, if◌then◌else◌, ◌+◌, List, [], ◌∷◌, map, Option, None, Some}

@@ -1,6 +1,6 @@
 //! Commands: what the register is asked to do.
 ghost use Rattle.std.specs.Prelude.{◌≡◌};
-ghost use Rattle.clr_rules.specs.Command.{named_clearance};
+ghost use Rattle.clr_rules.specs.Command.{named_clearance, named_place};
 
 use crate::clearance_id::ClearanceId;
 use crate::items::Names;
@@ -18,7 +18,7 @@ pub struct Command {
     pub kind: Kind,
 }
 
-/// What a command asks for: the nineteen kinds.
+/// What a command asks for.
 ///
 /// A step is named by its number in the clearance's present round, counted from 1.
 #[derive(Debug, Drop)]
@@ -155,6 +155,20 @@ impl Kind {
             | Kind::Restore { clearance, .. }
             | Kind::Amend { clearance, .. }
             | Kind::Show { clearance } => Some(*clearance),
+        }
+    }
+
+    /// The section or the crew that the command names.
+    pub fn place(&self) -> Option<Name>
+        ensures { result ≡ named_place self.now }
+    {
+        match self {
+            Kind::Request { section }
+            | Kind::Test { section, .. }
+            | Kind::Ground { section, .. }
+            | Kind::Unground { section, .. } => Some(*section),
+            Kind::SignOn { crew, .. } | Kind::SignOff { crew, .. } => Some(*crew),
+            _ => None,
         }
     }
 }

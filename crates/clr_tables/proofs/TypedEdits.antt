@@ -18,7 +18,7 @@ use Rattle.clr_shelf.proofs.Lists.{list_all-contains}
 use Rattle.clr_shelf.proofs.Members.{member-row_of}
 use Rattle.clr_shelf.specs.Rows.{with_row, without_row}
 use Rattle.clr_rules.specs.Answer.{Answer, known_of, answer_by_checks, requester_for}
-use Rattle.clr_rules.specs.Command.{named_clearance}
+use Rattle.clr_rules.specs.Command.{named_clearance, named_place}
 use Rattle.clr_rules.specs.Commands.{Known, checks, edits_of}
 use Rattle.clr_rules.specs.Checks.{too_many_clearances, unsound_order}
 use Rattle.clr_rules.specs.laws.Edits.{refusal_of}
@@ -45,7 +45,7 @@ use Rattle.clr_rules.specs.declared.refusal.Refusal.TheVariants.{TooManyClearanc
 use Rattle.clr_rules.specs.declared.step_row.StepRow.{StepRow}
 use Rattle.clr_rules.proofs.edits.Growing.{named_is_put}
 use Rattle.clr_rules.proofs.edits.Passing.{Pass, all_pass, not_refused}
-use Rattle.clr_rules.proofs.edits.Shapes.{GivesRound, HandSet, HoldPut, IsEditOf, IsHeldBy, Moves, PointAdded, RecordPut, SectionAdded, StepPut, each_is, edits_of_accepted, named_place}
+use Rattle.clr_rules.proofs.edits.Shapes.{GivesRound, HandSet, HoldPut, IsEditOf, IsHeldBy, Moves, PointAdded, RecordPut, SectionAdded, StepPut, each_is, edits_of_accepted}
 use Rattle.clr_rules.proofs.edits.Shapes.GivesRound.{order, restore, switch}
 use Rattle.clr_rules.proofs.edits.Shapes.HandSet.{into, out_of}
 use Rattle.clr_rules.proofs.edits.Shapes.HoldPut.{at_work, by_step_done}

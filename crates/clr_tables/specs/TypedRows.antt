@@ -8,15 +8,13 @@ use Rattle.clr_net.specs.declared.point.PointRow.{PointRow}
 use Rattle.clr_net.specs.declared.section.SectionRow.{SectionRow}
 use Rattle.clr_staff.specs.declared.employee.StaffRow.{StaffRow}
 use Rattle.clr_order.specs.Step.{Task}
+use Rattle.clr_rules.specs.Command.{named_clearance, named_place}
 use Rattle.clr_rules.specs.Id.{Id, is_id}
 use Rattle.clr_rules.specs.Moment.{is_moment}
 use Rattle.clr_rules.specs.Register.{Register}
 use Rattle.clr_rules.specs.declared.command.Command.{Command}
 use Rattle.clr_rules.specs.declared.command.Kind.{Kind}
-use Rattle.clr_rules.specs.declared.command.Kind.TheVariants.{Request, Order, Instruct, Repeat}
-use Rattle.clr_rules.specs.declared.command.Kind.TheVariants.{Report, Grant, Test, Ground, Unground}
-use Rattle.clr_rules.specs.declared.command.Kind.TheVariants.{SignOn, SignOff, Transfer, Release}
-use Rattle.clr_rules.specs.declared.command.Kind.TheVariants.{Cancel, Restore, Amend, Switch, Show}
+use Rattle.clr_rules.specs.declared.command.Kind.TheVariants.{Order, Transfer, Restore, Switch}
 use Rattle.clr_rules.specs.declared.command.Kind.TheVariants.{Jumper}
 use Rattle.clr_rules.specs.declared.hold.Hold.{Hold}
 use Rattle.clr_rules.specs.declared.point_state.PointState.{PointState}
@@ -60,29 +58,17 @@ is_typed_hold h = is_name h.place && is_id h.id
 abbrev pub is_typed_task : Task → Bool
 is_typed_task t = is_name t.point
 
--- each value of a command is of its type
+-- each value of a command is of its type. Most commands name no more than a clearance and a place
 abbrev pub is_typed_kind : Kind → Bool
-is_typed_kind (Request section) = is_name section
 is_typed_kind (Order c points tasks) = is_id c
     && (list_all is_name points && list_all is_typed_task tasks)
-is_typed_kind (Instruct c n) = is_id c
-is_typed_kind (Repeat c n text) = is_id c
-is_typed_kind (Report c n done) = is_id c
-is_typed_kind (Grant c) = is_id c
-is_typed_kind (Test c section dead) = is_id c && is_name section
-is_typed_kind (Ground c section) = is_id c && is_name section
-is_typed_kind (Unground c section) = is_id c && is_name section
-is_typed_kind (SignOn c crew) = is_id c && is_name crew
-is_typed_kind (SignOff c crew) = is_id c && is_name crew
 is_typed_kind (Transfer c to emergency) = is_id c && is_name to
-is_typed_kind (Release c notified clear) = is_id c
-is_typed_kind (Cancel c) = is_id c
 is_typed_kind (Restore c tasks) = is_id c && list_all is_typed_task tasks
-is_typed_kind (Amend c n) = is_id c
 is_typed_kind (Switch tasks) = list_all is_typed_task tasks
-is_typed_kind (Show c) = is_id c
 is_typed_kind (Jumper point from to lockable remote) =
     is_name point && (is_name from && is_name to)
+is_typed_kind kind =
+    is_id_or_none (named_clearance kind) && is_name_or_none (named_place kind)
 
 abbrev pub is_typed_command : Command → Bool
 is_typed_command q = is_name q.caller && (is_moment q.moment && is_typed_kind q.kind)

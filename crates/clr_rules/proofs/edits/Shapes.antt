@@ -9,6 +9,7 @@ use Rattle.clr_net.specs.declared.point.Position.TheVariants.{Opened, Closed as 
 use Rattle.clr_order.specs.declared.action.Action.TheVariants as actions
 use Rattle.clr_order.specs.declared.step.StepState.TheVariants.{Instructed, Repeated}
 use Rattle.clr_rules.specs.Answer.{reply_clearance}
+use Rattle.clr_rules.specs.Command.{named_place}
 use Rattle.clr_rules.specs.Changes.{done_edits, new_record, new_section, new_steps, phase_after, point_edits}
 use Rattle.clr_rules.specs.Hold.{same_hold}
 use Rattle.clr_rules.specs.Prelude.{all_done, has_any_hold, is_ordered, step_key, step_key_cmp, with_row}
@@ -22,13 +23,6 @@ use Rattle.clr_rules.proofs.lists.FoundSteps.{present_step}
 -- the clearance that a command is about
 abbrev pub subject : Known → List ℕ → Kind → Id
 subject k by kind = reply_clearance k.greatest by (named_clearance kind)
-
--- the section or the crew that the holder names
-abbrev pub named_place : Kind → Option (List ℕ)
-named_place (kinds.Test c section dead) = Some section
-named_place (kinds.Ground c section) = Some section
-named_place (kinds.SignOn c crew) = Some crew
-named_place _ = None
 
 -- the hold that a step takes, once it is reported done
 abbrev pub takes : Action → HoldKind → Bool

@@ -9,7 +9,6 @@ use Rattle.clr_rules.specs.Prelude.{after_edits, CrewsOn, NotGrounded, OutsideFe
 use Rattle.clr_rules.specs.GoodByPhase.{InGranted, InPhase, IsGoodByPhase, inner_fence, outlook_of}
 use Rattle.clr_rules.specs.HoldKind.{is_crew, is_section_kind}
 use Rattle.clr_rules.specs.Id.{same_id_equiv}
-use Rattle.clr_rules.specs.declared.command.Kind.TheVariants.{Ground as GroundIt, SignOff, SignOn, Test, Unground}
 use Rattle.clr_rules.proofs.good.Keeping.{KeepsGood, Changed, commands_keep, keeps}
 use Rattle.clr_rules.proofs.lists.HoldChanges.{is_there, kind_itself, one_kind, others_hold_put, others_hold_taken, own_put, own_taken, was_or_put, was_there}
 use Rattle.clr_rules.proofs.keeps.OneRecord.{found_edits, in_phase_of}
@@ -125,7 +124,7 @@ module _ (R : Register) (good : IsGoodByPhase R) (c : Id) (r : Record) (found : 
       ∙ ap (λ b. not (b && same_name place q) && has_hold holds c kind q) (off_points of kind off_point at_point)
 
   -- A HOLD THAT IS PUT: a test or a ground inside the fence, or a crew where the work section is grounded
-  hold_put_keeps : (of : HoldKind) (place : List ℕ) → is_point_kind of ≡ false → (is_section_kind of ≡ true → has_name (clearance_fence R c) place ≡ true)
+  pub hold_put_keeps : (of : HoldKind) (place : List ℕ) → is_point_kind of ≡ false → (is_section_kind of ≡ true → has_name (clearance_fence R c) place ≡ true)
       → (is_crew of ≡ true → has_hold R.holds c Ground w.work ≡ true) → IsGoodByPhase (after_edits (PutHold (hold_of c of place) ∷ PutRecord next ∷ []) R)
   unfolding after_edits
   hold_put_keeps of place off fenced grounded = keeps R (PutHold (hold_of c of place) ∷ PutRecord next ∷ []) c refl good
@@ -145,7 +144,7 @@ module _ (R : Register) (good : IsGoodByPhase R) (c : Id) (r : Record) (found : 
       had_or_fenced kind q section (inr here) = inr (ap (has_name (clearance_fence R c)) here.2 ∙ fenced (ap is_section_kind (sym here.1) ∙ section))
 
   -- one that is taken, and is no ground
-  hold_taken_keeps : (of : HoldKind) (place : List ℕ) → is_point_kind of ≡ false → same_kind of Ground ≡ false
+  pub hold_taken_keeps : (of : HoldKind) (place : List ℕ) → is_point_kind of ≡ false → same_kind of Ground ≡ false
       → IsGoodByPhase (after_edits (TakeHold (hold_of c of place) ∷ PutRecord next ∷ []) R)
   unfolding after_edits
   hold_taken_keeps of place off no_ground = keeps R (TakeHold (hold_of c of place) ∷ PutRecord next ∷ []) c refl good
@@ -160,7 +159,7 @@ module _ (R : Register) (good : IsGoodByPhase R) (c : Id) (r : Record) (found : 
       }))
 
   -- no crew is on, where the ground of the work section is taken
-  unground_keeps : (section : List ℕ) → (same_name w.work section && has_some_hold R.holds c Crew) ≡ false
+  pub unground_keeps : (section : List ℕ) → (same_name w.work section && has_some_hold R.holds c Crew) ≡ false
       → IsGoodByPhase (after_edits (TakeHold (hold_of c Ground section) ∷ TakeHold (hold_of c Tested section) ∷ PutRecord next ∷ []) R)
   unfolding after_edits
   unground_keeps section clear = keeps R (TakeHold (hold_of c Ground section) ∷ TakeHold (hold_of c Tested section) ∷ PutRecord next ∷ []) c refl good
@@ -184,53 +183,3 @@ module _ (R : Register) (good : IsGoodByPhase R) (c : Id) (r : Record) (found : 
 
       elsewhere : has_some_hold R.holds c Crew ≡ true → same_name section w.work ≡ false
       elsewhere on = nat_list_eq_equiv.symm section w.work ∙ false_from_ne_true (same_name w.work section) (λ same. false≢true (sym clear ∙ and_from (same_name w.work section) (has_some_hold R.holds c Crew) same on))
-
--- ---- the commands
-
-pub tests_keep : (c : Id) (section : List ℕ) (dead : Bool) → KeepsGood (Test c section dead)
-tests_keep c section dead = commands_keep (Test c section dead) (λ R by at good passed.
-    let (r, found, fits, (inside_passes, _)) = holder_begun R c is_granted passed in
-    let w = granted_work R c r good found fits in
-    let fenced = not_refused_true (has_name (clearance_fence R c) section) OutsideFence inside_passes in
-    found_edits R c r (λ r. cond dead (PutHold (hold_of c Tested section)) (TakeHold (hold_of c Tested section)) ∷ PutRecord (record r { last = at }) ∷ []) found
-    (by_test R good c r found w at section fenced dead))
-  where
-    by_test : (R : Register) (good : IsGoodByPhase R) (c : Id) (r : Record) (found : record_of R.records c ≡ Some r) (w : GrantedWork R c r) (at : ℕ) (section : List ℕ)
-        → has_name (clearance_fence R c) section ≡ true → (dead : Bool)
-        → IsGoodByPhase (after_edits (cond dead (PutHold (hold_of c Tested section)) (TakeHold (hold_of c Tested section)) ∷ PutRecord (record r { last = at }) ∷ []) R)
-    by_test R good c r found w at section fenced true = hold_put_keeps R good c r found w at Tested section refl (λ _. fenced) (λ is. absurd (false≢true is))
-    by_test R good c r found w at section fenced false = hold_taken_keeps R good c r found w at Tested section refl refl
-
-pub grounds_keep : (c : Id) (section : List ℕ) → KeepsGood (GroundIt c section)
-grounds_keep c section = commands_keep (GroundIt c section) (λ R by at good passed.
-    let (r, found, fits, (inside_passes, _)) = holder_begun R c is_granted passed in
-    let w = granted_work R c r good found fits in
-    found_edits R c r (λ r. PutHold (hold_of c Ground section) ∷ PutRecord (record r { last = at }) ∷ []) found
-    (hold_put_keeps R good c r found w at Ground section refl (λ _. not_refused_true (has_name (clearance_fence R c) section) OutsideFence inside_passes) (λ is. absurd (false≢true is))))
-
--- what is checked at the work section
-work_check : (R : Register) (c : Id) (r : Record) (w : GrantedWork R c r) (check : List ℕ → Option Refusal) → record_of R.records c ≡ Some r → at_work R c check ≡ None → check w.work ≡ None
-work_check R c r w check found passed = check_of_found r.work w.work check w.has_work (check_of_found (record_of R.records c) r (λ (r : Record). where_some r.work check) found passed)
-
-pub ungrounds_keep : (c : Id) (section : List ℕ) → KeepsGood (Unground c section)
-ungrounds_keep c section = commands_keep (Unground c section) (λ R by at good passed.
-    let (r, found, fits, (_, (_, (crews_passes, _)))) = holder_begun R c is_granted passed in
-    let w = granted_work R c r good found fits in
-    found_edits R c r (λ r. TakeHold (hold_of c Ground section) ∷ TakeHold (hold_of c Tested section) ∷ PutRecord (record r { last = at }) ∷ []) found
-    (unground_keeps R good c r found w at section (not_refused (same_name w.work section && has_some_hold R.holds c Crew) CrewsOn
-    (work_check R c r w (λ work. refuse (same_name work section && has_some_hold R.holds c Crew) CrewsOn) found crews_passes))))
-
-pub sign_ons_keep : (c : Id) (crew : List ℕ) → KeepsGood (SignOn c crew)
-sign_ons_keep c crew = commands_keep (SignOn c crew) (λ R by at good passed.
-    let (r, found, fits, (_, (ground_passes, _))) = holder_begun R c is_granted passed in
-    let w = granted_work R c r good found fits in
-    found_edits R c r (λ r. PutHold (hold_of c Crew crew) ∷ PutRecord (record r { last = at }) ∷ []) found
-    (hold_put_keeps R good c r found w at Crew crew refl (λ is. absurd (false≢true is)) (λ _. not_refused_true (has_hold R.holds c Ground w.work) NotGrounded
-    (work_check R c r w (λ section. refuse (not (has_hold R.holds c Ground section)) NotGrounded) found ground_passes))))
-
-pub sign_offs_keep : (c : Id) (crew : List ℕ) → KeepsGood (SignOff c crew)
-sign_offs_keep c crew = commands_keep (SignOff c crew) (λ R by at good passed.
-    let (r, found, fits, _) = holder_begun R c is_granted passed in
-    let w = granted_work R c r good found fits in
-    found_edits R c r (λ r. TakeHold (hold_of c Crew crew) ∷ PutRecord (record r { last = at }) ∷ []) found
-    (hold_taken_keeps R good c r found w at Crew crew refl refl))
