@@ -10,7 +10,8 @@ ghost use Rattle.clr_commands.specs.Replies.{is_asked, reading_in, readings_of};
 use clr_desk::{DeskFault, Run};
 use clr_edge::fault::Fault;
 use clr_rules::{Command, Reply};
-use clr_text::{TextFault, command_of, fault_text, reply_text};
+use clr_text::{TextFault, command_over, fault_text, reply_text};
+use json::Scratch;
 use std::alloc::{AllocError, Global};
 
 /// What a run prints, and the fault that ended it before its last line, if one did.
@@ -54,7 +55,7 @@ fn lines_of(alloc: Global, input: &[u8]) -> Result<Vec<&[u8]>, AllocError>
     input.split(|b| *b == b'\n').collect(alloc)
 }
 
-/// Reads those of the lines that are not empty.
+/// Reads those of the lines that are not empty, all in the same working memory.
 fn read_all(alloc: Global, lines: &[&[u8]]) -> Result<Asked, AllocError>
     ensures readings { IfOk result (λ asked. asked.readings.items
         ≡ readings_of (filter is_asked (map (λ line. line.now) lines.now))) }
@@ -65,14 +66,20 @@ fn read_all(alloc: Global, lines: &[&[u8]]) -> Result<Asked, AllocError>
         readings: Vec::new(alloc),
         commands: Vec::new(alloc),
     };
+    let mut scratch = Scratch::new(alloc);
     for line in lines {
-        read_line(alloc, line, &mut asked)?;
+        read_line(alloc, line, &mut scratch, &mut asked)?;
     }
     Ok(asked)
 }
 
 /// Reads a line, if it is not empty.
-fn read_line(alloc: Global, line: &[u8], asked: &mut Asked) -> Result<(), AllocError>
+fn read_line(
+    alloc: Global,
+    line: &[u8],
+    scratch: &mut Scratch,
+    asked: &mut Asked,
+) -> Result<(), AllocError>
     ensures readings { OnOk result (asked.new.readings.items
         ≡ asked.old.readings.items ++ reading_in line.now) }
     ensures commands { OnOk result (asked.new.commands.items
@@ -81,7 +88,7 @@ fn read_line(alloc: Global, line: &[u8], asked: &mut Asked) -> Result<(), AllocE
     if line.is_empty() {
         return Ok(());
     }
-    match command_of(alloc, line) {
+    match command_over(alloc, line, scratch) {
         Ok(command) => {
             asked.commands.push(command)?;
             asked.readings.push(Reading::Command)?;

@@ -13,3 +13,4 @@ pub mod SaidTaken
 pub mod CommandsSent
 pub mod Unescaped
 pub mod ReplyPieces
+mod JsonSteps

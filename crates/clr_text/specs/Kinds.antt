@@ -1,4 +1,4 @@
--- THE NINETEEN COMMANDS: the word and the keys of each, and what it says at them.
+-- THE COMMANDS: the word and the keys of each, and what it says at them.
 use Rattle.std.specs.Prelude.{ℕ, Bool, true, false, List, [], ◌∷◌, codes, filter, find, Option}
 use Rattle.std.specs.Prelude.{Result, Ok, bytes_eq}
 use Rattle.clr_rules.specs.Prelude.{list_any}

@@ -1,4 +1,4 @@
-//! THE NINETEEN COMMANDS: the word and the keys of each. They are read and written by one table.
+//! THE COMMANDS: the word and the keys of each. They are read and written by one table.
 ghost use Rattle.std.specs.Prelude.{◌≡◌, IsTrue, OnOk};
 ghost use Rattle.std.specs.List.{list_any};
 ghost use Rattle.std.specs.Str.{bytes_eq};
@@ -107,7 +107,7 @@ macro_rules! read {
     };
 }
 
-/// The word at `do`, which says which of the nineteen commands it is.
+/// The word at `do`, which says which command it is.
 #[derive(Clone, Copy, Debug, PartialEq, Eq)]
 pub(crate) enum Word {
     Request,
@@ -188,6 +188,13 @@ impl Word {
             _ => self.has_own(key),
         }
     }
+}
+
+/// The word of a command of this kind, as it is written.
+pub fn command_word(kind: &Kind) -> &'static str
+    ensures { result.now ≡ word_text (word_of kind.now) }
+{
+    Word::of(kind).text()
 }
 
 /// What a command of this word asks for, read from the values at its own keys.

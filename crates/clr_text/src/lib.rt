@@ -4,6 +4,8 @@
 mod commands;
 mod fault;
 mod fault_texts;
+mod json_number;
+mod json_reading;
 mod key;
 mod kinds;
 pub mod laws;
@@ -24,7 +26,8 @@ pub use commands::{command_text, command_value};
 pub use fault::TextFault;
 pub use fault_texts::fault_text;
 pub use key::Key;
-pub use reading::{command_in, command_of};
+pub use kinds::command_word;
+pub use reading::{command_in, command_of, command_over};
 pub use replies::reply_value;
 pub use reply_texts::reply_text;
 pub use sent::can_be_sent;

@@ -2,18 +2,19 @@
 ghost use Rattle.std.specs.Prelude.{◌≡◌, Ok, string_bytes};
 ghost use Rattle.std.specs.BTreeMap.{keys};
 ghost use Rattle.std.specs.List.{list_all};
-ghost use Rattle.std.specs.Option.{ok_or};
 ghost use Rattle.serde_json.specs.View.{members_view, view};
 ghost use Rattle.clr_text.specs.Answers.{Gives, GivesAs};
 ghost use Rattle.clr_text.specs.Kinds.{keys_of};
 ghost use Rattle.clr_text.specs.Reading.{all_keys, command_in, is_key_of, moment_of, none_missing};
-ghost use Rattle.clr_text.specs.Reading.{read_command, text_at_do, value_of, values_in, word_in};
+ghost use Rattle.clr_text.specs.Reading.{read_command, text_at_do, values_in, word_in};
 
 use crate::fault::TextFault;
+use crate::json_reading::value_over;
 use crate::key::Key;
 use crate::kinds::{Word, kind_in};
 use crate::values::at;
 use clr_rules::{Command, Moment};
+use json::Scratch;
 use serde_json::{Map, Value};
 use std::alloc::Global;
 
@@ -24,28 +25,23 @@ use std::alloc::Global;
 /// that is written with a point or an exponent, `-0`, and one beyond 64 bits are no whole numbers;
 /// one too large for a float is no JSON, and so is a value that nests deeper than 127 levels.
 /// `show` and `jumper` state no moment; their commands have 0.
-#[tactic(auto, unfolding(crate::specs::Reading::read_command))]
 pub fn command_of(alloc: Global, bytes: &[u8]) -> Result<Command, TextFault>
     ensures { Gives result (read_command bytes.now) }
 {
-    let value = value_in(alloc, bytes)?;
-    command_in(alloc, &value)
+    command_over(alloc, bytes, &mut Scratch::new(alloc))
 }
 
-/// The JSON value of a text.
-#[tactic(auto, unfolding(crate::specs::Reading::value_of))]
-fn value_in(alloc: Global, bytes: &[u8]) -> Result<Value, TextFault>
-    ensures { GivesAs view result (ok_or (value_of bytes.now) TextFault.NotJson) }
+/// The same in working memory that the caller keeps from text to text.
+#[tactic(auto, unfolding(crate::specs::Reading::read_command))]
+pub fn command_over(
+    alloc: Global,
+    bytes: &[u8],
+    scratch: &mut Scratch,
+) -> Result<Command, TextFault>
+    ensures { Gives result (read_command bytes.now) }
 {
-    match Value::from_slice(alloc, bytes) {
-        Ok(value) => Ok(value),
-        Err(error) => {
-            if error.is_memory() {
-                return Err(TextFault::NoMemory);
-            }
-            Err(TextFault::NotJson)
-        }
-    }
+    let value = value_over(alloc, bytes, scratch)?;
+    command_in(alloc, &value)
 }
 
 /// The command of a JSON value, as a part of another.
