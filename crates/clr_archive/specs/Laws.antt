@@ -47,7 +47,8 @@ OnlyShowsDiffer =
     → answer (archived before R) q ≡ answer R q
 
 -- ALL COMMANDS ARE ANSWERED AS IF NOTHING WERE ARCHIVED, whenever that is done, if none of them
--- shows a clearance that gave up its steps
+-- shows a clearance that gave up its steps.
+-- No update is among them: it changes what is answered. The headline of clr_deeds has all three
 abbrev pub ActsAreAnsweredAsCommands : Type 0
 ActsAreAnsweredAsCommands =
     (R : Register) (acts : List Act) → IsGood R → ShowNoneGone (λ c. false) R acts

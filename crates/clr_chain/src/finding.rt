@@ -1,10 +1,8 @@
 //! What an opening finds in a journal at the place that a register has in it.
 ghost use Rattle.std.specs.Prelude.{◌≡◌, IfOk, IfSome, IfNone, map, true, false};
 ghost use Rattle.std.specs.List.{list_any};
-ghost use Rattle.serde_json.specs.View.{view};
 ghost use Rattle.clr_append.specs.Lines.{ended_lines, unfinished};
-ghost use Rattle.clr_deeds.specs.Deeds.{deed_of};
-ghost use Rattle.clr_journal.specs.Journals.{carried_out, withdraws};
+ghost use Rattle.clr_journal.specs.Journals.{withdraws};
 ghost use Rattle.clr_journal.specs.Line.{entry_of};
 ghost use Rattle.clr_chain.specs.Chain.{links_of, read_on};
 ghost use Rattle.clr_chain.specs.Finding.{end_of, found_after, found_at_first, found_by};
@@ -18,7 +16,7 @@ use crate::read_on::{ReadOn, read_on};
 use crate::sought::{Sought, seek};
 use crate::values::is_same;
 use clr_append::first_line;
-use clr_journal::{Carried, Line, Turn, carried_out, is_accepted, read_line};
+use clr_journal::{Line, Turn, is_accepted, read_line};
 use clr_place::Place;
 use clr_rules::Text;
 use std::alloc::{AllocError, Global};
@@ -48,17 +46,6 @@ pub struct Ahead {
     pub end: ChainEnd,
     /// How many bytes come after the last of them. They were never synced, and are to be cut off.
     pub rest: usize,
-}
-
-impl Ahead {
-    /// The deeds to carry out: those that were accepted and not withdrawn, in order.
-    pub fn deeds<'a>(&'a self, alloc: Global) -> Result<Vec<&'a Carried>, AllocError>
-        ensures { IfOk result (λ found.
-            map (λ one. (deed_of one.now.deed, view one.now.reply)) found.items
-            ≡ carried_out (map entry_of self.now.lines.items)) }
-    {
-        carried_out(alloc, &self.lines)
-    }
 }
 
 /// What an opening finds in the bytes of a journal, at the place that a register has.

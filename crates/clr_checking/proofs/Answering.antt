@@ -1,12 +1,8 @@
 -- Lines more whose replies are those of a run.
-use Rattle.std.proofs.Common.{◌≡◌, ◌∙◌, false, List, ◌++◌, map, ap}
-use Rattle.std.proofs.lemmas.List.{map-append}
-use Rattle.serde_json.specs.Data.{Data}
-use Rattle.clr_deeds.specs.Deeds.{Deed}
+use Rattle.std.proofs.Common.{◌≡◌, ◌∙◌, false, List, ◌++◌}
 use Rattle.clr_rules.specs.Register.{Register}
-use Rattle.clr_journal.specs.Journals.{carried_out, deeds_of, withdraws}
+use Rattle.clr_journal.specs.Journals.{withdraws}
 use Rattle.clr_journal.specs.Line.{Entry}
-use Rattle.clr_chain.proofs.LevelKept.{carried_out-append}
 use Rattle.clr_checking.specs.Checking.{AreAnswered, none, refused, gone, done}
 use Rattle.clr_checking.proofs.Places.{same_withdraws}
 
@@ -20,7 +16,3 @@ answered_then more T kept (gone R S receipt q reply n rest is are) next =
     gone R T receipt q reply n (rest ++ more) is (answered_then more T kept are next)
 answered_then more T kept (done R S receipt q reply rest is stays own are) next =
     done R T receipt q reply (rest ++ more) is (same_withdraws rest more kept ∙ stays) own (answered_then more T kept are next)
-
-pub deeds_then : (xs ys : List Entry) → withdraws ys ≡ false → deeds_of (xs ++ ys) ≡ deeds_of xs ++ deeds_of ys
-deeds_then xs ys kept =
-    ap (map (λ (pair : Deed × Data). pair.0)) (carried_out-append xs ys kept) ∙ map-append (λ (pair : Deed × Data). pair.0) (carried_out xs) (carried_out ys)

@@ -200,7 +200,7 @@ where
     }
 }
 
-/// Reports why the arguments of the program could not be had: one is no text, or memory ran out.
+/// Reports why the arguments of the program could not be read: one is no text, or memory ran out.
 fn no_words<E: CountedFlush>(cause: &io::Error, errors: &mut E) -> u8
     ensures { ReportsNoWords (error_kind cause.now) result
         (E.stream errors.old) (E.stream errors.new) }

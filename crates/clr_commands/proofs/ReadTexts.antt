@@ -44,7 +44,7 @@ pub staff-long : (bytes : List ℕ) → nat_lt 4194304 (length bytes) ≡ true �
 unfolding file_rows
 staff-long bytes long = let over = over_limit (length bytes) long in rw over
 
--- its bytes were not had
+-- its bytes could not be read
 pub unread-fault : {A : Type 0} (file : ImportFile) (read : List ℕ → Result A CsvFault) (known : Option (List ℕ)) (fault passed : Fault)
     → ((bytes : List ℕ) → nat_lt 4194304 (length bytes) ≡ true → read bytes ≡ Err csv.TooLong)
     → IfSome known (λ bytes. IsUnread file fault ⊎ ((fault ≡ File file csv.TooLong) × (nat_lt 4194304 (length bytes) ≡ true)))

@@ -71,12 +71,12 @@ taken_with {K} {J} {C} kept has_place fails shows text found may_leave is_usable
     stays (Err cause) shown clean is_open = shown.now clean is_open
 
 -- and its line was noted
-pub line_told : {K J C : Type 0} (kept : K → State) (has_place : Placing) (fails : DeskFault → Type 0) (shows : C → ℕ → Type 0) (log : append.Ghosts J)
+pub line_reported : {K J C : Type 0} (kept : K → State) (has_place : Placing) (fails : DeskFault → Type 0) (shows : C → ℕ → Type 0) (log : append.Ghosts J)
     (old new : Desk (Keeper K J C)) (deed : Deed) (came : Came)
     → RenewsAt kept has_place fails shows log.text log.found log.may_leave log.is_usable old new deed came
     → HasLine kept has_place fails shows log old deed (done_of came) new
-line_told kept has_place fails shows log old new deed (Ok value) renews = record { came = Ok value; tells = tt; renews = renews }
-line_told kept has_place fails shows log old new deed (Err cause) renews = record { came = Err cause; tells = refl; renews = renews }
+line_reported kept has_place fails shows log old new deed (Ok value) renews = record { came = Ok value; reports = tt; renews = renews }
+line_reported kept has_place fails shows log old new deed (Err cause) renews = record { came = Err cause; reports = refl; renews = renews }
 
 -- ---- what did not go out whole
 

@@ -65,11 +65,11 @@ use Rattle.clr_edge.specs.Visit.{Done, Ending, Ends, Opening, Shutting, first_fa
 use Rattle.clr_edge.specs.declared.fault.Fault.{Fault}
 use Rattle.clr_edge.specs.declared.fault.Fault.TheVariants.{Memory, Update}
 use Rattle.clr_update.specs.declared.obstacle.Obstacle.{Obstacle}
-use Rattle.clr_commands.specs.DeedLines.{HasLine, IsJournaled}
+use Rattle.clr_commands.specs.DeedLines.{HasLine}
 use Rattle.clr_commands.specs.Faults.{IsOfSubcommand}
 use Rattle.clr_commands.specs.Fence.{argument}
 use Rattle.clr_commands.specs.Import.{FileRows}
-use Rattle.clr_commands.specs.Update.{AreSaid, IsDone, IsRenewed, IsUpdateNoted, IsUpdated, NotesUpdate, RefusesUpdate, ReportsUpdate, Texts, UpdatesAlone, UpdatesAt, UpdatesLogged, WithJournal, names_said, reported, text_reported, update_fault}
+use Rattle.clr_commands.specs.Update.{AreSaid, IsDone, IsRenewed, IsUpdated, NotesUpdate, RefusesUpdate, ReportsUpdate, Texts, UpdatesAlone, UpdatesAt, UpdatesLogged, WithJournal, names_said, reported, text_reported, update_fault}
 use Rattle.clr_commands.proofs.Faults.{line_plain, obstacle_plain, of_desk_plain}
 use Rattle.clr_commands.proofs.PointsNamed.{names_after}
 
@@ -269,8 +269,8 @@ module _ {K J C : Type 0} (kept : K → State) (has_place : Placing) (fails : De
 
   noted_as : (came : Came) → of ≡ changes Q (updated Q u) → Renews came
       → HasLine kept has_place fails shows log old (update (changes Q (updated Q u))) (reported lines came) new
-  noted_as (Ok value) same renews = record { came = Ok value; tells = tt; renews = noted_by (Ok value) same renews }
-  noted_as (Err cause) same renews = record { came = Err cause; tells = refl; renews = noted_by (Err cause) same renews }
+  noted_as (Ok value) same renews = record { came = Ok value; reports = tt; renews = noted_by (Ok value) same renews }
+  noted_as (Err cause) same renews = record { came = Err cause; reports = refl; renews = noted_by (Err cause) same renews }
 
   renewed_as : (came : Came) → IsStaffed Q → IsAccepted Q u → after_changes Q of ≡ updated Q u → of ≡ changes Q (updated Q u) → UpdatesKeepGood
       → can_be_said (changes Q (updated Q u)) ≡ true → string_bytes lines ≡ change_lines of → Renews came

@@ -33,38 +33,38 @@ IsUnsent output output' text fault = ((fault ≡ Output) × IsCut output output'
 
 -- THE STEPS OF PAST RECORDS LEFT THE TABLES of a register, in one transaction, and this is saved;
 -- or at a fault they are as they were. A crash leaves the tables before or after
-pub record TakesOut {K : Type 0} (kept : K → State) (before : ℕ) (R : Register) (told : Done)
+pub record TakesOut {K : Type 0} (kept : K → State) (before : ℕ) (R : Register) (reported : Done)
     (read after : K) : Type 0 where
   pub taken : HasCleanDisk (kept after) → HasTables (kept read).now (tables_of R)
-      → OnOk told (HasTables (kept after).now (tables_of (archived before R)))
-  pub saved : HasCleanDisk (kept after) → OnOk told (IsSaved (kept after))
+      → OnOk reported (HasTables (kept after).now (tables_of (archived before R)))
+  pub saved : HasCleanDisk (kept after) → OnOk reported (IsSaved (kept after))
   pub none : HasCleanDisk (kept after) → IsTrue (kept after).is_open
-      → OnErr told ((kept after).now ≡ (kept read).now)
+      → OnErr reported ((kept after).now ≡ (kept read).now)
   pub crash : Survives (kept read) (kept after) (AreArchived (kept read).now before R)
 
 -- EACH STEP IS IN THE OUTPUT, OR IN THE TABLES, OR IN BOTH: all went out and was flushed where any
 -- step may have left the tables, and these are as they were read where not all went out
 abbrev pub IsArchived : {K : Type 0} → commit.Ghosts K → ℕ → Stream → Stream → Register → Done → K
     → K → Type 0
-IsArchived keeper before output output' R told read after =
+IsArchived keeper before output output' R reported read after =
     (WentOut output output' (archive_text before R)
-    × TakesOut keeper.kept before R told read after × IfErr told (IsOfDesk keeper.fails))
-    ⊎ ((after ≡ read) × IsErrAnd told (IsUnsent output output' (archive_text before R)))
+    × TakesOut keeper.kept before R reported read after × IfErr reported (IsOfDesk keeper.fails))
+    ⊎ ((after ≡ read) × IsErrAnd reported (IsUnsent output output' (archive_text before R)))
 
 -- the same of the register of a desk, with no step of the machine
 abbrev pub ArchivesAlone : {M : Type 0} → ℕ → Stream → Stream → (K : Type 0) → commit.Ghosts K
     → Done → M → M → Desk K → Desk K → Type 0
-ArchivesAlone before output output' K keeper told old new taken left = (new ≡ old)
-    × IsArchived keeper before output output' taken.book.register told taken.store left.store
+ArchivesAlone before output output' K keeper reported old new taken left = (new ≡ old)
+    × IsArchived keeper before output output' taken.book.register reported taken.store left.store
 
 -- with a journal, in which the archive has its line
 abbrev pub ArchivesLogged : {M J C S : Type 0} → Logs M J C → Ghosts S → ℕ → Stream → Stream → Done
     → M → M → Desk (Keeper (Held S) J C) → Desk (Keeper (Held S) J C) → Type 0
-ArchivesLogged {J = J} {C = C} {S = S} logs g before output output' told old new taken left =
-    ArchivesAlone before output output' (Keeper (Held S) J C) (logged_keeper g logs) told old new
-    taken left
-    × IsJournaled (state g) store_place FailsAsStore logs.shows logs.log taken (archive before) told
-    left
+ArchivesLogged {J = J} {C = C} {S = S} logs g before output output' reported old new taken left =
+    ArchivesAlone before output output' (Keeper (Held S) J C) (logged_keeper g logs) reported
+    old new taken left
+    × IsJournaled (state g) store_place FailsAsStore logs.shows logs.log taken (archive before)
+    reported left
 
 -- with a journal or without one: the register is taken up, archived and let go, and the database
 -- closed. Where it was not taken up nothing went out. The first fault is the result

@@ -14,20 +14,20 @@ use Rattle.clr_edge.specs.Fault.{of_desk}
 use Rattle.clr_edge.specs.declared.fault.Fault.{Fault}
 
 -- what came of a deed is what is reported
-abbrev pub Tells : {T : Type 0} → Came → Result T Fault → Type 0
-Tells (Ok done) (Ok value) = Unit {0}
-Tells (Err cause) (Err fault) = fault ≡ of_desk cause
-Tells (Ok done) (Err fault) = ⊥
-Tells (Err cause) (Ok value) = ⊥
+abbrev pub Reports : {T : Type 0} → Came → Result T Fault → Type 0
+Reports (Ok done) (Ok value) = Unit {0}
+Reports (Err cause) (Err fault) = fault ≡ of_desk cause
+Reports (Ok done) (Err fault) = ⊥
+Reports (Err cause) (Ok value) = ⊥
 
 -- A DEED HAS ITS LINE, which is durable before anything of it is done; at a fault the line was not
 -- written or not synced, or what keeps the tables failed after it
 pub record HasLine {K J C T : Type 0} (kept : K → State) (has_place : Placing)
     (fails : DeskFault → Type 0) (shows : C → ℕ → Type 0) (log : append.Ghosts J)
-    (taken : Desk (Keeper K J C)) (deed : Deed) (told : Result T Fault)
+    (taken : Desk (Keeper K J C)) (deed : Deed) (reported : Result T Fault)
     (left : Desk (Keeper K J C)) : Type 0 where
   pub came : Came
-  pub tells : Tells came told
+  pub reports : Reports came reported
   pub renews : RenewsAt kept has_place fails shows log.text log.found log.may_leave log.is_usable
       taken left deed came
 
@@ -35,6 +35,6 @@ pub record HasLine {K J C T : Type 0} (kept : K → State) (has_place : Placing)
 abbrev pub IsJournaled : {K J C T : Type 0} → (K → State) → Placing → (DeskFault → Type 0)
     → (C → ℕ → Type 0) → append.Ghosts J → Desk (Keeper K J C) → Deed → Result T Fault
     → Desk (Keeper K J C) → Type 0
-IsJournaled kept has_place fails shows log taken deed told left =
-    IsErrAnd told (λ fault. left ≡ taken)
-    ⊎ HasLine kept has_place fails shows log taken deed told left
+IsJournaled kept has_place fails shows log taken deed reported left =
+    IsErrAnd reported (λ fault. left ≡ taken)
+    ⊎ HasLine kept has_place fails shows log taken deed reported left

@@ -56,7 +56,7 @@ pub struct Terms {
 ///
 /// A file of logins that is named is read first: where it has a fault, no database is opened. The
 /// faults of the database are those of `run`. `UnknownEmployee` where the register has no such
-/// employee, `Listen` where the port cannot be had, `Output` where the line cannot be written. A
+/// employee, `Listen` where the port cannot be bound, `Output` where the line cannot be written. A
 /// connection that fails is reported, and ends nothing; but a desk's that cannot be taken, though
 /// it is asked for eight times in a row, ends the server with `Accept`. With a journal, one after
 /// which it is not known if a change was kept ends it with `Journal(InDoubt)`, once its response is

@@ -20,7 +20,7 @@ use Rattle.clr_edge.specs.declared.fault.Fault.{Fault}
 use Rattle.clr_edge.specs.declared.fault.Fault.TheVariants.{Journal, Memory}
 use Rattle.clr_edge.specs.declared.fault.JournalFault.TheVariants as why
 
--- the file of a journal was not had
+-- the file of a journal could not be opened
 pub opening_unhad : (fault : Fault) → (fault ≡ Memory) ⊎ (fault ≡ Journal why.OpenFailed) → IsOfOpening fault
 opening_unhad fault (inl memory) = (chain.NoMemory, memory)
 opening_unhad fault (inr failed) = (chain.OpenFailed, failed)
@@ -30,7 +30,7 @@ beginning_unhad fault (inl memory) = inr (unbegun.NoMemory, memory)
 beginning_unhad fault (inr failed) = inl failed
 
 module _ {Y D : Type 0} (has : Y → List ℕ → Files D → Y → Type 0) (lets_go : Y → D → Y → Type 0) (g : disk.Ghosts D) (old : Y) (path : List ℕ) (place : Place) where
-  -- it was had, and holds a journal
+  -- it was opened, and holds a journal
   pub chain_at : {J : Type 0} (log : append.Ghosts J) (disk_of : J → D) (new : Y) (disk : D) (journal : J) (ahead : Ahead)
       → HasJournalDisk has lets_go old path new disk
       → (IsTrue (g.is_clean (disk_of journal)) → IsOpened place (g.seen disk) ahead (log.text journal))
@@ -70,7 +70,7 @@ module _ {Y D : Type 0} (has : Y → List ℕ → Files D → Y → Type 0) (let
     failed = subst (λ d. cause ≡ chain.OpenFailed → MoreFaults (g.faults d) (g.faults left)) is failed;
   }
 
-  -- it was had, and a journal was begun in it
+  -- it was opened, and a journal was begun in it
   pub begun_at : {J : Type 0} (log : append.Ghosts J) (disk_of : J → D) (new : Y) (disk : D) (journal : J)
       → HasJournalDisk has lets_go old path new disk → (IsTrue (g.is_clean (disk_of journal)) → g.seen disk ≡ [])
       → IsNew log (λ it. g.is_clean (disk_of it)) place journal → IsBegunAt has lets_go g log disk_of old path place journal new

@@ -19,7 +19,7 @@ use Rattle.clr_edge.specs.Lines.{EndsAs, IsNextLine, IsTooLong, ends_whole}
 abbrev place : List ℕ → ℕ
 place xs = position_or_len is_line_feed xs
 
--- what stands before the first line feed, and what comes after it
+-- what comes before the first line feed, and after it
 pub record IsSplit (n : ℕ) (xs : List ℕ) : Type 0 where
   pub whole : xs ≡ take n xs ++ 10 ∷ drop (n + 1) xs
   pub none : list_any is_line_feed (take n xs) ≡ false

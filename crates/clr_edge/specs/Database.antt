@@ -41,12 +41,12 @@ IsOfLine fault = (fault ≡ Memory) ⊎ (fault ≡ Store Sql)
 abbrev pub IsOfStore : Fault → Type 0
 IsOfStore fault = (fault ≡ Memory) ⊎ ((cause : StoreFault) × (fault ≡ Store cause))
 
--- what is reported where the size of a file was not had, for this reason
+-- what is reported where the size of a file could not be read, for this reason
 abbrev pub size_fault : ErrorKind → Fault
 size_fault OutOfMemory = Memory
 size_fault _ = Store Sql
 
--- there is no database in the file at a path: it is empty, or its size was not had
+-- there is no database in the file at a path: it is empty, or its size could not be read
 abbrev pub HasNoBytes : (List ℕ → ℕ → Type 0) → (List ℕ → ErrorKind → Type 0) → List ℕ → Fault
     → Type 0
 HasNoBytes has_size lacks_size path fault = (has_size path 0 × (fault ≡ Store Sql))
@@ -102,7 +102,7 @@ pub record IsAsBefore {S : Type 0} (g : Ghosts S) (before after : Held S) : Type
       → IsTrue (state g after).is_open → before.in_transaction ≡ false
       → (state g after).committed ≡ (state g before).committed
 
--- the tables of a register were made in a database that had nothing: where the disk is clean they
+-- the tables of a register were made in an empty database: where the disk is clean they
 -- are there and saved, and a crash leaves them, or what it left before
 pub record IsMade {S : Type 0} (g : Ghosts S) (before : Held S) (R : Register) (after : Held S)
     : Type 0 where

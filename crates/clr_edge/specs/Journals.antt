@@ -47,19 +47,19 @@ IsOfBeginning fault = (fault ≡ Journal why.OpenFailed)
 
 -- ---- no journal in a file
 
--- what is reported where the size of a file was not had, for this reason
+-- what is reported where the size of a file could not be read, for this reason
 abbrev pub size_fault : ErrorKind → Fault
 size_fault OutOfMemory = Memory
 size_fault _ = Journal why.OpenFailed
 
--- there is no journal in the file at a path: it is empty, or its size was not had
+-- there is no journal in the file at a path: it is empty, or its size could not be read
 abbrev pub HasNoJournal : (List ℕ → ℕ → Type 0) → (List ℕ → ErrorKind → Type 0) → List ℕ → Fault
     → Type 0
 HasNoJournal has_size lacks_size path fault =
     (has_size path 0 × (fault ≡ Journal why.OpenFailed))
     ⊎ ((kind : ErrorKind) × lacks_size path kind × (fault ≡ size_fault kind))
 
--- the file of a journal at a path was had, and holds this; its log was let go as it was had
+-- the file of a journal at a path was opened, and holds this; its log was let go unchanged
 abbrev pub HasJournalDisk : {Y D : Type 0} → (Y → List ℕ → Files D → Y → Type 0)
     → (Y → D → Y → Type 0) → Y → List ℕ → Y → D → Type 0
 HasJournalDisk {Y} {D} has lets_go old path new disk = (files : Files D) × (middle : Y)
@@ -69,7 +69,7 @@ HasJournalDisk {Y} {D} has lets_go old path new disk = (files : Files D) × (mid
 
 -- A JOURNAL OVER THE FILE AT A PATH, OPENED AT A PLACE: it has what the file held, up to the last
 -- line that holds its sum, and these lines come after the place. A crash leaves that text and no
--- more. The log of that file is let go as it was had
+-- more. The log of that file is let go unchanged
 pub record IsChainAt {Y D J : Type 0} (has : Y → List ℕ → Files D → Y → Type 0)
     (lets_go : Y → D → Y → Type 0) (g : disk.Ghosts D) (log : append.Ghosts J) (disk_of : J → D)
     (old : Y) (path : List ℕ) (place : Place) (journal : J) (ahead : Ahead) (new : Y)
@@ -105,7 +105,7 @@ pub record IsUnopenedOver {Y D : Type 0} (has : Y → List ℕ → Files D → Y
   pub spared : (cause ≡ chain.OpenFailed → ⊥) → Unchanged g.seen g.may_leave files.db left
   pub failed : cause ≡ chain.OpenFailed → MoreFaults (g.faults files.db) (g.faults left)
 
--- the same, or the files at the path were not had
+-- the same, or the files at the path could not be opened
 abbrev pub IsUnopenedAt : {Y D : Type 0} → (Y → List ℕ → Files D → Y → Type 0)
     → (Y → List ℕ → Y → Type 0) → (Y → D → Y → Type 0) → disk.Ghosts D → Y → List ℕ → Place
     → Fault → Y → Type 0

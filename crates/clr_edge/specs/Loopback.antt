@@ -27,17 +27,17 @@ pub record IsLocal (address : SocketAddr) (port : ℕ) : Type 0 where
   pub ip : IsV4And (socket_ip address) (λ ip. ipv4_octets ip ≡ 127 ∷ 0 ∷ 0 ∷ 1 ∷ [])
   pub port_is : socket_port address ≡ port
 
--- the fault of a port that could not be had for this reason
+-- the fault of a port that could not be bound for this reason
 abbrev pub listen_fault : ErrorKind → Fault
 listen_fault OutOfMemory = Memory
 listen_fault kind = Listen
 
--- a listener was had on a port of 127.0.0.1
+-- a listener was bound to a port of 127.0.0.1
 abbrev pub StandsOn : {M L : Type 0} → (M → SocketAddr → L → M → Type 0) → M → ℕ → L → M → Type 0
 StandsOn stands old port listener new =
     (address : SocketAddr) × IsLocal address port × stands old address listener new
 
--- that port could not be had, and the fault says so
+-- that port could not be bound, and the fault says so
 abbrev pub RefusesOn : {M : Type 0} → (M → SocketAddr → ErrorKind → M → Type 0) → M → ℕ → Fault → M
     → Type 0
 RefusesOn refuses old port fault new =

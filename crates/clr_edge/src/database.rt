@@ -79,7 +79,7 @@ pub trait Makes: Databases {
 }
 
 /// A database that is opened lies in the files at that path, and what is found is what they held.
-/// `stored` looks first whether a file is there that is not empty. No other file is had.
+/// `stored` looks first whether a file is there that is not empty. No other file is opened.
 impl<Y: System> Databases for Machine<Y> {
     type Tables = FileStore<Y::Medium>;
 
@@ -190,7 +190,7 @@ fn expect_bytes<Y: System>(system: &Y, path: &str) -> Result<u64, Fault>
     }
 }
 
-/// What is reported where the size of a file was not had.
+/// What is reported where the size of a file could not be read.
 fn size_fault(error: &io::Error) -> Fault
     ensures value { result ≡ size_fault (error_kind error.now) }
     ensures line { IsOfLine result }

@@ -90,7 +90,7 @@ pub trait Journals {
         ensures { has_time self.now result };
 }
 
-/// A journal lies in the file at that path, and has what that held. No other file is had.
+/// A journal lies in the file at that path, and has what that held. No other file is opened.
 impl<Y: System> Journals for Machine<Y> {
     type Log = OnDisk<Y::JournalMedium>;
 
@@ -188,7 +188,7 @@ impl<Y: System> Journals for Machine<Y> {
 }
 
 impl<Y: System> Machine<Y> {
-    /// What the file of a journal at a path holds. Its log is let go as it was had.
+    /// What the file of a journal at a path holds. Its log is let go unchanged.
     fn journal_disk(&mut self, path: &str) -> Result<Y::JournalMedium, Fault>
         ensures had { IfOk result (HasJournalDisk Y.has_journal_files Y.lets_journal_go
             self.old.system path.now self.new.system) }
@@ -248,7 +248,7 @@ fn expect_journal<Y: System>(system: &Y, path: &str) -> Result<(), Fault>
     }
 }
 
-/// What is reported where the size of a journal was not had.
+/// What is reported where the size of a journal could not be read.
 fn size_fault(error: &io::Error) -> Fault
     ensures value { result ≡ size_fault (error_kind error.now) }
     ensures opening { IsOfOpening result }

@@ -28,10 +28,10 @@ pub trait Loopback {
     /// What the response is written to.
     type Writer: CountedFlush + Drop;
 
-    /// That an address could not be had, for this reason. Only `bind` says so.
+    /// That an address could not be bound, for this reason. Only `bind` says so.
     ghost refuses: { Self → AnySocketAddr → ErrorKind → Self → Type 0 };
 
-    /// That a listener was had on an address. Only `bind` says so.
+    /// That a listener was bound to an address. Only `bind` says so.
     ghost stands: { Self → AnySocketAddr → Self.Listener → Self → Type 0 };
 
     /// That a connection came to a listener, and has this number of seconds, if one is given. Only
@@ -256,7 +256,7 @@ pub fn listen<L: Loopback>(net: &mut L, port: u16) -> Result<L::Listener, Fault>
     }
 }
 
-/// The fault of a port that could not be had.
+/// The fault of a port that could not be bound.
 fn listen_fault(error: &io::Error) -> Fault
     ensures { result ≡ listen_fault (error_kind error.now) }
 {

@@ -75,7 +75,7 @@ PlacedIsLevel g before first after = (R : Register)
 
 -- ---- with the register
 
--- THE TABLES OF A REGISTER WERE MADE WITH ITS FIRST PLACE, in a database that had nothing, so it is
+-- THE TABLES OF A REGISTER WERE MADE WITH ITS FIRST PLACE, in an empty database, so it is
 -- level with the journal that begins there. Where the disk is clean they are there and saved, and a
 -- crash leaves both, or what it left before
 pub record IsMadeAt {S : Type 0} (g : Ghosts S) (before : Held S) (R : Register) (place : Place)

@@ -130,7 +130,7 @@ pub record ServesOnce (args : ServeArgs) : Type 0 where
 abbrev pub fresh : Stream
 fresh = record { contents = Some []; failures = 0; stalls = 0; flushed = false }
 
--- what is sent for the board of that register, to the last byte; or that it cannot be had
+-- what is sent for the board of that register, to the last byte; or that it is unavailable
 abbrev pub IsBoardResponse : List ℕ → Type 0
 IsBoardResponse sent = (sent ≡ response_bytes (printed (board_text jones_register (pos 0))))
     ⊎ (sent ≡ response_bytes (json 503 (codes "{\"fault\":\"Unavailable\"}")))

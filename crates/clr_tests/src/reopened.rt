@@ -4,7 +4,7 @@ use clr_chain::{
     ChainFault, Link, NewFault, OpenedChain, Place, RULES, first_sum, new_chain, open_chain,
     print_carried, print_withdrawn,
 };
-use clr_journal::{Deed, Journal, OnDisk, Receipt};
+use clr_journal::{Deed, Journal, OnDisk, Receipt, carried_out};
 use clr_net::Name;
 use clr_rules::{Card, ClearanceId, Phase, Reply, Text};
 use clr_text::{command_of, command_text};
@@ -199,7 +199,7 @@ fn lines_are_read_after_a_crash(rt: HostRuntime) -> Result<(), Fail> {
     assert_eq!(rt; ahead.lines.len(), 3);
     assert_eq!(rt; ahead.end.sum.as_str(), LAST_SUM);
     assert_eq!(rt; ahead.rest, 0);
-    let deeds = ahead.deeds(alloc)?;
+    let deeds = carried_out(alloc, &ahead.lines)?;
     assert_eq!(rt; deeds.len(), 1);
     for carried in &deeds {
         let Deed::Command(command) = &carried.deed else {

@@ -16,7 +16,7 @@ pub struct StandardInput<T> {
 }
 
 impl<T> StandardInput<T> {
-    /// Standard input, which is open if a second descriptor of it could be had.
+    /// Standard input, which is open if a second descriptor of it could be made.
     pub fn new<D>(stdin: T, second: &io::Result<D>) -> StandardInput<T>
         ensures stdin { result.stdin ≡ stdin }
         ensures open { result.is_open ≡ is_ok second.now }

@@ -10,7 +10,7 @@ use Rattle.clr_commands.specs.Archive.{IsUnsent, TakesOut}
 use Rattle.clr_commands.specs.ArchiveText.{archive_text}
 use Rattle.clr_commands.specs.DeedLines.{IsJournaled}
 use Rattle.clr_commands.specs.Faults.{IsOfDesk}
-use Rattle.clr_commands.proofs.Taken.{done_of-fault, line_told, taken_with}
+use Rattle.clr_commands.proofs.Taken.{done_of-fault, line_reported, taken_with}
 use Rattle.clr_commands.proofs.archive.archive_logged.Goals as goal
 
 pub renew-came-requires : goal.renew-came-requires
@@ -38,7 +38,7 @@ pub returns-in-Ok-clause-noted : goal.returns-in-Ok-clause-noted
 returns-in-Ok-clause-noted g c =
     subst (λ (told : Done). IsJournaled g.K.Commit.kept g.K.CommitAt.has_place g.K.Commit.fails g.C.Clock.shows g.J.Journal c.args.desk (of_archive c.args.before) told
     c.renew-came.result.1) (sym c.done_of.ensures)
-    (inr (line_told g.K.Commit.kept g.K.CommitAt.has_place g.K.Commit.fails g.C.Clock.shows g.J.Journal c.args.desk c.renew-came.result.1 (of_archive c.args.before)
+    (inr (line_reported g.K.Commit.kept g.K.CommitAt.has_place g.K.Commit.fails g.C.Clock.shows g.J.Journal c.args.desk c.renew-came.result.1 (of_archive c.args.before)
     c.renew-came.result.0 c.renew-came.ensures.renewed))
 
 pub returns-in-Ok-clause-level : goal.returns-in-Ok-clause-level

@@ -8,7 +8,7 @@ use Rattle.clr_commands.proofs.ReadTexts.{gives-passed, known-bytes, known-fault
 use Rattle.clr_commands.proofs.RunAnswers.{passed_cause}
 use Rattle.clr_commands.proofs.import.staff_at.Goals as goal
 
--- the bytes were not had
+-- the bytes could not be read
 pub returns-in_err-bytes-clause-rows : goal.returns-in_err-bytes-clause-rows
 returns-in_err-bytes-clause-rows g c =
     gives-passed Staff staff_of (λ (read : Vec StaffRow Global × Vec ℕ Global). read.0.items) (g.O.Opens.bytes_at c.args.paths.now c.args.path.now) _ _ c.from_residual.ensures.1

@@ -1,7 +1,6 @@
 use Rattle.std.proofs.Common.{◌≡◌, ◌∙◌, [], ◌∷◌, ◌++◌, ap, inl, inr, refl, subst, sym}
-use Rattle.serde_json.specs.View.{view}
 use Rattle.clr_journal.specs.Journals.{turn_after, withdraws}
-use Rattle.clr_journal.specs.Line.{Entry, carried, entry_of, withdrawn}
+use Rattle.clr_journal.specs.Line.{Entry, entry_of, withdrawn}
 use Rattle.clr_journal.specs.declared.reading.Turn.{Turn}
 use Rattle.clr_checking.specs.Checking.{NoneHas}
 use Rattle.clr_checking.specs.CheckingOn.{IsAfter, Settles}

@@ -25,7 +25,7 @@ returns-in-Err-clause-spares_journal g c =
     inr (unbegun_over _ _ _ _ _ _ _ _ c.in_ok-disk.disk c.in-Err.back c.in-Err.fault _ c.in_ok-disk.ensures.had c.let_journal_go.ensures c.of_new.ensures.value
     c.in-Err.ensures.had c.in-Err.ensures.long c.in-Err.ensures.spared c.in-Err.ensures.cause)
 
--- the file was not had
+-- the file could not be opened
 pub returns-in_err-disk-clause-spares_journal : goal.returns-in_err-disk-clause-spares_journal
 returns-in_err-disk-clause-spares_journal g c =
     IfErr-passed _ _

@@ -16,7 +16,7 @@ returns-in-Err-clause-refused g c =
     inr (unopened_over _ _ _ _ _ _ _ _ c.in_ok-disk.disk c.in-Err.disk c.in-Err.fault _ c.in_ok-disk.ensures.had c.let_journal_go.ensures c.of_chain.ensures.value
     c.in-Err.ensures.refused c.in-Err.ensures.left c.in-Err.ensures.spared c.in-Err.ensures.cause)
 
--- the file was not had
+-- the file could not be opened
 pub returns-in_err-disk-clause-refused : goal.returns-in_err-disk-clause-refused
 returns-in_err-disk-clause-refused g c =
     IfErr-passed _ _
