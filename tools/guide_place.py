@@ -85,8 +85,9 @@ class Place:
         for one in (self.own, self.etc, self.etc / "private", self.log, self.srv, self.folder / "run"):
             one.mkdir(mode=0o755)
         shutil.copytree(TOP / "desk", self.srv / "desk", ignore=shutil.ignore_patterns("run", "files"))
-        for name in ("files", "run"):
-            (self.srv / "desk" / name).mkdir()
+        for name in ("desk/files", "desk/run", "docs"):
+            (self.srv / name).mkdir()
+        shutil.copy(TOP / "docs" / "RULES.md", self.srv / "docs")
         for name, beside in (("normal.csv", "normal.csv"), ("journal", "journal"), ("beside", ".")):
             (self.srv / "desk" / "files" / name).symlink_to(self.own / beside)
         (self.etc / "network").mkdir()

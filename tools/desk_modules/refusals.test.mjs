@@ -7,7 +7,7 @@ import test from "node:test";
 import { readRefusals, refusalsOf } from "../../desk/page/replies/refusals.js";
 import { refusalWords } from "../../desk/page/replies/words.js";
 
-const RULES = readFileSync(new URL("../../desk/page/replies/RULES.md", import.meta.url), "utf8");
+const RULES = readFileSync(new URL("../../docs/RULES.md", import.meta.url), "utf8");
 const answered = (text) => async () => ({ ok: true, text: async () => text });
 
 test("each refusal of the register has both texts, without marks of Markdown", () => {

@@ -1,5 +1,4 @@
-// What each refusal means, and what to do, by the table of docs/RULES.md. RULES.md lies beside this file, as a link to that
-// one or a copy of it.
+// What each refusal means, and what to do, by the table of docs/RULES.md, which nginx gives as RULES.md beside this file.
 
 const ROW = /^\| \d+ \| ([A-Z_]+) \| (.*) \|.*\| (.*) \|$/gm; // number, name, where it applies, what it names, what to do
 const PATIENCE = 10000; // milliseconds
