@@ -20,8 +20,6 @@ mod http;
 #[cfg(test)]
 mod limits;
 #[cfg(test)]
-mod reopened;
-#[cfg(test)]
 mod stops;
 #[cfg(test)]
 mod store;
