@@ -70,11 +70,11 @@ no_first bytes first none is =
 
 -- ---- what is found ahead
 
-record IsAhead (place : Place) (bytes : List ℕ) (read : ReadOn) : Type 0 where
-  first : Place
-  is : first_of bytes ≡ Some first
-  same : bytes_eq first.id place.id ≡ true
-  found : found_by place first (links_of bytes) (sought place (links_of bytes)) ≡ ahead read
+pub record IsAhead (place : Place) (bytes : List ℕ) (read : ReadOn) : Type 0 where
+  pub first : Place
+  pub is : first_of bytes ≡ Some first
+  pub same : bytes_eq first.id place.id ≡ true
+  pub found : found_by place first (links_of bytes) (sought place (links_of bytes)) ≡ ahead read
 
 unread : (other : Option ℕ) (read : ReadOn) → found_unread other ≡ ahead read → ⊥
 unread None read h = cc h
@@ -89,7 +89,7 @@ ahead_by place bytes read (Some first) e h = by_id (bytes_eq first.id place.id) 
     by_id true i k = record { first = first; is = e; same = i; found = k }
     by_id false i k = cc k
 
-is_ahead : (place : Place) (bytes : List ℕ) (read : ReadOn) → found_in place bytes ≡ ahead read → IsAhead place bytes read
+pub is_ahead : (place : Place) (bytes : List ℕ) (read : ReadOn) → found_in place bytes ≡ ahead read → IsAhead place bytes read
 unfolding found_in
 is_ahead place bytes read h = ahead_by place bytes read (first_of bytes) refl h
 

@@ -14,5 +14,6 @@ pub mod Parts
 pub mod ReadingOn
 pub mod SameSums
 pub mod Seeking
+pub mod Shallow
 pub mod SumLast
 pub mod Walked

@@ -354,6 +354,27 @@ says_by place first links read unmet h =
     let on = goes_on place.number (read_on (end_at place) links) read first_is.found in
     (subst StopsThere on.is (stops_there links (end_at place)), ap (λ (r : ReadOn). list_any says_accepted r.left) (sym on.is) ∙ on.none)
 
+-- what is ahead was read on from an end of a chain, and its first line does not withdraw
+pub record IsReadOn (read : ReadOn) : Type 0 where
+  pub end : ChainEnd
+  pub texts : List (List ℕ)
+  pub is : read_on end texts ≡ read
+  pub begins : withdraws read.entries ≡ false
+
+from_end : (number : ℕ) (end : ChainEnd) (texts : List (List ℕ)) (read : ReadOn) → found_after number (read_on end texts) ≡ ahead read → IsReadOn read
+from_end number end texts read h =
+    let on = goes_on number (read_on end texts) read h in
+    record { end = end; texts = texts; is = on.is; begins = ap (λ (r : ReadOn). withdraws r.entries) (sym on.is) ∙ on.keeps }
+
+read_by : (place first : Place) (links : List (List ℕ)) (read : ReadOn) (s : Sought) → found_by place first links s ≡ ahead read → IsReadOn read
+read_by place first links read (met true turn after) h = from_end place.number (end_of place turn) after read h
+read_by place first links read (met false turn after) h = cc h
+read_by place first links read (passed number after) h = absurd (never_short number after read h)
+read_by place first links read unmet h = from_end place.number (end_at place) links read (at_first place first links read h).found
+
+pub ahead_is_read : (place first : Place) (links : List (List ℕ)) (read : ReadOn) → found_by place first links (sought place links) ≡ ahead read → IsReadOn read
+ahead_is_read place first links read h = read_by place first links read (sought place links) h
+
 none_before : (k : ℕ) (texts : List (List ℕ)) → list_any says_accepted texts ≡ false → list_any says_accepted (take k texts) ≡ false
 none_before zero texts h = refl
 none_before (suc k) [] h = refl

@@ -1,6 +1,7 @@
 //! Laws of the definitions: the contract of each function is the law.
 ghost use Rattle.clr_chain.specs.Laws.{CutsAreNotMissed, EndsSayAll, FirstsAreOneLine};
-ghost use Rattle.clr_chain.specs.Laws.{FirstsReadBack, FrontsAreFound, LinesKeepLevel};
+ghost use Rattle.clr_chain.specs.Laws.{FirstsReadBack, FrontsAreFound, LinesAheadAreShallow};
+ghost use Rattle.clr_chain.specs.Laws.{LinesAheadGoOn, LinesKeepLevel};
 ghost use Rattle.clr_chain.specs.Laws.{LinksAreOneLine, LinksAreOwn, LinksReadBack};
 ghost use Rattle.clr_chain.specs.Laws.{LostTailsAreMadeGood, NewJournalsAreLevel, NewJournalsOpen};
 ghost use Rattle.clr_chain.specs.Laws.{OthersAreFound};
@@ -51,6 +52,13 @@ pub fn lost_tails_are_made_good()
 /// The end of a journal says what is found in all of it.
 pub fn ends_say_all()
     ensures { EndsSayAll }
+{}
+
+/// Lines that are found ahead go on from the register: the first does not withdraw the register's
+/// own deed, and no reply of them nests deeper than 127.
+pub fn lines_ahead_go_on()
+    ensures begins { LinesAheadGoOn }
+    ensures shallow { LinesAheadAreShallow }
 {}
 
 /// What was never synced after the last line that holds its sum may be cut off: the same is found

@@ -3,3 +3,4 @@ pub mod TakesNothing
 pub mod SightFacts
 pub mod Alike
 pub mod CommandsAlike
+pub mod Crews

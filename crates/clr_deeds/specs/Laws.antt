@@ -1,20 +1,23 @@
 -- LAWS OF DEEDS
-use Rattle.std.specs.Prelude.{◌≡◌, ℕ, Bool, List, [], Some, false, map, true}
+use Rattle.std.specs.Prelude.{◌≡◌, ℕ, Bool, List, [], ◌∷◌, ◌++◌, Some, false, map, true}
 use Rattle.clr_rules.specs.Agreement.{Agree}
+use Rattle.clr_rules.specs.CrewSafety.{AreSafeThroughout, CrewsAreSafe}
 use Rattle.clr_rules.specs.Fences.{clearance_fence}
 use Rattle.clr_rules.specs.Good.{IsGood, is_operators}
 use Rattle.clr_rules.specs.Isolation.{LeftAlone, ShowTheSame}
-use Rattle.clr_rules.specs.Prelude.{Id, record_of}
+use Rattle.clr_rules.specs.Prelude.{Id, has_hold, record_of}
 use Rattle.clr_rules.specs.Records.{is_open}
 use Rattle.clr_rules.specs.Register.{Register}
 use Rattle.clr_rules.specs.Run.{after_all}
 use Rattle.clr_rules.specs.Shown.{includes}
 use Rattle.clr_rules.specs.Staffed.{IsStaffed}
 use Rattle.clr_rules.specs.declared.command.Command.{Command}
-use Rattle.clr_deeds.specs.Deeds.{Deed, after_deed, after_deeds, command}
+use Rattle.clr_rules.specs.laws.Tags.{IsUntag}
+use Rattle.clr_deeds.specs.Deeds.{Deed, after_deed, after_deeds, archive, command, update}
 use Rattle.clr_deeds.specs.Sights.{StepsAloneGo, all_answers, covers_all, gives_up_by}
 use Rattle.clr_deeds.specs.Sights.{is_never_operators, is_others_deed, keeps_its_steps, shown_by}
 use Rattle.clr_deeds.specs.Sights.{sights}
+use Rattle.clr_rules.specs.declared.hold_kind.HoldKind.TheVariants.{Tag}
 use Rattle.clr_rules.specs.declared.record.Record.{Record}
 
 -- GOOD AND STAFFED AGAIN, whatever the deeds are and whoever says them
@@ -27,6 +30,38 @@ pub record DeedsKeepGood : Type 0 where
 abbrev pub CommandsAreARun : Type 0
 CommandsAreARun = (R : Register) (commands : List Command)
     → after_deeds R (map command commands) ≡ after_all R commands
+
+-- A DEED IS AN UNTAG of a clearance at a point: a command that is one, while the clearance is
+-- Restoring. No update and no archive is
+abbrev pub IsUntagDeed : Register → Id → List ℕ → Deed → Type 0
+IsUntagDeed R c p (command q) = IsUntag R c p q
+IsUntagDeed R c p (update of) = ⊥
+IsUntagDeed R c p (archive before) = ⊥
+
+-- TAGS STAY over a deed, but for those that their own clearance's Untag takes
+abbrev pub TagsStayOver : Register → Deed → Type 0
+TagsStayOver R deed =
+    (c : Id) (p : List ℕ) → has_hold R.holds c Tag p ≡ true
+    → has_hold (Register.holds (after_deed R deed)) c Tag p ≡ false → IsUntagDeed R c p deed
+
+-- AT EACH PLACE OF A LIST crews are safe, before and after each deed; and over each deed tags stay
+pub record AreSafeOverDeeds (R : Register) (deeds : List Deed) : Type 0 where
+  pub each_place : (earlier later : List Deed) → deeds ≡ earlier ++ later
+      → CrewsAreSafe (after_deeds R earlier)
+  pub left : CrewsAreSafe (after_deeds R deeds)
+  pub tags : (earlier : List Deed) (deed : Deed) (later : List Deed)
+      → deeds ≡ earlier ++ deed ∷ later → TagsStayOver (after_deeds R earlier) deed
+
+-- CREWS WORK SAFELY over commands, updates and archives from a good register, whoever says them
+abbrev pub CrewsWorkSafelyOverDeeds : Type 0
+CrewsWorkSafelyOverDeeds =
+    (R : Register) (deeds : List Deed) → IsGood R → AreSafeOverDeeds R deeds
+
+-- and of commands alone this says all that is said of a run
+abbrev pub SafeOverCommands : Type 0
+SafeOverCommands =
+    (R : Register) (commands : List Command) → AreSafeOverDeeds R (map command commands)
+    → AreSafeThroughout R commands (after_all R commands)
 
 -- what the headline asks for: two good registers agree near a clearance, on a set that covers the
 -- first list; the clearance's requester is never an operator; it gives up its steps in neither

@@ -1,12 +1,21 @@
 //! Laws of the definitions: the contract of each function is the law.
-ghost use Rattle.clr_deeds.specs.Laws.{CommandsAreARun, CommandsShowAlike, DeedsKeepGood};
-ghost use Rattle.clr_deeds.specs.Laws.{NoDeedTakesAway, SameSightsSameAnswers, UnseenDeedsAgree};
+ghost use Rattle.clr_deeds.specs.Laws.{CommandsAreARun, CommandsShowAlike};
+ghost use Rattle.clr_deeds.specs.Laws.{CrewsWorkSafelyOverDeeds, DeedsKeepGood, NoDeedTakesAway};
+ghost use Rattle.clr_deeds.specs.Laws.{SafeOverCommands, SameSightsSameAnswers, UnseenDeedsAgree};
 
 /// Deeds keep a good register good, and a staffed one staffed, whoever says them; and commands alone
 /// are a run.
 pub fn deeds_keep_good()
     ensures good { DeedsKeepGood }
     ensures commands { CommandsAreARun }
+{}
+
+/// Crews work safely over commands, updates and archives, whoever says them: before and after each
+/// deed every crew that is on is safe, and a tag is taken only by its own clearance's Untag. Of
+/// commands alone this says all that is said of a run.
+pub fn crews_work_safely_over_deeds()
+    ensures deeds { CrewsWorkSafelyOverDeeds }
+    ensures commands { SafeOverCommands }
 {}
 
 /// The headline's first half over commands, updates and archives. What it asks for is met where the
