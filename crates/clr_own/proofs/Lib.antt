@@ -1,3 +1,4 @@
 pub mod Enough
 pub mod OwnRows
+pub mod Picked
 pub mod Replies

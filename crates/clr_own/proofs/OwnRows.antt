@@ -7,7 +7,7 @@ use Rattle.std.proofs.Common.{◌||◌}
 use Rattle.clr_rules.specs.declared.command.Kind.TheVariants as kinds
 use Rattle.std.specs.List.{list_any}
 use Rattle.clr_rules.specs.HoldKind.{is_crew, is_section_kind}
-use Rattle.clr_rules.specs.Holds.{first_of_each, has_some_hold, held_among, held_at}
+use Rattle.clr_rules.specs.Holds.{first_of_each, has_some_hold, held_among, held_at, places_of}
 use Rattle.std.proofs.lemmas.Option.{same_Some}
 use Rattle.clr_net.proofs.Walks.{same_itself}
 use Rattle.clr_rules.proofs.Common.{Contains-here, Contains-later, or_left, and_from, and_parts, nat_list_cmp_total, name_cmp, same_name, has_name, has_name-row, there_mapped, one_name, equal, same_text, filter-filter_wider, hand_in, is_close, own_id, Contains-filter, Task, task}
@@ -15,9 +15,9 @@ use Rattle.clr_shelf.proofs.Groups.{row_of-filter_inside}
 use Rattle.clr_rules.specs.Checks.{at_step, at_work, held_by, hold_hinders, in_hand, other_hand, refuse, where_some}
 use Rattle.clr_rules.specs.Good.{ListsAreInOrder}
 use Rattle.clr_rules.specs.Prelude.{Id, same_id, Register, hand_of, state_key, record_of, is_point_kind}
-use Rattle.clr_rules.specs.Prelude.{hold_cmp, hold_cmp_total, hold_key, hold_of, has_hold, points_of, present_steps, same_kind, step_at, steps_of, tasks_of, id_cmp, id_cmp_total, record_key, step_key, step_key_cmp, step_key_cmp_total}
+use Rattle.clr_rules.specs.Prelude.{hold_cmp, hold_cmp_total, hold_key, hold_of, has_hold, present_steps, same_kind, step_at, steps_of, tasks_of, id_cmp, id_cmp_total, record_key, step_key, step_key_cmp, step_key_cmp_total}
 use Rattle.clr_rules.specs.Hold.{same_hold}
-use Rattle.clr_rules.specs.Holds.{first_hold, hindering_hold, hinders, is_near_hold}
+use Rattle.clr_rules.specs.Holds.{first_hold, hindering_hold, hinders}
 use Rattle.clr_rules.specs.laws.Own.{SameOwn}
 use Rattle.clr_rules.proofs.edits.PresentSteps.{FoundStep, step_there}
 use Rattle.clr_rules.proofs.isolation.SameFences.{record_of-own}
@@ -27,7 +27,7 @@ use Rattle.clr_shelf.proofs.KeyOrder.{in_key_order-filter}
 use Rattle.std.specs.List.Sorted.{IsStrictlySortedBy}
 use Rattle.clr_book.proofs.LookedUp.{listed, own_record}
 use Rattle.clr_shelf.specs.Rows.{in_key_order}
-use Rattle.clr_own.specs.Own.{crews_at, fence_at, own_rows, points_at, sections_among, sections_at, work_in, work_of}
+use Rattle.clr_own.specs.Own.{fence_at, looks_at, own_rows, points_at, sections_among, sections_at, work_in, work_of}
 use Rattle.clr_rules.specs.declared.hold.Hold.{Hold}
 use Rattle.clr_rules.specs.declared.hold_kind.HoldKind.{HoldKind}
 use Rattle.clr_rules.specs.declared.command.Kind.{Kind}
@@ -62,10 +62,10 @@ own_in_order R c kind ordered = record {
 -- ---- a hold at which a command looks
 
 pub same_hold_there : (R : Register) (c d : Id) (kind : Kind) (of : HoldKind) (place : List ℕ)
-    → is_near_hold (has_name (sections_at R c kind)) (has_name (points_at R c kind)) (crews_at kind) (hold_of d of place) ≡ true
+    → looks_at R c kind (hold_of d of place) ≡ true
     → has_hold R.holds d of place ≡ has_hold (Register.holds (own_rows R c kind)) d of place
 same_hold_there R c d kind of place near =
-    let test = is_near_hold (has_name (sections_at R c kind)) (has_name (points_at R c kind)) (crews_at kind) in
+    let test = looks_at R c kind in
     sym (ap is_some (row_of-filter_inside hold_cmp hold_key hold_cmp_total test (hold_of d of place) R.holds
     (λ h tied. subst (λ (x : Hold). test x ≡ true) (sym (same_hold h (hold_of d of place) (equal (hold_cmp h (hold_of d of place)) tied))) near)))
 
@@ -79,21 +79,36 @@ list_any-wider p q wider (x ∷ xs) = at (q x) refl (p x) refl (list_any-wider p
     at false e true f more = absurd (true≢false (sym (wider x f) ∙ e))
     at false e false f more = rw (e, f) more
 
-pub same_crews : (R : Register) (c : Id) (kind : Kind) → crews_at kind ≡ Some c → has_some_hold R.holds c Crew ≡ has_some_hold (Register.holds (own_rows R c kind)) c Crew
+-- of a clearance that takes a ground
+pub same_crews : (R : Register) (c : Id) (section : List ℕ) → has_some_hold R.holds c Crew ≡ has_some_hold (Register.holds (own_rows R c (kinds.Unground c section))) c Crew
 unfolding has_some_hold
-same_crews R c kind looks =
-    let test = is_near_hold (has_name (sections_at R c kind)) (has_name (points_at R c kind)) (crews_at kind) in
-    list_any-wider (λ (h : Hold). same_id c h.id && same_kind Crew h.kind) test
-    (λ h both. rw looks (crew_near h (and_parts (same_id c h.id) (same_kind Crew h.kind) both).0 (and_parts (same_id c h.id) (same_kind Crew h.kind) both).1)) R.holds
+same_crews R c section =
+    list_any-wider (λ (h : Hold). same_id c h.id && same_kind Crew h.kind) (looks_at R c (kinds.Unground c section))
+    (λ h both. crew_near h (and_parts (same_id c h.id) (same_kind Crew h.kind) both).0 (and_parts (same_id c h.id) (same_kind Crew h.kind) both).1) R.holds
   where
-    crew_near : (h : Hold) → same_id c h.id ≡ true → same_kind Crew h.kind ≡ true
-        → is_near_hold (has_name (sections_at R c kind)) (has_name (points_at R c kind)) (Some c) h ≡ true
+    crew_near : (h : Hold) → same_id c h.id ≡ true → same_kind Crew h.kind ≡ true → looks_at R c (kinds.Unground c section) h ≡ true
     crew_near h own is = of_kind h.kind is
       where
         of_kind : (k : HoldKind) → same_kind Crew k ≡ true
-            → ((is_point_kind k && has_name (points_at R c kind) h.place) || ((is_section_kind k && has_name (sections_at R c kind) h.place) || (is_crew k && same_id c h.id))) ≡ true
+            → ((is_point_kind k && false) || ((is_section_kind k && has_name (section ∷ []) h.place) || (is_crew k && same_id c h.id))) ≡ true
         of_kind Crew is = own
         of_kind _ is = cc is
+
+-- what a release looks at has all holds of the clearance
+module _ (R : Register) (c : Id) (notified clear : Bool) where
+  abbrev released : Register
+  released = own_rows R c (kinds.Release c notified clear)
+
+  pub same_some : (of : HoldKind) → has_some_hold R.holds c of ≡ has_some_hold released.holds c of
+  unfolding has_some_hold
+  same_some of =
+      list_any-wider (λ (h : Hold). same_id c h.id && same_kind of h.kind) (λ (h : Hold). same_id c h.id)
+      (λ h both. (and_parts (same_id c h.id) (same_kind of h.kind) both).0) R.holds
+
+  pub same_places : (of : HoldKind) → places_of R.holds c of ≡ places_of released.holds c of
+  unfolding places_of
+  same_places of = ap (map (λ (h : Hold). h.place)) (sym (filter-filter_wider (λ (h : Hold). same_id c h.id && same_kind of h.kind) (λ (h : Hold). same_id c h.id)
+      (λ h both. (and_parts (same_id c h.id) (same_kind of h.kind) both).0) R.holds))
 
 -- a check of the work section of a clearance to which a crew signs on
 pub same_at_work : (R : Register) (c : Id) (crew : List ℕ) (check other : List ℕ → Option Refusal)
@@ -125,22 +140,21 @@ point_there R c n s =
     has_name-row (λ (t : Task). t.point) (tasks_of rows) (task s.row.step) (there_mapped (λ (row : StepRow). task row.step) rows s.row there)
 
 -- what is at a point at which it looks is the same
-module _ (R : Register) (c : Id) (kind : Kind) (p : List ℕ) (looked : has_name (points_at R c kind) p ≡ true) where
-  same_hand : hand_of R.states p ≡ hand_of (Register.states (own_rows R c kind)) p
-  same_hand = ap hand_in (sym (row_of-filter_inside name_cmp state_key nat_list_cmp_total (λ (state : PointState). has_name (points_at R c kind) state.point) p R.states
+module _ (R : Register) (c : Id) (n : ℕ) (p : List ℕ) (looked : has_name (points_at R c (Instruct c n)) p ≡ true) where
+  same_hand : hand_of R.states p ≡ hand_of (Register.states (own_rows R c (Instruct c n))) p
+  same_hand = ap hand_in (sym (row_of-filter_inside name_cmp state_key nat_list_cmp_total (λ (state : PointState). has_name (points_at R c (Instruct c n)) state.point) p R.states
       (λ state tied. rw (same_text state.point p (equal (name_cmp state.point p) tied)) looked)))
 
-  hindering_looked : (h : Hold) → hinders c p h ≡ true → is_near_hold (has_name (sections_at R c kind)) (has_name (points_at R c kind)) (crews_at kind) h ≡ true
+  hindering_looked : (h : Hold) → hinders c p h ≡ true → looks_at R c (Instruct c n) h ≡ true
   hindering_looked h is =
       let (at_point, here) = and_parts (is_point_kind h.kind) (same_name p h.place) (and_parts (is_point_kind h.kind && same_name p h.place) (not (same_id c h.id && same_kind HeldOpen h.kind)) is).0 in
-      or_left (is_point_kind h.kind && has_name (points_at R c kind) h.place) _
-      (and_from (is_point_kind h.kind) (has_name (points_at R c kind) h.place) at_point
-      (subst (λ (place : List ℕ). has_name (points_at R c kind) place ≡ true) (one_name p h.place here) looked))
+      or_left (is_point_kind h.kind && has_name (points_at R c (Instruct c n)) h.place) _
+      (and_from (is_point_kind h.kind) (has_name (points_at R c (Instruct c n)) h.place) at_point
+      (subst (λ (place : List ℕ). has_name (points_at R c (Instruct c n)) place ≡ true) (one_name p h.place here) looked))
 
-  same_hindering : hindering_hold R.holds c p ≡ hindering_hold (Register.holds (own_rows R c kind)) c p
+  same_hindering : hindering_hold R.holds c p ≡ hindering_hold (Register.holds (own_rows R c (Instruct c n))) c p
   unfolding hindering_hold
-  same_hindering = ap first_hold (sym (filter-filter_wider (hinders c p)
-      (is_near_hold (has_name (sections_at R c kind)) (has_name (points_at R c kind)) (crews_at kind)) hindering_looked R.holds))
+  same_hindering = ap first_hold (sym (filter-filter_wider (hinders c p) (looks_at R c (Instruct c n)) hindering_looked R.holds))
 
 -- a check of the step that was found
 module _ (R : Register) (c : Id) (n : ℕ) where
@@ -162,13 +176,13 @@ module _ (R : Register) (c : Id) (n : ℕ) where
 
   pub same_in_hand : in_hand R c n ≡ in_hand own c n
   same_in_hand = same_at_step (λ row. other_hand c (hand_of R.states row.step.point)) (λ row. other_hand c (hand_of own.states row.step.point))
-      (λ s. ap (other_hand c) (same_hand R c (Instruct c n) s.row.step.point (point_there R c n s)))
+      (λ s. ap (other_hand c) (same_hand R c n s.row.step.point (point_there R c n s)))
 
   pub same_hinders : hold_hinders R c n ≡ hold_hinders own c n
   same_hinders = same_at_step
       (λ row. if is_close row.step.action then held_by (hindering_hold R.holds c row.step.point) else None)
       (λ row. if is_close row.step.action then held_by (hindering_hold own.holds c row.step.point) else None)
-      (λ s. ap (λ (o : Option Hold). if is_close s.row.step.action then held_by o else None) (same_hindering R c (Instruct c n) s.row.step.point (point_there R c n s)))
+      (λ s. ap (λ (o : Option Hold). if is_close s.row.step.action then held_by o else None) (same_hindering R c n s.row.step.point (point_there R c n s)))
 
 -- ---- the points of a restoring order
 
@@ -224,6 +238,7 @@ sections_rise o _ = tt
 
 pub fence_rises : (kind : Kind) → IsStrictlySortedBy name_cmp (fence_at kind)
 unfolding IsStrictlySortedBy
+fence_rises (kinds.Test c section dead) = (tt, tt)
 fence_rises (kinds.Ground c section) = (tt, tt)
 fence_rises (kinds.Unground c section) = (tt, tt)
 fence_rises _ = tt

@@ -1,14 +1,15 @@
 -- WHAT A COMMAND LOOKS AT THAT NEEDS NO FENCE: the record of the clearance that it names, its steps,
 -- and of the holds and hands only what is at few places. How many sections the clearance's fence has
 -- does not matter to it.
-use Rattle.std.specs.Prelude.{ℕ, Bool, true, false, ◌==◌, List, [], ◌∷◌, filter, Option, None, Some}
+use Rattle.std.specs.Prelude.{ℕ, Bool, true, false, ◌||◌, ◌==◌, nat_lt, List, [], ◌∷◌, filter, length}
+use Rattle.std.specs.Prelude.{Option, None, Some, if◌then◌else◌}
 use Rattle.clr_net.specs.Names.{has_name}
 use Rattle.clr_rules.specs.Answer.{Answer, answer_with}
 use Rattle.clr_rules.specs.GoodByPhase.{of_round}
 use Rattle.clr_rules.specs.Holds.{has_hold, is_near_hold}
 use Rattle.clr_rules.specs.Id.{Id, same_id}
 use Rattle.clr_rules.specs.Near.{Near, near_of}
-use Rattle.clr_rules.specs.Records.{record_of}
+use Rattle.clr_rules.specs.Records.{is_granted, record_of}
 use Rattle.clr_rules.specs.Register.{Register}
 use Rattle.clr_rules.specs.Steps.{points_of, steps_of}
 use Rattle.clr_rules.specs.declared.command.Command.{Command}
@@ -16,7 +17,9 @@ use Rattle.clr_rules.specs.declared.command.Kind.{Kind}
 use Rattle.clr_rules.specs.declared.hold_kind.HoldKind.TheVariants.{Ground as Grounded, Tested}
 use Rattle.clr_rules.specs.declared.command.Kind.TheVariants.{Instruct, Repeat, Report, Grant}
 use Rattle.clr_rules.specs.declared.command.Kind.TheVariants.{SignOn, SignOff, Transfer, Restore}
-use Rattle.clr_rules.specs.declared.command.Kind.TheVariants.{Amend, Ground, Unground}
+use Rattle.clr_rules.specs.declared.command.Kind.TheVariants.{Amend, Ground, Release, Test}
+use Rattle.clr_rules.specs.declared.command.Kind.TheVariants.{Unground}
+use Rattle.clr_rules.specs.declared.hold.Hold.{Hold}
 use Rattle.clr_rules.specs.declared.record.Record.{Record}
 use Rattle.clr_rules.specs.declared.step_row.StepRow.{StepRow}
 
@@ -37,11 +40,35 @@ always_own (Restore c tasks) = Some c
 always_own (Amend c n) = Some c
 always_own kind = None
 
+abbrev pub work_in : Option (List ℕ) → List (List ℕ)
+work_in None = []
+work_in (Some work) = work ∷ []
+
+abbrev pub work_of : Option Record → List (List ℕ)
+work_of None = []
+work_of (Some r) = work_in r.work
+
+-- the work section of a granted clearance, which is in its fence
+abbrev pub granted_work : Option Record → List (List ℕ)
+granted_work None = []
+granted_work (Some r) = if is_granted r.phase then work_in r.work else []
+
+-- whether a section is known to be in the fence: it is the work section, or the clearance has tested it
+abbrev pub is_known_inside : Register → Id → List ℕ → Bool
+is_known_inside R c section =
+    has_name (granted_work (record_of R.records c)) section || has_hold R.holds c Tested section
+
+-- so few holds that to look at each costs less than to search a fence
+abbrev pub are_few : List Hold → Bool
+are_few holds = nat_lt (length holds) 1000
+
 -- the clearance of a command that needs no fence. A section that the clearance has tested or grounded
 -- is in its fence
 abbrev pub own_of : Register → Kind → Option Id
+own_of R (Test c section dead) = own_where (is_known_inside R c section) c
 own_of R (Ground c section) = own_where (has_hold R.holds c Tested section) c
 own_of R (Unground c section) = own_where (has_hold R.holds c Grounded section) c
+own_of R (Release c notified clear) = own_where (are_few R.holds) c
 own_of R kind = always_own kind
 
 -- the points at which it looks, by the steps of the clearance: those of the steps that have the number
@@ -50,14 +77,6 @@ abbrev pub points_among : List StepRow → Kind → List (List ℕ)
 points_among steps (Instruct c n) = points_of (filter (λ row. row.ordinal == n) steps)
 points_among steps (Restore c tasks) = points_of (of_round steps 1)
 points_among steps kind = []
-
-abbrev pub work_in : Option (List ℕ) → List (List ℕ)
-work_in None = []
-work_in (Some work) = work ∷ []
-
-abbrev pub work_of : Option Record → List (List ℕ)
-work_of None = []
-work_of (Some r) = work_in r.work
 
 -- the sections at which it looks, by the record: the one that it grounds, and the work section of a
 -- clearance to which a crew signs on
@@ -82,9 +101,20 @@ crews_at kind = None
 
 -- the sections of the fence that it has to know of
 abbrev pub fence_at : Kind → List (List ℕ)
+fence_at (Test c section dead) = section ∷ []
 fence_at (Ground c section) = section ∷ []
 fence_at (Unground c section) = section ∷ []
 fence_at kind = []
+
+-- the holds at which it looks, by the sections and the points: those there, and the crews. A release
+-- looks at all holds of the clearance
+abbrev pub looks_by : (List ℕ → Bool) → (List ℕ → Bool) → Id → Kind → Hold → Bool
+looks_by inside beside c (Release d notified clear) h = same_id c h.id
+looks_by inside beside c kind h = is_near_hold inside beside (crews_at kind) h
+
+abbrev pub looks_at : Register → Id → Kind → Hold → Bool
+looks_at R c kind =
+    looks_by (has_name (sections_at R c kind)) (has_name (points_at R c kind)) c kind
 
 -- WHAT IT LOOKS AT, read as a register
 abbrev pub own_rows : Register → Id → Kind → Register
@@ -94,8 +124,7 @@ own_rows R c kind = record {
   states = filter (λ state. has_name (points_at R c kind) state.point) R.states;
   records = filter (λ r. same_id c r.id) R.records;
   steps = filter (λ row. same_id c row.id) R.steps;
-  holds = filter (is_near_hold (has_name (sections_at R c kind)) (has_name (points_at R c kind))
-      (crews_at kind)) R.holds;
+  holds = filter (looks_at R c kind) R.holds;
 }
 
 abbrev pub own_near : Register → Id → Kind → Near

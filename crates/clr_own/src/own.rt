@@ -8,17 +8,18 @@ ghost use Rattle.clr_rules.specs.Answer.{answer};
 ghost use Rattle.clr_rules.specs.Edits.{fit};
 ghost use Rattle.clr_rules.specs.Good.{IsGood};
 ghost use Rattle.clr_rules.specs.Holds.{has_hold, is_near_hold};
+ghost use Rattle.clr_rules.specs.Id.{same_id};
 ghost use Rattle.clr_rules.specs.Steps.{points_of};
 ghost use Rattle.clr_answer.specs.Decision.{ChangesIfAccepted, answer_of_decision};
-ghost use Rattle.clr_own.specs.Own.{own_where};
-ghost use Rattle.clr_own.specs.Own.{always_own, asked_answer, crews_at, fence_at, own_near, own_of, points_among};
-ghost use Rattle.clr_own.specs.Own.{sections_among};
+ghost use Rattle.clr_own.specs.Own.{always_own, are_few, asked_answer, crews_at, fence_at};
+ghost use Rattle.clr_own.specs.Own.{granted_work, is_known_inside, looks_by, own_near, own_of};
+ghost use Rattle.clr_own.specs.Own.{own_where, points_among, sections_among};
 
 use clr_answer::{Decision, Near, decide, in_order};
 use clr_book::{Book, groups_near, rows_in};
 use clr_net::Name;
-use clr_rules::{ClearanceId, Command, Hold, HoldKind, Kind, PointState, Record, StepRow};
-use clr_shelf::Shelf;
+use clr_rules::{ClearanceId, Command, Hold, HoldKind, Kind, Phase, PointState, Record, StepRow};
+use clr_shelf::{Row, Shelf};
 use std::alloc::{AllocError, Global};
 
 /// What a book answers to a command, and what the command would change. It does not search the
@@ -49,8 +50,9 @@ where
     Ok(decision)
 }
 
-/// The clearance of a command that needs no fence. A section that the clearance has tested or
-/// grounded is in its fence.
+/// The clearance of a command that needs no fence. The work section of a granted clearance is in its
+/// fence, and so is a section that the clearance has tested or grounded. Where there are few holds
+/// at all, a release looks at each of them.
 fn own_of<P, C, T, H>(book: &Book<P, C, T, H>, kind: &Kind) -> Option<ClearanceId>
 where
     P: Shelf<PointState>,
@@ -60,35 +62,87 @@ where
     ensures { result ≡ own_of book.now.register kind.now }
 {
     match kind {
+        Kind::Test {
+            clearance,
+            section,
+            ..
+        } => { own_where(is_known_inside(book, *clearance, *section), *clearance) }
         Kind::Ground { clearance, section } => {
-            where_held(book, *clearance, HoldKind::Tested, *section)
+            own_where(
+                holds_there(book, *clearance, HoldKind::Tested, *section),
+                *clearance,
+            )
         }
         Kind::Unground { clearance, section } => {
-            where_held(book, *clearance, HoldKind::Ground, *section)
+            own_where(
+                holds_there(book, *clearance, HoldKind::Ground, *section),
+                *clearance,
+            )
         }
+        Kind::Release { clearance, .. } => own_where(are_few(book), *clearance),
         _ => always_own(kind),
     }
 }
 
-/// The clearance, where it has this hold.
-fn where_held<P, C, T, H>(
+/// The clearance, where what it asks holds.
+fn own_where(holds: bool, id: ClearanceId) -> Option<ClearanceId>
+    ensures { result ≡ own_where holds id }
+{
+    if holds { Some(id) } else { None }
+}
+
+/// Whether the clearance has this hold.
+fn holds_there<P, C, T, H>(
     book: &Book<P, C, T, H>,
     id: ClearanceId,
     kind: HoldKind,
     place: Name,
-) -> Option<ClearanceId>
+) -> bool
 where
     P: Shelf<PointState>,
     C: Shelf<Record>,
     T: Shelf<StepRow>,
     H: Shelf<Hold>,
-    ensures { result ≡ own_where (has_hold book.now.register.holds id kind place) id }
+    ensures { result ≡ has_hold book.now.register.holds id kind place }
 {
     let (_, _, _, holds) = book.shelves();
-    match holds.get(&Hold { kind, place, id }) {
-        Some(_) => Some(id),
-        None => None,
-    }
+    holds.get(&Hold { kind, place, id }).is_some()
+}
+
+/// Whether a section is known to be in the fence of the clearance.
+fn is_known_inside<P, C, T, H>(book: &Book<P, C, T, H>, id: ClearanceId, section: Name) -> bool
+where
+    P: Shelf<PointState>,
+    C: Shelf<Record>,
+    T: Shelf<StepRow>,
+    H: Shelf<Hold>,
+    ensures { result ≡ is_known_inside book.now.register id section }
+{
+    let (_, records, _, _) = book.shelves();
+    is_granted_work(records.get(&id), section) || holds_there(book, id, HoldKind::Tested, section)
+}
+
+/// Whether a section is the work section of a record that is granted.
+fn is_granted_work(found: Option<&Record>, section: Name) -> bool
+    ensures { result ≡ has_name (granted_work (option_copied found.entry)) section }
+{
+    let Some(row) = found else {
+        return false;
+    };
+    row.phase == Phase::Granted && row.work == Some(section)
+}
+
+/// Whether there are few holds in all.
+fn are_few<P, C, T, H>(book: &Book<P, C, T, H>) -> bool
+where
+    P: Shelf<PointState>,
+    C: Shelf<Record>,
+    T: Shelf<StepRow>,
+    H: Shelf<Hold>,
+    ensures { result ≡ are_few book.now.register.holds }
+{
+    let (_, _, _, holds) = book.shelves();
+    holds.len() < 1_000
 }
 
 /// The clearance of a command that never needs a fence.
@@ -131,7 +185,7 @@ where
     let records = records_of(alloc, found)?;
     let fence = fence_at(alloc, kind)?;
     let states = rows_in(alloc, states, &points)?;
-    let holds = holds_at(alloc, holds, &sections, &points, crews_at(kind))?;
+    let holds = looked_holds(alloc, holds, id, kind, &sections, &points)?;
     let near = Near {
         alloc,
         greatest: 0,
@@ -264,10 +318,58 @@ fn fence_at(alloc: Global, kind: &Kind) -> Result<Vec<Name>, AllocError>
     ensures { IfOk result (λ names. names.items ≡ fence_at kind.now) }
 {
     let mut names = Vec::new(alloc);
-    if let Kind::Ground { section, .. } | Kind::Unground { section, .. } = kind {
-        names.push(*section)?;
+    match kind {
+        Kind::Test { section, .. } => names.push(*section)?,
+        Kind::Ground { section, .. } | Kind::Unground { section, .. } => names.push(*section)?,
+        _ => {}
     }
     Ok(names)
+}
+
+/// The holds at which a command of this clearance looks.
+fn looked_holds<'a, H: Shelf<Hold>>(
+    alloc: Global,
+    shelf: &'a H,
+    id: ClearanceId,
+    kind: &Kind,
+    sections: &[Name],
+    points: &[Name],
+) -> Result<Vec<&'a Hold>, AllocError>
+    requires sections { IsStrictlySortedBy name_cmp sections.now }
+    requires points { IsStrictlySortedBy name_cmp points.now }
+    ensures { IfOk result (λ found. map (λ row. row.now) found.items
+        ≡ filter (looks_by (has_name sections.now) (has_name points.now) id kind.now)
+        (H.rows shelf.now)) }
+{
+    match kind {
+        Kind::Release { .. } => own_holds(alloc, shelf, id),
+        _ => {
+            let found = holds_at(alloc, shelf, sections, points, crews_at(kind))?;
+            Ok(found)
+        }
+    }
+}
+
+/// The holds of a clearance.
+fn own_holds<'a, H: Shelf<Hold>>(
+    alloc: Global,
+    shelf: &'a H,
+    id: ClearanceId,
+) -> Result<Vec<&'a Hold>, AllocError>
+    ensures { IfOk result (λ found. map (λ row. row.now) found.items
+        ≡ filter (λ h. same_id id h.id) (H.rows shelf.now)) }
+{
+    let mut found = Vec::new(alloc);
+    for place in 0..shelf.len() {
+        let Some(row) = shelf.at(place) else {
+            unreachable!()
+        };
+        if id == row.id {
+            found.push(row)?;
+        }
+    }
+    found.sort_unstable_by(|a, b| a.compare_key(b));
+    Ok(found)
 }
 
 /// The holds at these sections and points, and of the crews of this clearance.

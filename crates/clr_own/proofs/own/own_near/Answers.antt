@@ -9,7 +9,7 @@ use Rattle.clr_net.specs.Names.{has_name}
 use Rattle.clr_net.specs.declared.point.PointRow.{PointRow}
 use Rattle.clr_net.specs.declared.section.SectionRow.{SectionRow}
 use Rattle.clr_rules.specs.Hold.{hold_cmp, hold_cmp_total}
-use Rattle.clr_rules.specs.Holds.{hold_key, is_near_hold}
+use Rattle.clr_rules.specs.Holds.{hold_key}
 use Rattle.clr_rules.specs.Id.{same_id}
 use Rattle.clr_rules.specs.Records.{record_of}
 use Rattle.clr_rules.specs.Register.{Register}
@@ -20,13 +20,13 @@ use Rattle.clr_rules.specs.declared.record.Record.{Record}
 use Rattle.clr_rules.specs.declared.step_row.StepRow.{StepRow}
 use Rattle.clr_shelf.proofs.KeyOrder.{in_key_order-filter}
 use Rattle.clr_shelf.specs.Rows.{in_key_order}
-use Rattle.clr_own.specs.Own.{crews_at, own_rows, points_among, points_at, sections_among, sections_at}
+use Rattle.clr_own.specs.Own.{looks_at, looks_by, own_rows, points_among, points_at, sections_among, sections_at}
 use Rattle.clr_own.proofs.Enough.{known_by}
 use Rattle.clr_own.proofs.OwnRows.{fence_rises, one_in_order, own_found, sections_rise}
 use Rattle.clr_own.proofs.own.own_near.Goals as goal
 
-pub holds_at-requires-clause-sections : goal.holds_at-requires-clause-sections
-holds_at-requires-clause-sections g c =
+pub looked_holds-requires-clause-sections : goal.looked_holds-requires-clause-sections
+looked_holds-requires-clause-sections g c =
     subst (λ (names : List (List ℕ)). IsStrictlySortedBy name_cmp names) (sym (c.deref-3.ensures.value ∙ c.in_ok-sections.ensures)) (sections_rise _ c.args.kind.now)
 
 pub invariant_of-near : goal.invariant_of-near
@@ -42,7 +42,7 @@ invariant_of-near g c = (
       (g.met.P.Shelf.in_order c.shelves.result.0.now)),
   rw c.in_ok-records.ensures (one_in_order _),
   rw c.in_ok-holds.ensures
-      (in_key_order-filter hold_cmp hold_key hold_cmp_total (is_near_hold (has_name c.deref-3.result.now) (has_name c.deref-4.result.now) c.crews_at.result)
+      (in_key_order-filter hold_cmp hold_key hold_cmp_total (looks_by (has_name c.deref-3.result.now) (has_name c.deref-4.result.now) c.args.id c.args.kind.now)
       (g.H.Shelf.rows c.shelves.result.3.now) (g.met.H.Shelf.in_order c.shelves.result.3.now)),
 )
 
@@ -81,5 +81,5 @@ returns g c =
     ∙ ap (λ (X : Register). filter (λ r. same_id id r.id) X.records) (sym whole))
     own_steps
     (c.in_ok-holds.ensures
-    ∙ (λ i. filter (is_near_hold (has_name ((c.deref-3.ensures.value ∙ sections) i)) (at_points i) (c.crews_at.ensures i)) holds)
-    ∙ ap (λ (X : Register). filter (is_near_hold (has_name (sections_at R id kind)) (has_name (points_at R id kind)) (crews_at kind)) X.holds) (sym whole))
+    ∙ (λ i. filter (looks_by (has_name ((c.deref-3.ensures.value ∙ sections) i)) (at_points i) id kind) holds)
+    ∙ ap (λ (X : Register). filter (looks_at R id kind) X.holds) (sym whole))
