@@ -13,4 +13,5 @@ pub mod SaidTaken
 pub mod CommandsSent
 pub mod Unescaped
 pub mod ReplyPieces
+pub mod KeyLists
 mod JsonSteps

@@ -60,13 +60,13 @@ impl<T: Drop> From<AllocFailed<T>> for Unread {
     }
 }
 
-/// The JSON value of a text.
+/// The JSON value of a text, read in working memory that the caller keeps from text to text.
+///
+/// The fault is `NotJson` where the text is no UTF-8, or is not one JSON value with blanks round
+/// it: also where a number is too large for a float, or a value nests deeper than 127 levels. It is
+/// `NoMemory` where memory ran out, and no other.
 #[tactic(auto, unfolding(crate::specs::Reading::value_of))]
-pub(crate) fn value_over(
-    alloc: Global,
-    bytes: &[u8],
-    scratch: &mut Scratch,
-) -> Result<Value, TextFault>
+pub fn value_over(alloc: Global, bytes: &[u8], scratch: &mut Scratch) -> Result<Value, TextFault>
     ensures { GivesAs view result (ok_or (value_of bytes.now) TextFault.NotJson) }
 {
     let Ok(text) = simdutf8::basic::from_utf8(bytes) else {

@@ -1,12 +1,9 @@
 //! THE COMMANDS: the word and the keys of each. They are read and written by one table.
 ghost use Rattle.std.specs.Prelude.{◌≡◌, IsTrue, OnOk};
-ghost use Rattle.std.specs.List.{list_any};
-ghost use Rattle.std.specs.Str.{bytes_eq};
 ghost use Rattle.serde_json.specs.View.{members_view, view};
 ghost use Rattle.clr_text.specs.Answers.{Gives};
 ghost use Rattle.clr_text.specs.CommandText.{all_taken, own_said, with_said};
-ghost use Rattle.clr_text.specs.Keys.{key_text};
-ghost use Rattle.clr_text.specs.Kinds.{has_key, kind_in, own_keys, states_moment, word_named};
+ghost use Rattle.clr_text.specs.Kinds.{keys_of, kind_in, states_moment, word_named};
 ghost use Rattle.clr_text.specs.Kinds.{word_of, word_text};
 
 use crate::commands::Object;
@@ -67,7 +64,7 @@ macro_rules! rows {
     };
     ([keys of $of:expr] $($kind:ident $text:literal ($($field:ident: $key:ident),*))*) => {
         match $of {
-            $(Word::$kind => &[$(Key::$key),*],)*
+            $(Word::$kind => keys_of! { $kind $($key)* },)*
         }
     };
     ([kind of $of:ident at $alloc:ident $value:ident]
@@ -91,6 +88,22 @@ macro_rules! rows {
             })*
         }
     };
+}
+
+/// All keys of a command with these own ones: those in common with others are put among them.
+macro_rules! keys_of {
+    (Show $($own:ident)*) => { with_do! { [By] $($own)* } };
+    (Jumper $($own:ident)*) => { with_do! { [By] $($own)* } };
+    ($kind:ident $($own:ident)*) => { with_do! { [At By] $($own)* } };
+}
+
+/// Puts `do` after the keys whose bytes are less.
+macro_rules! with_do {
+    ([$($less:ident)*] Clear $($own:ident)*) => { with_do! { [$($less)* Clear] $($own)* } };
+    ([$($less:ident)*] Clearance $($own:ident)*) => { with_do! { [$($less)* Clearance] $($own)* } };
+    ([$($less:ident)*] Crew $($own:ident)*) => { with_do! { [$($less)* Crew] $($own)* } };
+    ([$($less:ident)*] Dead $($own:ident)*) => { with_do! { [$($less)* Dead] $($own)* } };
+    ([$($less:ident)*] $($own:ident)*) => { &[$(Key::$less,)* Key::Do $(, Key::$own)*] };
 }
 
 /// What is read from the values at a command's own keys, one after the other, then the command.
@@ -156,9 +169,9 @@ impl Word {
         commands!(text of self)
     }
 
-    /// The keys that are the command's own, beside those that it has in common with others.
-    fn own_keys(self) -> &'static [Key]
-        ensures { result.now ≡ own_keys self }
+    /// The keys of the command, in the order of their bytes.
+    pub(crate) fn keys(self) -> &'static [Key]
+        ensures { result.now ≡ keys_of self }
     {
         commands!(keys of self)
     }
@@ -168,25 +181,6 @@ impl Word {
         ensures { result ≡ states_moment self }
     {
         !matches!(self, Word::Show | Word::Jumper)
-    }
-
-    /// Whether a key is the command's own.
-    fn has_own(self, key: Key) -> bool
-        ensures { result
-            ≡ list_any (λ own. bytes_eq (key_text own) (key_text key)) (own_keys self) }
-    {
-        self.own_keys().iter().any(|own| own.text() == key.text())
-    }
-
-    /// Whether the command has a key.
-    pub(crate) fn has(self, key: Key) -> bool
-        ensures { result ≡ has_key self key }
-    {
-        match key {
-            Key::At => self.states_moment(),
-            Key::By | Key::Do => true,
-            _ => self.has_own(key),
-        }
     }
 }
 

@@ -1,9 +1,11 @@
 //! From a text to a command.
 ghost use Rattle.std.specs.Prelude.{◌≡◌, Ok, string_bytes};
 ghost use Rattle.std.specs.BTreeMap.{keys};
-ghost use Rattle.std.specs.List.{list_all};
+ghost use Rattle.std.specs.List.{list_all, list_any};
+ghost use Rattle.std.specs.Str.{bytes_eq};
 ghost use Rattle.serde_json.specs.View.{members_view, view};
 ghost use Rattle.clr_text.specs.Answers.{Gives, GivesAs};
+ghost use Rattle.clr_text.specs.Keys.{key_text};
 ghost use Rattle.clr_text.specs.Kinds.{keys_of};
 ghost use Rattle.clr_text.specs.Reading.{all_keys, command_in, is_key_of, moment_of, none_missing};
 ghost use Rattle.clr_text.specs.Reading.{read_command, text_at_do, values_in, word_in};
@@ -99,18 +101,23 @@ fn all_known(word: Word, members: &Map<String, Value>) -> bool
 fn is_known(word: Word, text: &str) -> bool
     ensures { result ≡ is_key_of word text.now }
 {
-    Key::all()
-        .iter()
-        .any(|key| word.has(*key) && text == key.text())
+    is_among(text, word.keys())
+}
+
+/// Whether a text is one of these keys.
+fn is_among(text: &str, keys: &[Key]) -> bool
+    ensures { result ≡ list_any (λ key. bytes_eq text.now (key_text key)) keys.now }
+{
+    keys.iter().any(|key| text == key.text())
 }
 
 /// Looks for the first of a command's keys that an object lacks.
-#[tactic(auto, unfolding(crate::specs::Kinds::keys_of, crate::specs::Reading::none_missing))]
+#[tactic(auto, unfolding(crate::specs::Reading::none_missing))]
 fn none_missing(word: Word, value: &Value) -> Result<bool, TextFault>
     ensures { Gives result (none_missing (keys_of word) (view value.now)) }
 {
-    for key in Key::all() {
-        if word.has(*key) && value.get(key.text()).is_none() {
+    for key in word.keys() {
+        if value.get(key.text()).is_none() {
             return Err(TextFault::MissingKey(*key));
         }
     }
