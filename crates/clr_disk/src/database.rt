@@ -1,13 +1,12 @@
 //! The database at a path.
 ghost use Rattle.std.specs.Prelude.{◌≡◌, ◌⊎◌, IfErr, IfOk, IsTrue};
-ghost use Rattle.sqlite.specs.Files.{image_of};
 ghost use Rattle.sqlite.specs.Opening.{is_open_error};
-ghost use Rattle.clr_disk.specs.Opened.{AreLetGo, IsNoFile, IsOpenedAt, IsOpenedOver, IsShutAt};
-ghost use Rattle.clr_disk.specs.Opened.{IsUnharmed};
+ghost use Rattle.clr_disk.specs.Opened.{AreLetGo, IsNoFile, IsOpenedAt, IsShutAt};
 
+use crate::create::over_files;
 use crate::system::System;
-use sqlite::{Connection, Error, ErrorCode, FileStore, Leftover, Options};
-use sqlite_disk::{Disk, Files};
+use sqlite::{Connection, Error, ErrorCode, FileStore, Options};
+use sqlite_disk::Files;
 use sqlite_std_file::OpenError;
 use std::alloc::Global;
 use std::io::ErrorKind;
@@ -16,7 +15,7 @@ use std::io::ErrorKind;
 pub type Database<D> = Connection<FileStore<D>>;
 
 /// Opens the database at a path, as the kit's `Connection::open_from` does: one that is not there is
-/// made. What the files held is found where the disk is clean.
+/// made, in smaller pages. What the files held is found where the disk is clean.
 pub fn open_database<Y: System>(
     alloc: Global,
     system: &mut Y,
@@ -48,7 +47,7 @@ pub fn let_go<Y: System>(system: &mut Y, files: Files<Y::Medium>)
     system.let_go(db);
 }
 
-/// How long the log grows before it is copied into the database file, in pages: 16.5 MB. A log of
+/// How long the log grows before it is copied into the database file, in pages: 8.3 MB. A log of
 /// the kit's own 1,000 pages is copied four times as often.
 const LOG_PAGES: usize = 4_000;
 
@@ -94,23 +93,5 @@ fn code_of(error: OpenError) -> ErrorCode
         OpenError::Io(error) if error.kind() == ErrorKind::OutOfMemory => ErrorCode::OutOfMemory,
         OpenError::Busy => ErrorCode::DatabaseBusy,
         _ => ErrorCode::CannotOpen,
-    }
-}
-
-/// Opens the database in its files, or gives back what is left of them.
-fn over_files<D: Disk + Drop>(
-    alloc: Global,
-    files: Files<D>,
-    options: Options,
-) -> Result<Database<D>, (Error, Leftover<D>)>
-    requires log { IsTrue (D.Disk.is_usable files.log) }
-    requires db { IsTrue (D.Disk.is_usable files.db) }
-    ensures over { IfOk result (λ connection. IsOpenedOver (image_of D.Disk files) connection) }
-    ensures unharmed { IfErr result (λ back. IsUnharmed files back.1 back.0) }
-    ensures fault { IfErr result (λ back. IsTrue (is_open_error back.0)) }
-{
-    match Connection::open_files(alloc, files, options) {
-        Ok(connection) => Ok(connection),
-        Err((error, left)) => Err((error, left)),
     }
 }

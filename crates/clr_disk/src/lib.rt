@@ -4,6 +4,7 @@
 
 mod behind;
 mod closing;
+mod create;
 mod database;
 mod host;
 mod host_place;
