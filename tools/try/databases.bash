@@ -76,13 +76,13 @@ all_refuse() {
 
 cp "$files/points.csv" "$place/room.db"
 all_refuse Sql 'a text for a database'
-head -c 30720 "$work/ordered.db" >"$place/room.db"
+head -c $(($(stat -c %s "$work/ordered.db") / 2)) "$work/ordered.db" >"$place/room.db"
 all_refuse Sql 'a database that was cut in the middle'
 head -c 100 "$work/ordered.db" >"$place/room.db"
 all_refuse Sql 'the first hundred bytes of a database'
 for page in 1 4; do
   cp "$work/ordered.db" "$place/room.db"
-  head -c 4096 /dev/zero | tr '\0' '\377' | dd of="$place/room.db" bs=4096 seek=$((page - 1)) conv=notrunc status=none
+  head -c 2048 /dev/zero | tr '\0' '\377' | dd of="$place/room.db" bs=2048 seek=$((page - 1)) conv=notrunc status=none
   all_refuse Sql "a database with page $page damaged"
 done
 write_to "$place/room.db" 'CREATE TABLE meters (name TEXT PRIMARY KEY, value INTEGER)'
