@@ -6,7 +6,7 @@ ghost use Rattle.clr_net.specs.Names.{has_name};
 ghost use Rattle.clr_net.specs.Fence.{touches};
 ghost use Rattle.clr_rules.specs.Holds.{is_near_hold, is_own};
 
-use crate::names::is_among;
+use crate::names::{is_among, is_among_from};
 use clr_net::{Name, PointRow};
 use clr_rules::{ClearanceId, Hold, HoldKind};
 use std::alloc::{AllocError, Global};
@@ -47,6 +47,14 @@ pub(crate) fn is_near_hold(
     at_point || (at_section || signed_on)
 }
 
+/// Whether a point has an end among these sections, which is looked for at a place first.
+fn touches_from(fence: &[Name], at: &mut usize, point: &PointRow) -> bool
+    requires { IsStrictlySortedBy name_cmp fence.now }
+    ensures { result ≡ touches (has_name fence.now) point.now }
+{
+    is_among_from(fence, at, point.from_end) || is_among_from(fence, at, point.to_end)
+}
+
 /// The points with an end in a fence.
 pub(crate) fn touching_points<'a>(
     alloc: Global,
@@ -58,8 +66,9 @@ pub(crate) fn touching_points<'a>(
         ≡ filter (touches (has_name fence.now)) (map (λ row. row.now) rows.now)) }
 {
     let mut kept = Vec::new(alloc);
+    let mut at = 0;
     for row in rows {
-        if touches(fence, row) {
+        if touches_from(fence, &mut at, row) {
             kept.push(*row)?;
         }
     }

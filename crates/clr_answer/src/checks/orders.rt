@@ -15,7 +15,7 @@ ghost use Rattle.clr_answer.specs.Orders.{refusal_of};
 
 use crate::checks::work::has_hold;
 use crate::fences::touching_points;
-use crate::names::is_among;
+use crate::names::is_among_from;
 use crate::near::Near;
 use clr_net::{Fence, Name, SectionRow};
 use clr_order::{Held, OrderFault, Step, check_isolating, check_restoring, check_switching};
@@ -50,8 +50,9 @@ fn fence_sections<'a>(
         ≡ filter (λ row. has_name fence.now row.name) (map (λ row. row.now) rows.now)) }
 {
     let mut kept = Vec::new(alloc);
+    let mut at = 0;
     for row in rows {
-        if is_among(fence, row.name) {
+        if is_among_from(fence, &mut at, row.name) {
             kept.push(*row)?;
         }
     }

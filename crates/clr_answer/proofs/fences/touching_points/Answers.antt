@@ -6,7 +6,7 @@ use Rattle.clr_net.specs.Fence.{touches}
 use Rattle.clr_net.specs.declared.point.PointRow.{PointRow}
 use Rattle.clr_answer.proofs.RowLoops.{kept_more, passed_over}
 use Rattle.clr_answer.proofs.fences.touching_points.Goals as goal
-use Rattle.clr_answer.proofs.fences.touching_points.Goals.{then-touches+in_ok-push, else-touches}
+use Rattle.clr_answer.proofs.fences.touching_points.Goals.{then-touches_from+in_ok-push, else-touches_from}
 
 pub loop-row-preserved : goal.loop-row-preserved
 loop-row-preserved c =
@@ -20,10 +20,10 @@ loop-row-preserved c =
     let held = c.loop-row.kept.items in
     let kept = map shows held in
     let items = λ (v : Vec (Bor PointRow) Global). v.items in
-    elim c.if-touches.branch [
-      | then-touches+in_ok-push w ↦
+    elim c.if-touches_from.branch [
+      | then-touches_from+in_ok-push w ↦
           let counts : touches (has_name c.args.fence.now) row.now ≡ true =
-          sym c.touches.ensures ∙ w.if-touches.true in
+          sym c.touches_from.ensures ∙ w.if-touches_from.true in
           let takes : gives (row ∷ rest) ≡ (row.now ∷ []) ++ gives rest = rw counts refl in
           rw (
             ap items w.kept-is ∙ w.in_ok-push.ensures.items,
@@ -31,9 +31,9 @@ loop-row-preserved c =
           )
           (kept_more gives kept (row.now ∷ []) rows i row _ c.row-item.is
           c.loop-row-test.true takes c.loop-row.invariant)
-      | else-touches w ↦
+      | else-touches_from w ↦
           let counts : touches (has_name c.args.fence.now) row.now ≡ false =
-          sym c.touches.ensures ∙ w.if-touches.false in
+          sym c.touches_from.ensures ∙ w.if-touches_from.false in
           let passes : gives (row ∷ rest) ≡ gives rest = rw counts refl in
           rw (ap items w.kept-is)
           (passed_over (λ left. kept ++ gives left) rows i row _ c.row-item.is

@@ -5,8 +5,8 @@ use Rattle.clr_net.specs.Names.{has_name}
 use Rattle.clr_net.specs.declared.section.SectionRow.{SectionRow}
 use Rattle.clr_answer.proofs.RowLoops.{kept_more, passed_over}
 use Rattle.clr_answer.proofs.checks.orders.fence_sections.Goals as goal
-use Rattle.clr_answer.proofs.checks.orders.fence_sections.Goals.{then-is_among+in_ok-push}
-use Rattle.clr_answer.proofs.checks.orders.fence_sections.Goals.{else-is_among}
+use Rattle.clr_answer.proofs.checks.orders.fence_sections.Goals.{then-is_among_from+in_ok-push}
+use Rattle.clr_answer.proofs.checks.orders.fence_sections.Goals.{else-is_among_from}
 
 pub loop-row-preserved : goal.loop-row-preserved
 loop-row-preserved c =
@@ -20,10 +20,10 @@ loop-row-preserved c =
     let held = c.loop-row.kept.items in
     let kept = map shows held in
     let items = λ (v : Vec (Bor SectionRow) Global). v.items in
-    elim c.if-is_among.branch [
-      | then-is_among+in_ok-push w ↦
+    elim c.if-is_among_from.branch [
+      | then-is_among_from+in_ok-push w ↦
           let counts : has_name c.args.fence.now row.now.name ≡ true =
-          sym c.is_among.ensures ∙ w.if-is_among.true in
+          sym c.is_among_from.ensures ∙ w.if-is_among_from.true in
           let takes : gives (row ∷ rest) ≡ (row.now ∷ []) ++ gives rest = rw counts refl in
           rw (
             ap items w.kept-is ∙ w.in_ok-push.ensures.items,
@@ -31,9 +31,9 @@ loop-row-preserved c =
           )
           (kept_more gives kept (row.now ∷ []) rows i row _ c.row-item.is
           c.loop-row-test.true takes c.loop-row.invariant)
-      | else-is_among w ↦
+      | else-is_among_from w ↦
           let counts : has_name c.args.fence.now row.now.name ≡ false =
-          sym c.is_among.ensures ∙ w.if-is_among.false in
+          sym c.is_among_from.ensures ∙ w.if-is_among_from.false in
           let passes : gives (row ∷ rest) ≡ gives rest = rw counts refl in
           rw (ap items w.kept-is)
           (passed_over (λ left. kept ++ gives left) rows i row _ c.row-item.is
