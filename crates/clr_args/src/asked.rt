@@ -6,7 +6,7 @@ ghost use Rattle.std.specs.Prelude.{◌≤◌, ◌≤ℤ◌, neg_ℤ, pos};
 pub enum Asked<'a> {
     /// The sections that can be reached from one without passing a cut.
     Fence(FenceArgs<'a>),
-    /// What a control room would regret of the files of a network and its staff, printed.
+    /// Warnings about the files of a network and its staff, printed.
     Check(Files<'a>),
     /// The check of the files of a network and its staff, and a register of them.
     Init(InitArgs<'a>),

@@ -64,7 +64,7 @@ pub enum JournalFault {
     OpenFailed,
     /// The reader failed.
     ReadFailed,
-    /// There are more than 1,073,741,824 bytes.
+    /// A line has more than 4,194,304 bytes.
     TooLong,
     /// The line of this number does not hold its sum; 0: there is no first line.
     BadLine(u64),

@@ -25,7 +25,6 @@ pub use clr_print::{print_board, print_order};
 pub use commands::{command_text, command_value};
 pub use fault::TextFault;
 pub use fault_texts::fault_text;
-pub use json_reading::value_over;
 pub use key::Key;
 pub use kinds::command_word;
 pub use reading::{command_in, command_of, command_over};

@@ -35,7 +35,7 @@ pub fn check<'a>(alloc: Global) -> Result<Command<'a>, AllocError>
     Draft::new(
         alloc,
         "check",
-        "Prints what a control room would regret of files that init accepts, one a line",
+        "Prints warnings about files that init accepts, one a line",
     )
     .arg(required(alloc, "SECTIONS", "The file of sections"))
     .arg(required(alloc, "POINTS", "The file of switching points"))
