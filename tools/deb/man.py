@@ -9,7 +9,7 @@ def escaped(text):
 
 def plain(text):
     """A line of text, with code and bold, and links as their words and their file in /usr/share/doc."""
-    text = re.sub(r"\[((?:[^\]`]|`[^`]*`)*)\]\(([A-Z]+\.md)[^)]*\)", r"\1 (\2)", text)
+    text = re.sub(r"\[((?:[^\]`]|`[^`]*`)*)\]\((?:([A-Z]+\.md)|#|\.\./)[^)]*\)", lambda m: m[1] + (f" ({m[2]})" if m[2] else ""), text)
     out = []
     for part in re.split(r"(`[^`]*`|\*\*.*?\*\*)", text, flags=re.S):
         if part.startswith("`"):
