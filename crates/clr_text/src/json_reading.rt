@@ -66,7 +66,11 @@ impl<T: Drop> From<AllocFailed<T>> for Unread {
 /// it: also where a number is too large for a float, or a value nests deeper than 127 levels. It is
 /// `NoMemory` where memory ran out, and no other.
 #[tactic(auto, unfolding(crate::specs::Reading::value_of))]
-pub(crate) fn value_over(alloc: Global, bytes: &[u8], scratch: &mut Scratch) -> Result<Value, TextFault>
+pub(crate) fn value_over(
+    alloc: Global,
+    bytes: &[u8],
+    scratch: &mut Scratch,
+) -> Result<Value, TextFault>
     ensures { GivesAs view result (ok_or (value_of bytes.now) TextFault.NotJson) }
 {
     let Ok(text) = simdutf8::basic::from_utf8(bytes) else {
