@@ -11,6 +11,7 @@ ghost use Rattle.clr_commands.specs.WayBack.{way_back_to};
 ghost use Rattle.clr_known.specs.Known.{AreAnswers, HasWorkedFiles, IsRunOfJones, IsVersionTwo};
 ghost use Rattle.clr_known.specs.Known.{StoresWorked, jones_register};
 
+use crate::blank::Blank;
 use crate::databases::{POINTS, SECTIONS, STAFF};
 use crate::files::KnownFiles;
 use crate::machine::Known;
@@ -158,8 +159,8 @@ fn answers_of<'a, R: JonesMachine, O: Opens<'a>, I: CountedRead>(
     }
 }
 
-/// The same of the machine in memory, over the worked files.
-pub fn known_answers(machine: &mut Known, input: &mut Counted<&[u8]>) -> Answers
+/// The same of such a machine over blank databases, over the worked files.
+pub fn known_answers<B: Blank + Drop>(machine: &mut Known<B>, input: &mut Counted<&[u8]>) -> Answers
     ensures { AreAnswers (Some (counted_inner input.old).now)
         result.board result.order result.way_back result.moved result.made result.ran }
 {

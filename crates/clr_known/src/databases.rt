@@ -1,6 +1,5 @@
 //! A database whose register is known: that of JONES/1 with its first step done.
 ghost use Rattle.std.specs.Prelude.{◌≡◌, ◌++◌, ◌∷◌, [], false, IfErr, IfOk, IfSome, None, Ok, OnOk};
-ghost use Rattle.sqlite.specs.Files.{over_files};
 ghost use Rattle.sqlite.specs.Held.{state};
 ghost use Rattle.sqlite.specs.State.{HasCleanDisk};
 ghost use Rattle.clr_rules.specs.Good.{IsGood};
@@ -16,6 +15,7 @@ ghost use Rattle.clr_text.specs.Reading.{read_command};
 ghost use Rattle.clr_edge.specs.Database.{HasRegister, IsOfLine};
 ghost use Rattle.clr_known.specs.Known.{jones_lines, jones_register};
 
+use crate::blank::{Blank, of_line};
 use crate::machine::Known;
 use clr_desk::Desk;
 use clr_edge::database::{Databases, Makes};
@@ -28,8 +28,7 @@ use clr_staff::Staff;
 use clr_store::Store;
 use clr_stream::Counted;
 use clr_text::{TextFault, command_of};
-use sqlite::{Alter, Connection, FileStore, Options};
-use sqlite_disk::{Disk, Files, Memory};
+use sqlite::{Alter, Connection};
 use std::alloc::Global;
 
 pub const SECTIONS: &[u8] = b"section,source\nG,yes\nL1,no\nL2,no\nL3,no\nH,yes\n";
@@ -53,109 +52,68 @@ BOSS,charge,
 
 /// The database at `jones.db` has that register, and no other is there. None keeps what is written
 /// to it.
-impl Databases for Known {
+impl<B: Blank + Drop> Databases for Known<B> {
     ghost use Rattle.std.specs.Prelude.{◌≡◌};
-    ghost use Rattle.sqlite.specs.Files.{over_files};
     ghost use Rattle.clr_edge.specs.Database.{HasRegister};
     ghost use Rattle.clr_known.specs.Known.{jones_register};
 
-    type Tables = FileStore<Memory>;
+    type Tables = B::Tables;
 
     ghost opens = { λ old _ connection new.
-        (new ≡ old) × HasRegister over_files jones_register connection };
+        (new ≡ old) × HasRegister B.Tables.Store jones_register connection };
 
     ghost shuts = { λ old _ _ new. new ≡ old };
 
     ghost ends = { λ old _ _ new. new ≡ old };
 
-    fn stored(&mut self, path: &str) -> Result<Connection<FileStore<Memory>>, Fault>
+    fn stored(&mut self, path: &str) -> Result<Connection<B::Tables>, Fault>
         ensures opens { IfOk result (λ connection.
-            (self.new ≡ self.old) × HasRegister over_files jones_register connection) }
+            (self.new ≡ self.old) × HasRegister B.Tables.Store jones_register connection) }
         ensures mode { IfOk result (λ connection. connection.in_transaction ≡ false) }
         ensures shuts { IfErr result (λ _. self.new ≡ self.old) }
         ensures fault { IfErr result IsOfLine }
     {
         if path == "jones.db" {
-            jones_database(self.alloc)
+            jones_database(self.alloc, &self.blank)
         } else {
             Err(Fault::Store(StoreFault::Sql))
         }
     }
 
-    fn end(&mut self, place: &mut Option<Connection<FileStore<Memory>>>) -> Result<(), Fault>
+    fn end(&mut self, place: &mut Option<Connection<B::Tables>>) -> Result<(), Fault>
         ensures ends { IfSome place.old (λ _. (self.new ≡ self.old) × IfErr result IsOfLine) }
         ensures none { place.old ≡ None → self.new ≡ self.old }
         ensures taken { place.new ≡ None }
         ensures fault { IfErr result IsOfLine }
     {
-        closed(place.take())
+        self.blank.close(place)
     }
 }
 
 /// A database that is made is empty.
-impl Makes for Known {
+impl<B: Blank + Drop> Makes for Known<B> {
     ghost use Rattle.std.specs.Prelude.{◌≡◌};
 
     ghost makes = { λ old _ _ new. new ≡ old };
 
-    fn database(&mut self, _path: &str) -> Result<Connection<FileStore<Memory>>, Fault>
+    fn database(&mut self, _path: &str) -> Result<Connection<B::Tables>, Fault>
         ensures makes { IfOk result (λ _. self.new ≡ self.old) }
         ensures mode { IfOk result (λ connection. connection.in_transaction ≡ false) }
         ensures shuts { IfErr result (λ _. self.new ≡ self.old) }
         ensures fault { IfErr result IsOfLine }
     {
-        empty_database(self.alloc)
-    }
-}
-
-/// An empty database.
-pub(crate) fn empty_database(alloc: Global) -> Result<Connection<FileStore<Memory>>, Fault>
-    ensures mode { IfOk result (λ connection. connection.in_transaction ≡ false) }
-    ensures fault { IfErr result IsOfLine }
-{
-    let files = Files {
-        log: Memory::new(alloc),
-        db: Memory::new(alloc),
-    };
-    match Connection::open_files(alloc, files, Options::new(1)) {
-        Ok(connection) => Ok(connection),
-        Err((error, _)) => Err(of_line(Fault::from(StoreFault::from(error)))),
-    }
-}
-
-/// Closes a database, of which nothing is kept.
-pub(crate) fn closed<D: Disk + Drop>(
-    connection: Option<Connection<FileStore<D>>>,
-) -> Result<(), Fault>
-    ensures { IfErr result IsOfLine }
-{
-    let Some(connection) = connection else {
-        return Ok(());
-    };
-    match connection.close_files() {
-        Ok(_) => Ok(()),
-        Err((error, _)) => Err(of_line(Fault::from(StoreFault::from(error)))),
-    }
-}
-
-/// Any other fault than want of memory is one of the database.
-pub(crate) fn of_line(fault: Fault) -> Fault
-    ensures { IsOfLine result }
-{
-    match fault {
-        Fault::Memory => Fault::Memory,
-        _ => Fault::Store(StoreFault::Sql),
+        self.blank.empty(self.alloc)
     }
 }
 
 /// A database that has the register of JONES/1.
-fn jones_database(alloc: Global) -> Result<Connection<FileStore<Memory>>, Fault>
+fn jones_database<B: Blank>(alloc: Global, blank: &B) -> Result<Connection<B::Tables>, Fault>
     ensures register { IfOk result (λ connection.
-        HasRegister over_files jones_register connection) }
+        HasRegister B.Tables.Store jones_register connection) }
     ensures mode { IfOk result (λ connection. connection.in_transaction ≡ false) }
     ensures fault { IfErr result IsOfLine }
 {
-    let connection = empty_database(alloc)?;
+    let connection = blank.empty(alloc)?;
     match jones_made(alloc, connection) {
         Ok(connection) => Ok(connection),
         Err(fault) => Err(of_line(fault)),

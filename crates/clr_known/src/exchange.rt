@@ -4,6 +4,7 @@ ghost use Rattle.std.specs.Net.Socket.{socket_port};
 ghost use Rattle.clr_stream.specs.Counted.{counted_inner};
 ghost use Rattle.clr_known.specs.Known.{board_request};
 
+use crate::blank::Blank;
 use crate::machine::Known;
 use clr_edge::loopback::{Connection, Loopback};
 use clr_stream::Counted;
@@ -13,7 +14,7 @@ use std::net::SocketAddr;
 const BOARD_REQUEST: &[u8] = b"GET /board HTTP/1.1\r\n\r\n";
 
 /// Port 1 is another program's.
-impl Loopback for Known {
+impl<B: Blank + Drop> Loopback for Known<B> {
     ghost use Rattle.std.specs.Prelude.{◌≡◌, ◌≢◌, []};
     ghost use Rattle.std.specs.Net.Socket.{socket_port};
     ghost use Rattle.clr_stream.specs.Counted.{counted_inner};

@@ -8,6 +8,7 @@ ghost use Rattle.clr_known.specs.FilesAlone.{ArePrinted, IsUnreadNetwork, Replie
 ghost use Rattle.clr_known.specs.FilesAlone.{l2_fence, request_input, worked_regrets};
 ghost use Rattle.clr_known.specs.Known.{HasWorkedFiles, worked_counts};
 
+use crate::blank::Blank;
 use crate::databases::{POINTS, SECTIONS, STAFF};
 use crate::files::KnownFiles;
 use crate::machine::Known;
@@ -144,8 +145,8 @@ fn of_files<'a, R: Makes + Journals, O: Opens<'a>, I: CountedRead>(
     }
 }
 
-/// The same with the machine in memory, over the worked files.
-pub fn known_of_files(machine: &mut Known) -> OfFiles
+/// The same with such a machine, over the worked files.
+pub fn known_of_files<B: Blank + Drop>(machine: &mut Known<B>) -> OfFiles
     ensures text { ArePrinted result.fenced result.checked result.counted result.replied }
     ensures machine { machine.new ≡ machine.old }
 {

@@ -2,20 +2,19 @@
 ghost use Rattle.std.specs.Prelude.{◌≡◌, IfErr, IfOk, true};
 ghost use Rattle.clr_edge.specs.Journals.{IsNew, IsOfBeginning, IsOfOpening};
 
+use crate::blank::Blank;
 use crate::machine::Known;
 use crate::version_one::OldKnown;
-use clr_append::{Journal, OnDisk};
 use clr_chain::Clock;
 use clr_edge::fault::{Fault, JournalFault};
 use clr_edge::journals::{Journals, OpenedJournal};
 use clr_place::Place;
-use sqlite_disk::Memory;
 
 /// Each journal fails to open.
-impl Journals for Known {
+impl<B: Blank + Drop> Journals for Known<B> {
     ghost use Rattle.std.specs.Prelude.{◌≡◌, true};
 
-    type Log = OnDisk<Memory>;
+    type Log = B::Log;
 
     type Time = NoTime;
 
@@ -33,24 +32,19 @@ impl Journals for Known {
 
     ghost is_clean = { λ _. true };
 
-    fn journal(
-        &mut self,
-        _path: &str,
-        _place: &Place,
-    ) -> Result<OpenedJournal<OnDisk<Memory>>, Fault>
+    fn journal(&mut self, _path: &str, _place: &Place) -> Result<OpenedJournal<B::Log>, Fault>
         ensures opens_journal { IfOk result (λ _. ⊥) }
         ensures shuts_journal { IfErr result (λ _. self.new ≡ self.old) }
         ensures whole { IfOk result (λ opened.
-            ⟦<OnDisk<Memory> as Journal>⟧.found opened.journal
-            ≡ ⟦<OnDisk<Memory> as Journal>⟧.text opened.journal) }
+            B.Log.found opened.journal ≡ B.Log.text opened.journal) }
         ensures fault { IfErr result IsOfOpening }
     {
         Err(no_journal())
     }
 
-    fn begin_journal(&mut self, _path: &str, first: &Place) -> Result<OnDisk<Memory>, Fault>
+    fn begin_journal(&mut self, _path: &str, first: &Place) -> Result<B::Log, Fault>
         ensures begins_journal { IfOk result (λ _. ⊥) }
-        ensures new { IfOk result (IsNew ⟦<OnDisk<Memory> as Journal>⟧ (λ _. true) first.now) }
+        ensures new { IfOk result (IsNew B.Log.Journal (λ _. true) first.now) }
         ensures spares_journal { IfErr result (λ _. self.new ≡ self.old) }
         ensures fault { IfErr result IsOfBeginning }
     {
@@ -58,7 +52,7 @@ impl Journals for Known {
         Err(no_journal())
     }
 
-    fn let_journal_go(&mut self, _journal: OnDisk<Memory>)
+    fn let_journal_go(&mut self, _journal: B::Log)
         ensures { self.new ≡ self.old }
     {}
 
@@ -68,10 +62,10 @@ impl Journals for Known {
 }
 
 /// So it is with the machine whose tables are of version 1.
-impl Journals for OldKnown {
+impl<B: Blank + Drop> Journals for OldKnown<B> {
     ghost use Rattle.std.specs.Prelude.{◌≡◌, true};
 
-    type Log = OnDisk<Memory>;
+    type Log = B::Log;
 
     type Time = NoTime;
 
@@ -89,24 +83,19 @@ impl Journals for OldKnown {
 
     ghost is_clean = { λ _. true };
 
-    fn journal(
-        &mut self,
-        _path: &str,
-        _place: &Place,
-    ) -> Result<OpenedJournal<OnDisk<Memory>>, Fault>
+    fn journal(&mut self, _path: &str, _place: &Place) -> Result<OpenedJournal<B::Log>, Fault>
         ensures opens_journal { IfOk result (λ _. ⊥) }
         ensures shuts_journal { IfErr result (λ _. self.new ≡ self.old) }
         ensures whole { IfOk result (λ opened.
-            ⟦<OnDisk<Memory> as Journal>⟧.found opened.journal
-            ≡ ⟦<OnDisk<Memory> as Journal>⟧.text opened.journal) }
+            B.Log.found opened.journal ≡ B.Log.text opened.journal) }
         ensures fault { IfErr result IsOfOpening }
     {
         Err(no_journal())
     }
 
-    fn begin_journal(&mut self, _path: &str, first: &Place) -> Result<OnDisk<Memory>, Fault>
+    fn begin_journal(&mut self, _path: &str, first: &Place) -> Result<B::Log, Fault>
         ensures begins_journal { IfOk result (λ _. ⊥) }
-        ensures new { IfOk result (IsNew ⟦<OnDisk<Memory> as Journal>⟧ (λ _. true) first.now) }
+        ensures new { IfOk result (IsNew B.Log.Journal (λ _. true) first.now) }
         ensures spares_journal { IfErr result (λ _. self.new ≡ self.old) }
         ensures fault { IfErr result IsOfBeginning }
     {
@@ -114,7 +103,7 @@ impl Journals for OldKnown {
         Err(no_journal())
     }
 
-    fn let_journal_go(&mut self, _journal: OnDisk<Memory>)
+    fn let_journal_go(&mut self, _journal: B::Log)
         ensures { self.new ≡ self.old }
     {}
 

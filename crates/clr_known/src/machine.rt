@@ -1,19 +1,22 @@
 //! The machine, and what came of it.
+use crate::blank::{Blank, InMemory};
 use std::alloc::Global;
 
-/// A machine in memory.
+/// A machine whose databases are made of nothing.
 #[derive(Drop)]
-pub struct Known {
+pub struct Known<B: Blank + Drop> {
     pub alloc: Global,
+    pub blank: B,
     /// What went out over the connection that was let go last.
     pub response: Vec<u8>,
 }
 
-impl Known {
-    /// No connection came yet.
-    pub fn new(alloc: Global) -> Known {
+impl Known<InMemory> {
+    /// A machine in memory. No connection came yet.
+    pub fn new(alloc: Global) -> Known<InMemory> {
         Known {
             alloc,
+            blank: InMemory,
             response: Vec::new(alloc),
         }
     }

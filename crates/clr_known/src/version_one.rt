@@ -1,13 +1,12 @@
 //! A machine whose database has the register of JONES/1 in tables of version 1, and their move.
 ghost use Rattle.std.specs.Prelude.{◌≡◌, codes, false, IfErr, IfOk, IfSome, None};
-ghost use Rattle.sqlite.specs.Files.{over_files};
 ghost use Rattle.sqlite.specs.Held.{state};
 ghost use Rattle.sqlite.specs.State.{HasCleanDisk};
 ghost use Rattle.clr_edge.specs.Database.{IsOfLine};
 ghost use Rattle.clr_known.specs.Known.{IsAlwaysClean, IsVersionTwo};
 ghost use Rattle.clr_known.specs.OldTables.{HasOldJones, KnowsOldJones, MovesJones};
 
-use crate::databases::{closed, empty_database, of_line};
+use crate::blank::{Blank, of_line};
 use crate::old_tables::make_old;
 use clr_args::asked::MigrateArgs;
 use clr_commands::migrate::migrate;
@@ -15,53 +14,52 @@ use clr_edge::database::Databases;
 use clr_edge::fault::Fault;
 use clr_edge::journals::Journals;
 use clr_load::StoreFault;
-use sqlite::{Alter, Connection, FileStore};
-use sqlite_disk::Memory;
+use sqlite::{Alter, Connection};
 use std::alloc::Global;
 
-/// A machine in memory whose database is of version 1.
+/// A machine whose database is of version 1.
 #[derive(Drop)]
-pub struct OldKnown {
+pub struct OldKnown<B: Blank + Drop> {
     pub alloc: Global,
+    pub blank: B,
 }
 
 /// None keeps what is written to it.
-impl Databases for OldKnown {
+impl<B: Blank + Drop> Databases for OldKnown<B> {
     ghost use Rattle.std.specs.Prelude.{◌≡◌};
-    ghost use Rattle.sqlite.specs.Files.{over_files};
     ghost use Rattle.sqlite.specs.Held.{state};
     ghost use Rattle.clr_known.specs.OldTables.{HasOldJones};
 
-    type Tables = FileStore<Memory>;
+    type Tables = B::Tables;
 
     ghost opens = { λ old _ connection new.
-        (new ≡ old) × HasOldJones (state over_files connection).now };
+        (new ≡ old) × HasOldJones (state B.Tables.Store connection).now };
 
     ghost shuts = { λ old _ _ new. new ≡ old };
 
     ghost ends = { λ old _ _ new. new ≡ old };
 
-    fn stored(&mut self, path: &str) -> Result<Connection<FileStore<Memory>>, Fault>
+    fn stored(&mut self, path: &str) -> Result<Connection<B::Tables>, Fault>
         ensures opens { IfOk result (λ connection.
-            (self.new ≡ self.old) × HasOldJones (state over_files connection).now) }
+            (self.new ≡ self.old) × HasOldJones (state B.Tables.Store connection).now) }
         ensures mode { IfOk result (λ connection. connection.in_transaction ≡ false) }
         ensures shuts { IfErr result (λ _. self.new ≡ self.old) }
         ensures fault { IfErr result IsOfLine }
     {
         if path == "old.db" {
-            old_database(self.alloc)
+            old_database(self.alloc, &self.blank)
         } else {
             Err(Fault::Store(StoreFault::Sql))
         }
     }
 
-    fn end(&mut self, place: &mut Option<Connection<FileStore<Memory>>>) -> Result<(), Fault>
+    fn end(&mut self, place: &mut Option<Connection<B::Tables>>) -> Result<(), Fault>
         ensures ends { IfSome place.old (λ _. (self.new ≡ self.old) × IfErr result IsOfLine) }
         ensures none { place.old ≡ None → self.new ≡ self.old }
         ensures taken { place.new ≡ None }
         ensures fault { IfErr result IsOfLine }
     {
-        closed(place.take())
+        self.blank.close(place)
     }
 }
 
@@ -73,12 +71,10 @@ pub trait OldMachine: Databases + Journals {
     ghost clean: { IsAlwaysClean Self.Tables.Store };
 }
 
-impl OldMachine for OldKnown {
-    ghost use Rattle.clr_known.specs.Clean.{always_clean};
-
+impl<B: Blank + Drop> OldMachine for OldKnown<B> {
     ghost knows = { λ old new path connection opened. opened.1 };
 
-    ghost clean = { λ connection. always_clean connection };
+    ghost clean = { λ connection. B.clean connection };
 }
 
 /// The move of its tables.
@@ -95,21 +91,21 @@ fn move_of_old<R: OldMachine>(alloc: Global, machine: &mut R) -> Result<String, 
     migrate(alloc, machine, &args)
 }
 
-/// The same of the machine in memory.
-pub fn known_move(machine: &mut OldKnown) -> Result<String, Fault>
+/// The same of such a machine.
+pub fn known_move<B: Blank + Drop>(machine: &mut OldKnown<B>) -> Result<String, Fault>
     ensures { IsVersionTwo result }
 {
     move_of_old(machine.alloc, machine)
 }
 
 /// A database of version 1 that has the register.
-fn old_database(alloc: Global) -> Result<Connection<FileStore<Memory>>, Fault>
+fn old_database<B: Blank>(alloc: Global, blank: &B) -> Result<Connection<B::Tables>, Fault>
     ensures tables { IfOk result (λ connection.
-        HasOldJones (state over_files connection).now) }
+        HasOldJones (state B.Tables.Store connection).now) }
     ensures mode { IfOk result (λ connection. connection.in_transaction ≡ false) }
     ensures fault { IfErr result IsOfLine }
 {
-    let connection = empty_database(alloc)?;
+    let connection = blank.empty(alloc)?;
     match old_made(connection) {
         Ok(connection) => Ok(connection),
         Err(fault) => Err(of_line(Fault::from(fault))),

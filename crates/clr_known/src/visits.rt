@@ -5,6 +5,7 @@ ghost use Rattle.clr_commands.specs.Connections.{seen};
 ghost use Rattle.clr_known.specs.Known.{IsAlwaysClean, IsAskedForBoard, IsBoardResponse};
 ghost use Rattle.clr_known.specs.Known.{KnowsJones, ServesOnce, fresh};
 
+use crate::blank::Blank;
 use crate::files::KnownFiles;
 use crate::machine::Known;
 use clr_args::asked::ServeArgs;
@@ -30,24 +31,23 @@ pub trait JonesMachine: Makes + Journals + Loopback {
         (seen Self.Reader.remaining Self.Reader.failure_count Self.Writer.stream) response };
 }
 
-impl JonesMachine for Known {
+impl<B: Blank + Drop> JonesMachine for Known<B> {
     ghost use Rattle.std.proofs.Common.{List, ℕ, Some, ap, sym};
-    ghost use Rattle.clr_known.specs.Clean.{always_clean};
     ghost use Rattle.clr_known.specs.declared.machine.Known.{Known as AnyKnown};
 
     ghost response = { λ known. known.response.items };
 
     ghost knows = { λ old new path connection opened. opened.1 };
 
-    ghost clean = { λ connection. always_clean connection };
+    ghost clean = { λ connection. B.clean connection };
 
     ghost asked = { record {
       comes = λ old new listener deadline connection came.
           (ap (λ (bytes : List ℕ). Some bytes) came.1, ap (λ (bytes : List ℕ). Some bytes) came.2);
       misses = λ old new listener tries kind missed. missed;
       keeps = λ old new connection is_expected left.
-          ap (λ (m : AnyKnown). Some m.response.items) (sym left);
-      ended = λ old new database closed back. ap (λ (m : AnyKnown). m.response.items) back;
+          ap (λ (m : AnyKnown B B.Tables B.Log). Some m.response.items) (sym left);
+      ended = λ old new database closed back. ap (λ (m : AnyKnown B B.Tables B.Log). m.response.items) back;
     } };
 }
 
@@ -67,10 +67,10 @@ fn service_of_jones<'a, R: JonesMachine, O: Opens<'a>, W: CountedFlush, E: Count
     serve(alloc, machine, paths, args, output, errors)
 }
 
-/// The same of the machine in memory: what went out over the connection is the response to a
+/// The same of such a machine over blank databases: what went out over the connection is the response to a
 /// request for the board, unless a failure was reported.
-pub fn known_service<W: CountedFlush, E: CountedFlush>(
-    machine: &mut Known,
+pub fn known_service<B: Blank + Drop, W: CountedFlush, E: CountedFlush>(
+    machine: &mut Known<B>,
     output: &mut W,
     errors: &mut E,
 ) -> Result<(), Fault>
