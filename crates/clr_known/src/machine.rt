@@ -2,7 +2,7 @@
 use crate::blank::{Blank, InMemory};
 use std::alloc::Global;
 
-/// A machine whose databases are made of nothing.
+/// A machine that makes each of its databases from a blank one.
 #[derive(Drop)]
 pub struct Known<B: Blank + Drop> {
     pub alloc: Global,

@@ -47,7 +47,8 @@ impl<B: Blank + Drop> JonesMachine for Known<B> {
       misses = λ old new listener tries kind missed. missed;
       keeps = λ old new connection is_expected left.
           ap (λ (m : AnyKnown B B.Tables B.Log). Some m.response.items) (sym left);
-      ended = λ old new database closed back. ap (λ (m : AnyKnown B B.Tables B.Log). m.response.items) back;
+      ended = λ old new database closed back.
+          ap (λ (m : AnyKnown B B.Tables B.Log). m.response.items) back;
     } };
 }
 
@@ -67,8 +68,8 @@ fn service_of_jones<'a, R: JonesMachine, O: Opens<'a>, W: CountedFlush, E: Count
     serve(alloc, machine, paths, args, output, errors)
 }
 
-/// The same of such a machine over blank databases: what went out over the connection is the response to a
-/// request for the board, unless a failure was reported.
+/// The same of such a machine over blank databases: what went out over the connection is the
+/// response to a request for the board, unless a failure was reported.
 pub fn known_service<B: Blank + Drop, W: CountedFlush, E: CountedFlush>(
     machine: &mut Known<B>,
     output: &mut W,
