@@ -1,4 +1,4 @@
-# What a control room would regret of files that `init` accepts. Read by tools/try-program.
+# Warnings about files that `init` accepts. Read by tools/try-program.
 
 room=$work/check
 mkdir "$room"
@@ -18,8 +18,8 @@ network() {
   done
 }
 
-# regrets TITLE LINE.. -- ROW..: what `check` prints of the files of these rows, which `init` accepts.
-regrets() {
+# warnings TITLE LINE.. -- ROW..: what `check` prints of the files of these rows, which `init` accepts.
+warnings() {
   local title=$1 lines=''
   shift
   while [ "$1" != -- ]; do
@@ -35,33 +35,33 @@ regrets() {
 joined=(N1,yes W2,no -- 'TIE,N1,W2,yes,no,closed')
 team=(OPS,operator, REED,field, BIRCH,charge,HOLM HOLM,charge,BIRCH)
 
-regrets 'nothing to regret' -- "${joined[@]}" -- "${team[@]}"
-regrets 'no source' 'no section is a source' 'section N1 is reached by no source' 'section W2 is reached by no source' \
+warnings 'nothing to warn of' -- "${joined[@]}" -- "${team[@]}"
+warnings 'no source' 'no section is a source' 'section N1 is reached by no source' 'section W2 is reached by no source' \
   -- N1,no W2,no -- 'TIE,N1,W2,yes,no,closed' -- "${team[@]}"
-regrets 'no operator' 'no employee is an operator' -- "${joined[@]}" -- "${team[@]:1}"
-regrets 'no field employee' 'no employee is a field employee' -- "${joined[@]}" -- OPS,operator, "${team[@]:2}"
-regrets 'no staff' 'no employee is an operator' 'no employee is a field employee' -- "${joined[@]}" --
-regrets 'a holder without a supervisor' 'employee BIRCH may hold a clearance and has no supervisor' \
+warnings 'no operator' 'no employee is an operator' -- "${joined[@]}" -- "${team[@]:1}"
+warnings 'no field employee' 'no employee is a field employee' -- "${joined[@]}" -- OPS,operator, "${team[@]:2}"
+warnings 'no staff' 'no employee is an operator' 'no employee is a field employee' -- "${joined[@]}" --
+warnings 'a holder without a supervisor' 'employee BIRCH may hold a clearance and has no supervisor' \
   -- "${joined[@]}" -- OPS,operator, REED,field, BIRCH,charge,
-regrets 'a section that no point joins' 'section YARD is joined by no point' 'section YARD is reached by no source' \
+warnings 'a section that no point joins' 'section YARD is joined by no point' 'section YARD is reached by no source' \
   -- "${joined[@]:0:2}" YARD,no "${joined[@]:2}" -- "${team[@]}"
-regrets 'a source that no point joins' 'section YARD is joined by no point' \
+warnings 'a source that no point joins' 'section YARD is joined by no point' \
   -- "${joined[@]:0:2}" YARD,yes "${joined[@]:2}" -- "${team[@]}"
-regrets 'sections that no source reaches' 'section E3 is reached by no source' 'section YARD is reached by no source' \
+warnings 'sections that no source reaches' 'section E3 is reached by no source' 'section YARD is reached by no source' \
   -- "${joined[@]:0:2}" E3,no YARD,no "${joined[@]:2}" 'BUS,E3,YARD,yes,yes,open' -- "${team[@]}"
-regrets 'an open point is a way for a source' -- N1,yes W2,no -- 'TIE,W2,N1,yes,yes,open' -- "${team[@]}"
-regrets 'a point that nothing can lock' 'point TIE can be locked by nothing' \
+warnings 'an open point is a way for a source' -- N1,yes W2,no -- 'TIE,W2,N1,yes,yes,open' -- "${team[@]}"
+warnings 'a point that nothing can lock' 'point TIE can be locked by nothing' \
   -- N1,yes W2,no -- 'TIE,N1,W2,no,yes,closed' -- "${team[@]}"
 
 # Names that differ by one letter: one in place of another byte, one more at the front, within, or at the end. Digits and
 # hyphens are no letters, and names of two kinds are not compared.
-regrets 'names that differ by one letter' 'sections N1 and NI differ by one letter' 'sections N2 and NI differ by one letter' \
+warnings 'names that differ by one letter' 'sections N1 and NI differ by one letter' 'sections N2 and NI differ by one letter' \
   'points BUS and BUSH differ by one letter' 'points BUS and BUST differ by one letter' \
   'points BUSH and BUST differ by one letter' \
   'employees BIRCH and BRCH differ by one letter' 'employees HOLM and OLM differ by one letter' \
   -- N1,yes NI,no N2,no N-1,no -- BUST,N1,NI,yes,no,open BUS,NI,N2,yes,no,open BUSH,N2,N-1,yes,no,open \
   -- OPS,operator, REED,field, BIRCH,charge,HOLM BRCH,charge,HOLM HOLM,charge,BIRCH OLM,field,
-regrets 'names that differ by more' -- ABC,yes BAC,no BC-A,no -- 'AB,ABC,BAC,yes,no,open' 'BA,BAC,BC-A,yes,no,open' -- "${team[@]}"
+warnings 'names that differ by more' -- ABC,yes BAC,no BC-A,no -- 'AB,ABC,BAC,yes,no,open' 'BA,BAC,BC-A,yes,no,open' -- "${team[@]}"
 
 # The worked network, as it is, with CR LF, and with each field in quotes.
 worked='employee BOSS may hold a clearance and has no supervisor

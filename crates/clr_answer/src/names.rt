@@ -24,8 +24,8 @@ pub fn is_among(names: &[Name], name: Name) -> bool
     names.binary_search(&name).is_ok()
 }
 
-/// The same, where the name is looked for at a place first. That becomes the place after it, so that
-/// names which come in this order are found at once.
+/// The same, where the name is looked for at a place first. That becomes the place after it, so
+/// that names which come in this order are found at once.
 pub(crate) fn is_among_from(names: &[Name], at: &mut usize, name: Name) -> bool
     requires { IsStrictlySortedBy name_cmp names.now }
     ensures { result ≡ has_name names.now name }

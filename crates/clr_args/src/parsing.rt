@@ -256,8 +256,8 @@ fn init_args<'a>(matches: &ArgMatches<'a>) -> Option<InitArgs<'a>>
     }
 }
 
-/// What `run [--db FILE [--journal FILE]] [FILES]...` asks for, if it names a database and no files,
-/// or three files alone.
+/// What `run [--db FILE [--journal FILE]] [FILES]...` asks for, if it names a database and no
+/// files, or three files alone.
 fn run_args<'a>(alloc: Global, matches: &ArgMatches<'a>) -> Result<Option<RunArgs<'a>>, AllocError>
     ensures { IfOk result (λ args. MatchOption args
         (IsNoRun (rows_of (found_of matches.now))) (AsksRun (rows_of (found_of matches.now)))) }
@@ -318,8 +318,8 @@ fn way_back_args<'a>(matches: &ArgMatches<'a>) -> WayBackArgs<'a>
     }
 }
 
-/// What `serve DB --port N --count N [--deadline SECONDS] [--desk] [--logins FILE] [--journal FILE]`
-/// asks for, if it names no logins without a desk.
+/// What `serve DB --port N --count N [--deadline SECONDS] [--desk] [--logins FILE] [--journal
+/// FILE]` asks for, if it names no logins without a desk.
 fn serve_args<'a>(matches: &ArgMatches<'a>) -> Option<ServeArgs<'a>>
     ensures { MatchOption result (IsNoServe (rows_of (found_of matches.now)))
         (AsksServe (rows_of (found_of matches.now))) }

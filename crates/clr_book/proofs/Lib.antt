@@ -10,3 +10,7 @@ pub mod Opening
 pub mod OpenRecords
 pub mod PutLast
 pub mod StateFacts
+pub mod Enough
+pub mod OwnRows
+pub mod Picked
+pub mod Replies

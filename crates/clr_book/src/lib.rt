@@ -1,10 +1,12 @@
 //! The register of clearances: a book over four shelves, what of it a command looks at, and what it
-//! is answered.
+//! is answered: where the command needs no fence, by the clearance's own rows.
 #![tactic(auto)]
 
 mod answer;
 mod book;
+pub mod laws;
 mod near;
+pub mod own;
 mod states;
 
 pub use book::Book;

@@ -2,8 +2,8 @@
 use Rattle.std.proofs.Common.{◌≡◌, ◌∙◌, ℕ, Bool, true, cond, List, [], None, Some, codes, refl, ap, sym, arith, append-nil, option_and_then, eq-eqb, bytes_eq}
 use Rattle.std.proofs.lemmas.Slice.Eq.{bytes_eq-Decides}
 use Rattle.serde_json.specs.Data.{Members, member, no_members, string}
-use Rattle.clr_append.proofs.Pieces.{line_first}
-use Rattle.clr_append.specs.Lines.{with_feed}
+use Rattle.clr_journal.proofs.Pieces.{line_first}
+use Rattle.clr_journal.specs.Lines.{with_feed}
 use Rattle.clr_text.proofs.PlainTexts.{plain_values_read_back}
 use Rattle.clr_text.specs.CommandLaws.{is_plain}
 use Rattle.clr_text.specs.Json.{whole_data}
@@ -17,7 +17,7 @@ use Rattle.clr_chain.specs.First.{end_at, first_data, first_text, first_text_by,
 use Rattle.clr_chain.specs.Laws.{FirstsReadBack, NewJournalsOpen}
 use Rattle.clr_chain.specs.Near.{stopped}
 use Rattle.clr_chain.specs.Opening.{CanBegin, new_text}
-use Rattle.clr_place.specs.declared.place.Place.{Place}
+use Rattle.clr_rules.specs.declared.place.Place.{Place}
 
 abbrev sum_member : Place → Members
 sum_member first = member (codes "sum") (string first.sum) no_members

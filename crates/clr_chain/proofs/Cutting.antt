@@ -3,8 +3,8 @@ use Rattle.std.proofs.Common.{◌≡◌, ◌∙◌, ℕ, Bool, true, false, cond
 use Rattle.std.specs.List.{list_any}
 use Rattle.std.specs.Option.{option_map_or}
 use Rattle.std.specs.Prelude.{bytes_eq, nat_lt, ◌==◌, ⊤}
-use Rattle.clr_append.proofs.Pieces.{whole_text}
-use Rattle.clr_append.specs.Lines.{ended_lines, ended_text, text_of, unfinished}
+use Rattle.clr_journal.proofs.Pieces.{whole_text}
+use Rattle.clr_journal.specs.Lines.{ended_lines, ended_text, text_of, unfinished}
 use Rattle.clr_journal.specs.Journals.{next_place, turn_after, withdraws}
 use Rattle.clr_journal.specs.Line.{Entry, carried, read_line, withdrawn}
 use Rattle.clr_chain.proofs.Parts.{text_of-append, there_is_a_rest}
@@ -16,7 +16,7 @@ use Rattle.clr_chain.specs.Reading.{IsCut, IsFound, IsFoundWith, seen_unread}
 use Rattle.clr_chain.specs.declared.chain_end.ChainEnd.{ChainEnd}
 use Rattle.clr_chain.specs.declared.finding.Found.{Found as SeenFound}
 use Rattle.clr_chain.specs.declared.finding.Found.TheVariants as seen
-use Rattle.clr_place.specs.declared.place.Place.{Place}
+use Rattle.clr_rules.specs.declared.place.Place.{Place}
 
 -- lines end with these
 pub record EndsWith (texts left : List (List ℕ)) : Type 0 where

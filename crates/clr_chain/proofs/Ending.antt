@@ -1,7 +1,7 @@
 -- The end of a journal says what is found in all of it.
 use Rattle.std.proofs.Common.{◌≡◌, ◌∙◌, ◌+◌, ◌-◌, ◌≤◌, min, ℕ, Bool, true, false, cond, List, [], ◌∷◌, ◌++◌, length, take, drop, Option, None, Some, refl, ap, ap₂, sym, subst, arith, append_assoc, length-drop, take_all, take-append-drop, bytes_eq, IfSome, inl, inr, option_and_then, take-take}
 use Rattle.std.proofs.lemmas.Bool.{cases_lt}
-use Rattle.clr_append.specs.Lines.{but_last, ended_lines, last_of, pieces, unfinished}
+use Rattle.clr_journal.specs.Lines.{but_last, ended_lines, last_of, pieces, unfinished}
 use Rattle.clr_chain.proofs.Cutting.{AheadEnds, EndsWith, all_left, both, by_ends, cut_at, found_there, found_whole, links_end, sought-ends}
 use Rattle.clr_chain.proofs.NotMissed.{stays_met}
 use Rattle.clr_chain.proofs.Parts.{HasEnd, end_pieces, last_apart, last_same}
@@ -13,7 +13,7 @@ use Rattle.clr_chain.specs.Near.{found_near, is_unmet}
 use Rattle.clr_chain.specs.Reading.{IsFound, IsFoundNear, IsFoundWith, rest_of, seen_unread}
 use Rattle.clr_chain.specs.declared.finding.Found.{Found as SeenFound}
 use Rattle.clr_chain.specs.declared.finding.Found.TheVariants as seen
-use Rattle.clr_place.specs.declared.place.Place.{Place}
+use Rattle.clr_rules.specs.declared.place.Place.{Place}
 
 -- ---- what the end says
 

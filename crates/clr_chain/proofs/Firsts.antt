@@ -3,8 +3,8 @@ use Rattle.std.proofs.Common.{◌≡◌, ◌∙◌, ◌+◌, ◌-◌, ◌<◌, �
 use Rattle.std.proofs.lemmas.Bool.{cases_lt, or_parts}
 use Rattle.std.proofs.lemmas.List.{take-append-le}
 use Rattle.std.specs.List.{list_any}
-use Rattle.clr_append.proofs.Pieces.{line_first, no_line}
-use Rattle.clr_append.specs.Lines.{ended_lines, is_line_feed, text_of, with_feed}
+use Rattle.clr_journal.proofs.Pieces.{line_first, no_line}
+use Rattle.clr_journal.specs.Lines.{ended_lines, is_line_feed, text_of, with_feed}
 use Rattle.clr_chain.proofs.Cutting.{AheadEnds, EndsWith, by_ends, found_there, sought-ends}
 use Rattle.clr_chain.proofs.NotMissed.{front_says_nothing, same_found, with_left}
 use Rattle.clr_chain.proofs.Parts.{AreLines, front_are_lines, front_lines, lines_are_lines, lines_then, parted, past_front}
@@ -13,7 +13,7 @@ use Rattle.clr_chain.specs.Finding.{Found, ahead, first_of, first_text_of, found
 use Rattle.clr_chain.specs.First.{read_first}
 use Rattle.clr_chain.specs.Laws.{CutsAreNotMissed, FrontsAreFound}
 use Rattle.clr_chain.specs.Near.{SayNothing}
-use Rattle.clr_place.specs.declared.place.Place.{Place}
+use Rattle.clr_rules.specs.declared.place.Place.{Place}
 
 -- ---- the first line of a text that begins with a line
 

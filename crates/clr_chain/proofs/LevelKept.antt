@@ -2,7 +2,7 @@
 use Rattle.std.proofs.Common.{◌≡◌, ◌∙◌, Bool, true, false, ◌&&◌, not, cond, List, [], ◌∷◌, ◌++◌, map, Option, None, Some, refl, ap, ap₂, sym, subst, append_assoc, append-nil}
 use Rattle.std.proofs.lemmas.List.{append_cancel_left, map-append}
 use Rattle.serde_json.specs.Data.{Data}
-use Rattle.clr_deeds.specs.Deeds.{Deed, after_deed, after_deeds}
+use Rattle.clr_changes.specs.Deeds.{Deed, after_deed, after_deeds}
 use Rattle.clr_rules.specs.Register.{Register}
 use Rattle.clr_journal.specs.Answered.{deed_replies, deed_reply}
 use Rattle.clr_journal.proofs.JournalsRead.{deeds_grow, lines_grow}

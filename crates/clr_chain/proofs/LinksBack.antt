@@ -9,9 +9,9 @@ use Rattle.std.specs.Str.{is_utf8}
 use Rattle.json.proofs.Printed.Utf8.{IsUtf8-are_ascii, are_ascii}
 use Rattle.serde_json.specs.Data.{Data, Items, Members, Num, array, boolean, depth, float, item, member, negative, no_items, no_members, null, number, object, string, unsigned}
 use Rattle.serde_json.specs.Written.{has_float, items_have_float, members_have_float}
-use Rattle.clr_deeds.specs.Deeds.{archive, command, update}
-use Rattle.clr_delta.proofs.Back.{change_values_are_plain, changes_read_back}
-use Rattle.clr_delta.specs.Delta.{can_be_said, changes_data, changes_in}
+use Rattle.clr_changes.specs.Deeds.{archive, command, update}
+use Rattle.clr_journal.proofs.Back.{change_values_are_plain, changes_read_back}
+use Rattle.clr_journal.specs.Delta.{can_be_said, changes_data, changes_in}
 use Rattle.clr_rules.specs.Moment.{is_moment}
 use Rattle.clr_rules.specs.declared.command.Command.{Command}
 use Rattle.clr_update.specs.Changes.{Changes}

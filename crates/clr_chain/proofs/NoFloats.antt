@@ -2,8 +2,8 @@
 use Rattle.std.proofs.Common.{◌≡◌, ℕ, false, List, Option, None, Some, refl}
 use Rattle.serde_json.specs.Data.{string}
 use Rattle.serde_json.specs.Written.{has_float}
-use Rattle.clr_deeds.specs.Deeds.{archive, command, update}
-use Rattle.clr_delta.proofs.NoFloats.{in_changes}
+use Rattle.clr_changes.specs.Deeds.{archive, command, update}
+use Rattle.clr_journal.proofs.NoFloats.{in_changes}
 use Rattle.clr_text.proofs.NoFloats.{in_command}
 use Rattle.clr_text.specs.Json.{optional_data}
 use Rattle.clr_journal.specs.Line.{Entry, carried, withdrawn, entry_data}

@@ -13,7 +13,7 @@ use Rattle.clr_chain.specs.First.{end_at}
 use Rattle.clr_chain.specs.Link.{end_after, is_own, next_link}
 use Rattle.clr_chain.specs.Near.{SayNothing, is_unmet, stopped}
 use Rattle.clr_chain.specs.declared.chain_end.ChainEnd.{ChainEnd}
-use Rattle.clr_place.specs.declared.place.Place.{Place}
+use Rattle.clr_rules.specs.declared.place.Place.{Place}
 
 -- the same lines, with other texts after them
 abbrev pub with_left : List (List ℕ) → ReadOn → ReadOn

@@ -2,7 +2,7 @@
 use Rattle.std.proofs.Common.{◌≡◌, ◌∙◌, ◌+◌, ◌-◌, ◌≤◌, ℕ, List, [], ◌++◌, length, take, ap, sym, arith, append-nil, length-take-le, subst}
 use Rattle.std.proofs.Math.Seq.{take-append_seam}
 use Rattle.sqlite_disk.specs.Disk.{Cut, Follows, MoreFaults}
-use Rattle.clr_append.specs.Lines.{ended_text, text_of}
+use Rattle.clr_journal.specs.Lines.{ended_text, text_of}
 use Rattle.clr_journal.specs.Opening.{FailedToCut}
 use Rattle.clr_chain.proofs.Firsts.{found_again}
 use Rattle.clr_chain.proofs.NotMissed.{nothing_says_nothing}
@@ -12,7 +12,7 @@ use Rattle.clr_chain.specs.Opening.{IsOpened, WasNotCut, read_ahead}
 use Rattle.clr_chain.specs.Reading.{IsFound}
 use Rattle.clr_chain.specs.declared.finding.Ahead.{Ahead as SeenAhead}
 use Rattle.clr_chain.specs.declared.finding.Found.TheVariants as seen
-use Rattle.clr_place.specs.declared.place.Place.{Place}
+use Rattle.clr_rules.specs.declared.place.Place.{Place}
 
 pub is_opened : (place : Place) (bytes : List ℕ) (lines : SeenAhead) (len end : ℕ) → len ≡ length bytes → end ≡ len - lines.rest → IsFound bytes (seen.Ahead lines) (found_in place bytes)
     → IsOpened place bytes lines (take end bytes)

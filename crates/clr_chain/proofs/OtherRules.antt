@@ -4,8 +4,8 @@ use Rattle.std.proofs.lemmas.Bool.{ne_eqb}
 use Rattle.std.proofs.lemmas.Slice.Eq.{bytes_eq-Decides}
 use Rattle.std.specs.List.{list_any}
 use Rattle.serde_json.specs.Data.{Members, member, no_members, string}
-use Rattle.clr_append.proofs.Pieces.{line_first}
-use Rattle.clr_append.specs.Lines.{ended_lines, is_line_feed, with_feed}
+use Rattle.clr_journal.proofs.Pieces.{line_first}
+use Rattle.clr_journal.specs.Lines.{ended_lines, is_line_feed, with_feed}
 use Rattle.clr_journal.specs.Line.{at_key}
 use Rattle.clr_text.proofs.PlainTexts.{one_line, plain_values_read_back}
 use Rattle.clr_text.specs.CommandLaws.{is_plain}
@@ -20,7 +20,7 @@ use Rattle.clr_chain.specs.Finding.{first_of, first_text_of, found_from, found_i
 use Rattle.clr_chain.specs.First.{first_data_by, first_text, first_text_by, if_by, if_other, if_own_place, other_rules_in, place_in, read_first, rules}
 use Rattle.clr_chain.specs.Laws.{OthersAreFound}
 use Rattle.clr_chain.specs.Opening.{CanBegin}
-use Rattle.clr_place.specs.declared.place.Place.{Place}
+use Rattle.clr_rules.specs.declared.place.Place.{Place}
 
 abbrev sum_member : Place → Members
 sum_member first = member (codes "sum") (string first.sum) no_members

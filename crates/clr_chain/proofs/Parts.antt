@@ -5,8 +5,8 @@ use Rattle.std.proofs.lemmas.List.{append_cancel_left}
 use Rattle.std.proofs.lemmas.List.Splits.{length-slice_split}
 use Rattle.std.specs.List.{list_any, onto_first}
 use Rattle.std.specs.Prelude.{⊤}
-use Rattle.clr_append.proofs.Pieces.{line_first, some_piece, whole_text}
-use Rattle.clr_append.specs.Lines.{but_last, ended_lines, is_line_feed, last_of, pieces, text_of, unfinished, with_feed}
+use Rattle.clr_journal.proofs.Pieces.{line_first, some_piece, whole_text}
+use Rattle.clr_journal.specs.Lines.{but_last, ended_lines, is_line_feed, last_of, pieces, text_of, unfinished, with_feed}
 
 -- ---- no line has a line feed
 

@@ -9,7 +9,7 @@ use Rattle.hex.proofs.HexLemmas.{length-encode_with}
 use Rattle.hex.specs.Hex.{lower_digits}
 use Rattle.sha2.proofs.Facts256.{length-sha256}
 use Rattle.sha2.specs.Sha256.{sha256}
-use Rattle.clr_append.specs.Lines.{is_line_feed}
+use Rattle.clr_journal.specs.Lines.{is_line_feed}
 use Rattle.clr_journal.proofs.JournalsRead.{lines_are_one_line}
 use Rattle.clr_journal.specs.Line.{Entry, line_text}
 use Rattle.clr_chain.specs.Laws.{AreSame, Collision, SameSumSameJournal}

@@ -1,9 +1,9 @@
 -- The line of a number is looked for, line by line.
 use Rattle.std.proofs.Common.{◌≡◌, ◌∙◌, ℕ, List, [], ◌∷◌, refl, ap, sym}
-use Rattle.clr_append.specs.Lines.{ended_lines}
+use Rattle.clr_journal.specs.Lines.{ended_lines}
 use Rattle.clr_journal.specs.Line.{read_line}
 use Rattle.clr_chain.specs.Finding.{Sought, met, or_earlier, passed, sought, sought_at, unmet}
-use Rattle.clr_place.specs.declared.place.Place.{Place}
+use Rattle.clr_rules.specs.declared.place.Place.{Place}
 
 latest : (a b c : Sought) → or_earlier (or_earlier a b) c ≡ or_earlier a (or_earlier b c)
 latest (met is_own turn after) b c = refl

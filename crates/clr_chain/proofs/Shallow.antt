@@ -7,8 +7,8 @@ use Rattle.serde_json.specs.Find.{as_bool, get, get_member}
 use Rattle.serde_json.specs.Read.{read}
 use Rattle.serde_json.proofs.Nesting.{depth-read}
 use Rattle.clr_text.specs.Reading.{value_of}
-use Rattle.clr_deeds.specs.Deeds.{archive, command, update}
-use Rattle.clr_delta.specs.Delta.{changes_in}
+use Rattle.clr_changes.specs.Deeds.{archive, command, update}
+use Rattle.clr_journal.specs.Delta.{changes_in}
 use Rattle.clr_text.specs.Values.{moment_in}
 use Rattle.clr_journal.specs.Line.{Entry, archived_in, at_key, bare_receipt_in, carried, carried_in, command_at, done, if_withdrawn, line_in, read_line, receipt_in, updated_in, withdrawn, withdrawn_in}
 use Rattle.clr_chain.proofs.Firsts.{is_ahead}
@@ -19,7 +19,7 @@ use Rattle.clr_chain.specs.Finding.{ahead, found_in}
 use Rattle.clr_chain.specs.Laws.{AreShallow, IsShallow, LinesAheadAreShallow, LinesAheadGoOn}
 use Rattle.clr_chain.specs.Link.{end_after, if_holds, next_link}
 use Rattle.clr_chain.specs.declared.chain_end.ChainEnd.{ChainEnd}
-use Rattle.clr_place.specs.declared.place.Place.{Place}
+use Rattle.clr_rules.specs.declared.place.Place.{Place}
 
 one_of : (o : Ordering) (found : Data) (more : Option Data) (n : ℕ) → depth found ≤ n → IfSome more (λ d. depth d ≤ n) → IfSome (match_ordering o more (Some found) more) (λ d. depth d ≤ n)
 one_of Less found more n here rest = rest

@@ -7,7 +7,7 @@ use Rattle.std.specs.Prelude.{slice_index}
 use Rattle.json.specs.Print.{escape_byte, quoted}
 use Rattle.serde_json.specs.Data.{Data, Members, member, no_members, string}
 use Rattle.serde_json.specs.Written.{comma_if, compact_text, members_text}
-use Rattle.clr_deeds.specs.Deeds.{command}
+use Rattle.clr_changes.specs.Deeds.{command}
 use Rattle.clr_rules.specs.declared.command.Command.{Command}
 use Rattle.clr_text.specs.CommandText.{command_data}
 use Rattle.clr_text.specs.Json.{optional_data, whole_data}

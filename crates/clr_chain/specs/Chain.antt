@@ -1,13 +1,13 @@
 -- A CHAIN: a first line, and lines each of which holds its sum.
 use Rattle.std.specs.Prelude.{ℕ, List, [], ◌∷◌}
 use Rattle.std.specs.Option.{option_map_or}
-use Rattle.clr_append.specs.Lines.{ended_lines, text_of}
+use Rattle.clr_journal.specs.Lines.{ended_lines, text_of}
 use Rattle.clr_journal.specs.Line.{Entry}
 use Rattle.clr_chain.specs.First.{first_text}
 use Rattle.clr_chain.specs.Link.{end_after, link_text, next_link}
 use Rattle.clr_chain.specs.Sums.{sum_after}
 use Rattle.clr_chain.specs.declared.chain_end.ChainEnd.{ChainEnd}
-use Rattle.clr_place.specs.declared.place.Place.{Place}
+use Rattle.clr_rules.specs.declared.place.Place.{Place}
 
 -- ---- writing
 

@@ -1,8 +1,8 @@
 -- HOW THE DISK'S FAILURES ARE COUNTED where a journal is opened.
 use Rattle.std.specs.Prelude.{◌≡◌, ℕ, Result, Ok, Err}
 use Rattle.sqlite_disk.specs.Disk.{MoreFaults}
-use Rattle.clr_append.specs.declared.fault.OpenFault.{OpenFault}
-use Rattle.clr_append.specs.declared.fault.OpenFault.TheVariants as opening
+use Rattle.clr_journal.specs.declared.fault.OpenFault.{OpenFault}
+use Rattle.clr_journal.specs.declared.fault.OpenFault.TheVariants as opening
 use Rattle.clr_chain.specs.declared.fault.ChainFault.{ChainFault}
 use Rattle.clr_chain.specs.declared.fault.ChainFault.TheVariants as fault
 

@@ -3,7 +3,7 @@ use Rattle.std.specs.Prelude.{ℕ, Bool, true, false, ◌==◌, nat_lt, List, []
 use Rattle.std.specs.Prelude.{bytes_eq, if◌then◌else◌, option_and_then, take}
 use Rattle.std.specs.List.{list_any}
 use Rattle.std.specs.Option.{option_map_or}
-use Rattle.clr_append.specs.Lines.{ended_lines}
+use Rattle.clr_journal.specs.Lines.{ended_lines}
 use Rattle.clr_journal.specs.Journals.{next_place, turn_after, withdraws}
 use Rattle.clr_journal.specs.Line.{Entry, carried, withdrawn, is_accepted, read_line}
 use Rattle.clr_journal.specs.declared.reading.Turn.{Turn}
@@ -11,7 +11,7 @@ use Rattle.clr_chain.specs.Chain.{ReadOn, links_of, read_on}
 use Rattle.clr_chain.specs.First.{end_at, other_rules_in, read_first}
 use Rattle.clr_chain.specs.Link.{is_own}
 use Rattle.clr_chain.specs.declared.chain_end.ChainEnd.{ChainEnd}
-use Rattle.clr_place.specs.declared.place.Place.{Place}
+use Rattle.clr_rules.specs.declared.place.Place.{Place}
 
 -- ---- the line of the register's number, from the last line back
 

@@ -14,7 +14,7 @@ use Rattle.clr_journal.specs.Line.{at_key}
 use Rattle.clr_journal.specs.declared.reading.Turn.{Turn}
 use Rattle.clr_chain.specs.declared.chain_end.ChainEnd.{ChainEnd}
 use Rattle.clr_chain.specs.declared.first.TheConstants.{RULES}
-use Rattle.clr_place.specs.declared.place.Place.{Place}
+use Rattle.clr_rules.specs.declared.place.Place.{Place}
 
 -- THE RULES that the program goes by: the number that `src/first.rt` has
 abbrev pub rules : ℕ

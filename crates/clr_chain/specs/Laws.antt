@@ -4,9 +4,9 @@ use Rattle.std.specs.Prelude.{◌^◌, bytes_eq, map, nat_lt, take, Some, ⊤}
 use Rattle.std.specs.List.{list_any}
 use Rattle.std.specs.Str.{is_utf8}
 use Rattle.serde_json.specs.Data.{depth}
-use Rattle.clr_append.specs.Lines.{ended_lines, is_line_feed, text_of, with_feed}
+use Rattle.clr_journal.specs.Lines.{ended_lines, is_line_feed, text_of, with_feed}
 use Rattle.clr_rules.specs.Register.{Register}
-use Rattle.clr_deeds.specs.Deeds.{Deed, after_deed}
+use Rattle.clr_changes.specs.Deeds.{Deed, after_deed}
 use Rattle.clr_journal.specs.Answered.{deed_reply}
 use Rattle.clr_journal.specs.Journals.{carried_out, is_next, withdraws}
 use Rattle.clr_journal.specs.Laws.{can_be_written, turn_behind}
@@ -23,7 +23,7 @@ use Rattle.clr_chain.specs.Opening.{CanBegin, new_text}
 use Rattle.clr_chain.specs.Sums.{Files, first_sum, sum_behind, sum_of}
 use Rattle.clr_chain.specs.Walking.{holds, walk}
 use Rattle.clr_chain.specs.declared.chain_end.ChainEnd.{ChainEnd}
-use Rattle.clr_place.specs.declared.place.Place.{Place}
+use Rattle.clr_rules.specs.declared.place.Place.{Place}
 
 -- ---- texts
 

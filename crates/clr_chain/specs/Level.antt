@@ -1,7 +1,7 @@
 -- LEVEL: a register, its place and a journal belong together.
 use Rattle.std.specs.Prelude.{◌≡◌, Bool, true, false, List, ◌++◌, map}
 use Rattle.serde_json.specs.Data.{Data}
-use Rattle.clr_deeds.specs.Deeds.{Deed, after_deeds}
+use Rattle.clr_changes.specs.Deeds.{Deed, after_deeds}
 use Rattle.clr_rules.specs.Register.{Register}
 use Rattle.clr_journal.specs.Answered.{deed_replies}
 use Rattle.clr_journal.specs.Journals.{carried_out, in_turn, turn_after, withdraws}
@@ -9,7 +9,7 @@ use Rattle.clr_journal.specs.Laws.{turn_behind}
 use Rattle.clr_journal.specs.Line.{Entry}
 use Rattle.clr_chain.specs.First.{first_turn_at}
 use Rattle.clr_chain.specs.Sums.{sum_after, sum_behind}
-use Rattle.clr_place.specs.declared.place.Place.{Place}
+use Rattle.clr_rules.specs.declared.place.Place.{Place}
 
 -- deeds and their replies, as JSON values, are a run from one register to another
 pub record IsRunOf (R : Register) (pairs : List (Deed × Data)) (S : Register) : Type 0 where

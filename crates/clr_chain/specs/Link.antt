@@ -4,8 +4,8 @@ use Rattle.std.specs.Prelude.{ℕ, Bool, true, false, ◌&&◌, not, List, codes
 use Rattle.std.specs.Prelude.{bytes_eq, if◌then◌else◌, option_and_then}
 use Rattle.serde_json.specs.Data.{Data, boolean, member, no_members, object, string}
 use Rattle.serde_json.specs.Written.{compact_text, has_float}
-use Rattle.clr_deeds.specs.Deeds.{archive, command, update}
-use Rattle.clr_delta.specs.Delta.{changes_data}
+use Rattle.clr_changes.specs.Deeds.{archive, command, update}
+use Rattle.clr_journal.specs.Delta.{changes_data}
 use Rattle.clr_text.specs.CommandText.{command_data}
 use Rattle.clr_text.specs.Json.{optional_data, whole_data}
 use Rattle.clr_journal.specs.Journals.{is_next, turn_after}

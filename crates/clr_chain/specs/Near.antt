@@ -7,7 +7,7 @@ use Rattle.clr_chain.specs.Chain.{ReadOn, links_of, read_on}
 use Rattle.clr_chain.specs.Finding.{Found, Sought, found_by, met, passed, says_accepted, sought}
 use Rattle.clr_chain.specs.Finding.{unmet}
 use Rattle.clr_chain.specs.declared.chain_end.ChainEnd.{ChainEnd}
-use Rattle.clr_place.specs.declared.place.Place.{Place}
+use Rattle.clr_rules.specs.declared.place.Place.{Place}
 
 abbrev pub is_unmet : Sought → Bool
 is_unmet (met is_own turn after) = false

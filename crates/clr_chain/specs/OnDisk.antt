@@ -1,8 +1,8 @@
 -- WHAT READING DOES TO A DISK: nothing.
 use Rattle.std.specs.Prelude.{◌≡◌, ℕ, Bool, List, Result, Ok, Err, IsTrue}
 use Rattle.sqlite_disk.specs.Disk.{MoreFaults}
-use Rattle.clr_append.specs.declared.fault.OpenFault.{OpenFault}
-use Rattle.clr_append.specs.declared.fault.OpenFault.TheVariants.{NoMemory, OpenFailed}
+use Rattle.clr_journal.specs.declared.fault.OpenFault.{OpenFault}
+use Rattle.clr_journal.specs.declared.fault.OpenFault.TheVariants.{NoMemory, OpenFailed}
 
 -- a disk was read, and no more
 pub record WasRead {D : Type 0} (seen : D → List ℕ) (may_leave : D → List ℕ → Type 0)

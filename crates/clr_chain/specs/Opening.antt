@@ -3,7 +3,7 @@
 use Rattle.std.specs.Prelude.{◌≡◌, ◌≤◌, ◌^◌, ℕ, nat_lt, true, List, [], ◌++◌, length, map}
 use Rattle.std.specs.Prelude.{⊤}
 use Rattle.std.specs.Str.{is_utf8}
-use Rattle.clr_append.specs.Lines.{ended_lines, ended_text, with_feed}
+use Rattle.clr_journal.specs.Lines.{ended_lines, ended_text, with_feed}
 use Rattle.clr_journal.specs.Line.{entry_of}
 use Rattle.clr_journal.specs.Opening.{FailedToCut}
 use Rattle.clr_chain.specs.Chain.{ReadOn}
@@ -13,7 +13,7 @@ use Rattle.clr_chain.specs.First.{first_text}
 use Rattle.clr_chain.specs.declared.fault.ChainFault.{ChainFault}
 use Rattle.clr_chain.specs.declared.fault.ChainFault.TheVariants as fault
 use Rattle.clr_chain.specs.declared.finding.Ahead.{Ahead as SeenAhead}
-use Rattle.clr_place.specs.declared.place.Place.{Place}
+use Rattle.clr_rules.specs.declared.place.Place.{Place}
 
 -- these lines, and then these texts
 abbrev pub read_ahead : SeenAhead → List (List ℕ) → ReadOn

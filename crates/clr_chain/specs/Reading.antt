@@ -1,6 +1,6 @@
 -- What the values of the code are of what the definitions speak of.
 use Rattle.std.specs.Prelude.{◌≡◌, ◌+◌, ℕ, List, ◌++◌, Option, None, Some, map, length, ⊤}
-use Rattle.clr_append.specs.Lines.{ended_lines, text_of, unfinished}
+use Rattle.clr_journal.specs.Lines.{ended_lines, text_of, unfinished}
 use Rattle.clr_journal.specs.Line.{entry_of}
 use Rattle.clr_chain.specs.Chain.{ReadOn}
 use Rattle.clr_chain.specs.Finding.{Found, Sought, ahead, bad_line, differs, met, other_register}

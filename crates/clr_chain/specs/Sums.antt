@@ -2,7 +2,7 @@
 use Rattle.std.specs.Prelude.{ℕ, List, [], ◌∷◌, ◌++◌}
 use Rattle.hex.specs.Hex.{encode_lower}
 use Rattle.sha2.specs.Sha256.{sha256}
-use Rattle.clr_append.specs.Lines.{with_feed}
+use Rattle.clr_journal.specs.Lines.{with_feed}
 use Rattle.clr_journal.specs.Line.{Entry, line_text}
 
 -- SHA-256 of these bytes, in hex

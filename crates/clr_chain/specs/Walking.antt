@@ -11,7 +11,7 @@ use Rattle.clr_journal.specs.Line.{Entry, at_key, entry_of, read_line}
 use Rattle.clr_chain.specs.First.{end_at}
 use Rattle.clr_chain.specs.Link.{end_after, next_link}
 use Rattle.clr_chain.specs.declared.chain_end.ChainEnd.{ChainEnd}
-use Rattle.clr_place.specs.declared.place.Place.{Place}
+use Rattle.clr_rules.specs.declared.place.Place.{Place}
 use Rattle.clr_chain.specs.declared.walk.Step.{Step as SeenStep}
 use Rattle.clr_chain.specs.declared.walk.Step.TheVariants as seen
 

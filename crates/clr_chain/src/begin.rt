@@ -2,15 +2,15 @@
 ghost use Rattle.std.specs.Prelude.{◌≡◌, ◌≢◌, ◌<◌, ◌≤◌, [], length, IfErr, IfOk, IsErrOf, IsTrue, OnOk};
 ghost use Rattle.std.specs.Prelude.{OnErr, string_bytes};
 ghost use Rattle.sqlite_disk.specs.Disk.{MoreFaults, Only};
-ghost use Rattle.clr_append.specs.Lines.{with_feed};
+ghost use Rattle.clr_journal.specs.Lines.{with_feed};
 ghost use Rattle.clr_chain.specs.First.{CanBePrinted, first_text};
 ghost use Rattle.clr_chain.specs.OnDisk.{WasRead};
 ghost use Rattle.clr_chain.specs.Opening.{CanBegin, new_text};
 
 use crate::fault::NewFault;
 use crate::first::{FRONT, print_first};
-use clr_append::{Journal, OnDisk, cut_at};
-use clr_place::Place;
+use clr_journal::{Journal, OnDisk, cut_at};
+use clr_rules::Place;
 use sqlite_disk::Disk;
 use std::alloc::{AllocError, Global};
 

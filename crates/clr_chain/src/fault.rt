@@ -2,7 +2,7 @@
 ghost use Rattle.std.specs.Prelude.{◌≡◌};
 ghost use Rattle.clr_chain.specs.Faults.{of_opening};
 
-use clr_append::OpenFault;
+use clr_journal::OpenFault;
 use thiserror::Error;
 
 /// Why the journal of a register was not opened.

@@ -1,7 +1,7 @@
 //! What an opening finds in a journal at the place that a register has in it.
 ghost use Rattle.std.specs.Prelude.{◌≡◌, IfOk, IfSome, IfNone, map, true, false};
 ghost use Rattle.std.specs.List.{list_any};
-ghost use Rattle.clr_append.specs.Lines.{ended_lines, unfinished};
+ghost use Rattle.clr_journal.specs.Lines.{ended_lines, unfinished};
 ghost use Rattle.clr_journal.specs.Journals.{withdraws};
 ghost use Rattle.clr_journal.specs.Line.{entry_of};
 ghost use Rattle.clr_chain.specs.Chain.{links_of, read_on};
@@ -15,10 +15,8 @@ use crate::first::{first_of, other_rules_of};
 use crate::read_on::{ReadOn, read_on};
 use crate::sought::{Sought, seek};
 use crate::values::is_same;
-use clr_append::first_line;
-use clr_journal::{Line, Turn, is_accepted, read_line};
-use clr_place::Place;
-use clr_rules::Text;
+use clr_journal::{Line, Turn, first_line, is_accepted, read_line};
+use clr_rules::{Place, Text};
 use std::alloc::{AllocError, Global};
 
 /// What an opening finds in a journal.

@@ -9,9 +9,8 @@ ghost use Rattle.clr_chain.specs.First.{other_rules_in, place_in, read_first};
 ghost use Rattle.clr_chain.specs.Finding.{first_of, other_rules_of};
 
 use crate::values::is_same;
-use clr_append::first_line;
-use clr_place::Place;
-use clr_rules::Text;
+use clr_journal::first_line;
+use clr_rules::{Place, Text};
 use serde_json::{Value, json};
 use std::alloc::{AllocError, Global};
 

@@ -24,7 +24,7 @@ mod walk;
 pub use begin::new_chain;
 pub use chain_end::ChainEnd;
 pub use clock::Clock;
-pub use clr_place::Place;
+pub use clr_rules::Place;
 pub use fault::{ChainFault, NewFault};
 pub use finding::{Ahead, Found, found_in};
 pub use first::{RULES, other_rules_in, print_first, read_first};

@@ -10,8 +10,8 @@ use crate::first::{FRONT, first_of, other_rules_of};
 use crate::near::found_near;
 use crate::part::part_of;
 use crate::values::is_same;
-use clr_append::OpenFault;
-use clr_place::Place;
+use clr_journal::OpenFault;
+use clr_rules::Place;
 use sqlite_disk::Disk;
 use std::alloc::Global;
 

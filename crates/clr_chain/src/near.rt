@@ -1,12 +1,12 @@
 //! What an opening finds by the end of a journal.
 ghost use Rattle.std.specs.Prelude.{◌≡◌, ◌≤◌, IfOk, IfSome, length};
-ghost use Rattle.clr_append.specs.Lines.{unfinished};
+ghost use Rattle.clr_journal.specs.Lines.{unfinished};
 ghost use Rattle.clr_chain.specs.Near.{found_near, is_unmet};
 ghost use Rattle.clr_chain.specs.Reading.{IsFoundNear, rest_of, seen_sought};
 
 use crate::finding::{Found, found_by, links_of};
 use crate::sought::{Sought, seek};
-use clr_place::Place;
+use clr_rules::Place;
 use std::alloc::{AllocError, Global};
 
 /// What is found by the end of a journal, if it has a line of the register's number or a lower one.

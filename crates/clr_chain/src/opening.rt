@@ -10,8 +10,8 @@ ghost use Rattle.clr_chain.specs.Opening.{IsOpened, Refuses, WasNotCut};
 use crate::fault::ChainFault;
 use crate::finding::{Ahead, Found};
 use crate::looking::{Looked, look};
-use clr_append::{Journal, OnDisk, cut_at};
-use clr_place::Place;
+use clr_journal::{Journal, OnDisk, cut_at};
+use clr_rules::Place;
 use sqlite_disk::Disk;
 use std::alloc::Global;
 use std::io;
@@ -26,10 +26,10 @@ pub struct OpenedChain<D: Disk> {
 /// Opens the journal on a disk, at the place that a register has in it.
 ///
 /// What the journal holds is synced first. What comes after the last line that holds its sum was
-/// never synced, and is cut off; where there is any, the disk is synced again. So a crash leaves the
-/// text of the journal and no byte more: what was cut off does not come back after a later line. A
-/// journal that is refused is left as it is. `OpenFailed` where the disk fails; after a sync that
-/// failed it may not be used.
+/// never synced, and is cut off; where there is any, the disk is synced again. So a crash leaves
+/// the text of the journal and no byte more: what was cut off does not come back after a later
+/// line. A journal that is refused is left as it is. `OpenFailed` where the disk fails; after a
+/// sync that failed it may not be used.
 pub fn open_chain<D: Disk + Drop>(
     alloc: Global,
     place: &Place,

@@ -2,7 +2,7 @@
 ghost use Rattle.std.specs.Prelude.{◌≡◌, ◌+◌, ◌≤◌, drop, length, take, IfOk, IsTrue};
 ghost use Rattle.clr_chain.specs.OnDisk.{CountsFailed, WasRead};
 
-use clr_append::OpenFault;
+use clr_journal::OpenFault;
 use sqlite_disk::Disk;
 use std::alloc::Global;
 

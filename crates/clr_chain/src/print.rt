@@ -1,8 +1,8 @@
 //! A line is written.
 ghost use Rattle.std.specs.Prelude.{◌≡◌, ◌^◌, IfOk, IsTrue, Some, nat_lt, string_bytes, true};
 ghost use Rattle.std.specs.List.{list_all};
-ghost use Rattle.clr_deeds.specs.Deeds.{archive, command as asked, update};
-ghost use Rattle.clr_delta.specs.Rows.{is_open};
+ghost use Rattle.clr_changes.specs.Deeds.{archive, command as asked, update};
+ghost use Rattle.clr_journal.specs.DeltaRows.{is_open};
 ghost use Rattle.clr_text.specs.Replies.{reply_data};
 ghost use Rattle.clr_update.specs.Shown.{as_changes};
 ghost use Rattle.clr_journal.specs.Line.{bare, carried, done, withdrawn};
@@ -11,8 +11,7 @@ ghost use Rattle.clr_chain.specs.Sums.{sum_after};
 
 use crate::sums::sum_of;
 use crate::values::{archived_link, updated_link, withdrawn_link};
-use clr_delta::can_be_said;
-use clr_journal::{Changes, Receipt};
+use clr_journal::{Changes, Receipt, can_be_said};
 use clr_rules::{Command, Moment, Reply, Text};
 use serde_json::Value;
 use std::alloc::{AllocError, Global};
@@ -78,8 +77,8 @@ pub fn print_updated(
     Ok(Link { text, sum })
 }
 
-/// The line of an archive, after a sum. A login of the receipt is not written. It reads as that line
-/// without a login.
+/// The line of an archive, after a sum. A login of the receipt is not written. It reads as that
+/// line without a login.
 #[tactic(auto, unfolding(crate::specs::Sums::sum_after, crate::specs::Link::link_text))]
 pub fn print_archived(
     alloc: Global,

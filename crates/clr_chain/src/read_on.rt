@@ -1,12 +1,11 @@
 //! A chain is read on from an end of it.
 ghost use Rattle.std.specs.Prelude.{◌≡◌, IfOk};
-ghost use Rattle.clr_append.specs.Lines.{ended_lines, unfinished};
+ghost use Rattle.clr_journal.specs.Lines.{ended_lines, unfinished};
 ghost use Rattle.clr_chain.specs.Chain.{read_on};
 ghost use Rattle.clr_chain.specs.Reading.{seen_read};
 
 use crate::chain_end::{ChainEnd, next_link};
-use clr_append::first_line;
-use clr_journal::Line;
+use clr_journal::{Line, first_line};
 use std::alloc::{AllocError, Global};
 
 /// How far lines hold their sums.

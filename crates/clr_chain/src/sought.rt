@@ -1,15 +1,14 @@
 //! The line of a register's number, from the last line of a journal back.
 ghost use Rattle.std.specs.Prelude.{◌≡◌, ℕ, IfOk, List, Option};
-ghost use Rattle.clr_append.specs.Lines.{ended_lines, unfinished};
+ghost use Rattle.clr_journal.specs.Lines.{ended_lines, unfinished};
 ghost use Rattle.clr_journal.specs.Line.{entry_of, read_line};
 ghost use Rattle.clr_chain.specs.Finding.{or_earlier, sought, sought_at, sought_below};
 ghost use Rattle.clr_chain.specs.Finding.{sought_here};
 ghost use Rattle.clr_chain.specs.Reading.{EndsAlike, seen_sought};
 
 use crate::values::is_own;
-use clr_append::first_line;
-use clr_journal::{Line, Turn, read_line};
-use clr_place::Place;
+use clr_journal::{Line, Turn, first_line, read_line};
+use clr_rules::Place;
 use std::alloc::{AllocError, Global};
 
 /// What comes of looking for the line of a register's number.

@@ -7,7 +7,7 @@ ghost use Rattle.clr_chain.specs.Link.{has_fraction};
 use crate::chain_end::sum_at;
 use crate::values::has_fraction;
 use clr_journal::{Line, Turn};
-use clr_place::Place;
+use clr_rules::Place;
 use std::alloc::{AllocError, Global};
 
 /// Takes a place on by a line that was read. Where the reply of the line has a number that is no

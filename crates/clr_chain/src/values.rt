@@ -2,17 +2,16 @@
 ghost use Rattle.std.specs.Prelude.{◌≡◌, IfOk, bytes_eq, false};
 ghost use Rattle.serde_json.specs.View.{view};
 ghost use Rattle.serde_json.specs.Written.{has_float};
-ghost use Rattle.clr_deeds.specs.Deeds.{archive, command as asked, deed_of, update};
+ghost use Rattle.clr_changes.specs.Deeds.{archive, command as asked, deed_of, update};
 ghost use Rattle.clr_update.specs.Shown.{as_changes};
 ghost use Rattle.clr_journal.specs.Line.{carried, done, entry_data, entry_of, line_text};
 ghost use Rattle.clr_journal.specs.Line.{withdrawn};
 ghost use Rattle.clr_chain.specs.Link.{has_fraction, is_own, link_data, link_text};
 
 use crate::floats::has_float;
-use clr_delta::changes_value;
 use clr_journal::{
-    Carried, Changes, Deed, Line, Receipt, archived_value, before_value, commanded_value,
-    login_value, updated_value, withdrawn_value,
+    Carried, Changes, Deed, Line, Receipt, archived_value, before_value, changes_value,
+    commanded_value, login_value, updated_value, withdrawn_value,
 };
 use clr_rules::{Command, Moment};
 use clr_text::command_value;

@@ -10,8 +10,7 @@ use crate::chain_end::{ChainEnd, next_link};
 use crate::first::{read_first, text_at, value_of};
 use crate::values::is_same;
 use clr_journal::{Line, Turn, read_line};
-use clr_place::Place;
-use clr_rules::Text;
+use clr_rules::{Place, Text};
 use std::alloc::{AllocError, Global};
 
 /// A line of a chain.
@@ -42,8 +41,8 @@ impl Walk {
         Walk { id, end }
     }
 
-    /// The next line, as it is without its line feed. After one that does not hold its sum the chain
-    /// goes on at the number and the sum that it says.
+    /// The next line, as it is without its line feed. After one that does not hold its sum the
+    /// chain goes on at the number and the sum that it says.
     pub fn step(&mut self, alloc: Global, text: &[u8]) -> Result<Step, AllocError>
         ensures step { IfOk result (λ step.
             (seen_step step, self.new.end) ≡ step_of self.old.end text.now) }

@@ -3,3 +3,15 @@ pub mod Grown
 pub mod NeededRows
 pub mod InParts
 pub mod Appended
+pub mod ArchiveCommon
+pub mod Kept
+pub mod Agreeing
+pub mod ArchiveAnswers
+pub mod Acting
+pub mod LastStep
+pub mod Deeds
+pub mod TakesNothing
+pub mod SightFacts
+pub mod Alike
+pub mod CommandsAlike
+pub mod Crews

@@ -9,3 +9,9 @@ pub mod Outcome
 pub mod Lines
 pub mod Report
 pub mod Made
+pub mod Archive
+pub mod Acts
+pub mod ArchiveLaws
+pub mod Deeds
+pub mod Sights
+pub mod DeedLaws

@@ -189,8 +189,8 @@ impl<'a, P: Shelf<PointState>, C: Shelf<Record>, T: Shelf<StepRow>, H: Shelf<Hol
         its_requester(self.book.staff(), self.staff, clearance)
     }
 
-    /// Of those who repeated one of its steps that is not reported, one who is no field employee any
-    /// more.
+    /// Of those who repeated one of its steps that is not reported, one who is no field employee
+    /// any more.
     fn reader(&self, clearance: &Record) -> Result<Option<Name>, AllocError>
         ensures { IfOk result (λ found. found
             ≡ first_of (its_readers self.now.before self.now.after clearance.now)) }

@@ -143,8 +143,8 @@ fn first_field(staff: &[StaffRow]) -> Option<StaffRow>
         .find(|row| matches!(row.role, Role::Field))
 }
 
-/// Whom a register with these steps and holds needs, and the staff has not: an operator where there is
-/// a step, a field employee where something is held at a point or a step is given out.
+/// Whom a register with these steps and holds needs, and the staff has not: an operator where there
+/// is a step, a field employee where something is held at a point or a step is given out.
 pub(crate) fn missing(steps: &[&StepRow], holds: &[&Hold], staff: &[StaffRow]) -> Option<Obstacle>
     ensures { result ≡ first_obstacle (missing_roles (map (λ row. row.now) steps.now)
         (map (λ h. h.now) holds.now) staff.now) }

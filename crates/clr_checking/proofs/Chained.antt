@@ -6,7 +6,7 @@ use Rattle.clr_journal.specs.Journals.{in_turn, is_next, next_place, turn_after}
 use Rattle.clr_journal.specs.Laws.{turn_behind}
 use Rattle.clr_journal.specs.Line.{Entry, carried, withdrawn, read_line}
 use Rattle.clr_journal.specs.declared.reading.Turn.{Turn}
-use Rattle.clr_place.specs.declared.place.Place.{Place}
+use Rattle.clr_rules.specs.declared.place.Place.{Place}
 use Rattle.clr_chain.proofs.ReadingOn.{reads}
 use Rattle.clr_chain.specs.Chain.{ReadOn, onto, read_on}
 use Rattle.clr_chain.specs.First.{end_at, first_turn_at}

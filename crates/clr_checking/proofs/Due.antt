@@ -1,7 +1,7 @@
 -- Which lines of refused deeds are taken.
 use Rattle.std.proofs.Common.{◌≡◌, Bool, true, false, inr}
 use Rattle.serde_json.specs.Data.{Data}
-use Rattle.clr_deeds.specs.Deeds.{Deed, command}
+use Rattle.clr_changes.specs.Deeds.{Deed, command}
 use Rattle.clr_journal.specs.Answered.{deed_reply}
 use Rattle.clr_rules.specs.Answer.{Answer, answer}
 use Rattle.clr_rules.specs.Register.{Register}

@@ -8,8 +8,8 @@ use Rattle.serde_json.specs.Find.{as_bool, get, get_member}
 use Rattle.serde_json.specs.Read.{read}
 use Rattle.serde_json.proofs.Nesting.{depth-read}
 use Rattle.clr_text.specs.Reading.{value_of}
-use Rattle.clr_deeds.specs.Deeds.{archive, command, update}
-use Rattle.clr_delta.specs.Delta.{changes_in}
+use Rattle.clr_changes.specs.Deeds.{archive, command, update}
+use Rattle.clr_journal.specs.Delta.{changes_in}
 use Rattle.clr_text.specs.Values.{moment_in}
 use Rattle.clr_journal.specs.Line.{Entry, archived_in, at_key, bare_receipt_in, carried, carried_in, command_at, done, if_withdrawn, line_in, read_line, receipt_in, updated_in, withdrawn, withdrawn_in}
 use Rattle.clr_chain.proofs.ReadingOn.{reads}

@@ -4,7 +4,7 @@ use Rattle.clr_journal.specs.Journals.{turn_after, withdraws}
 use Rattle.clr_journal.specs.Laws.{turn_behind}
 use Rattle.clr_journal.specs.Line.{Entry, carried, withdrawn}
 use Rattle.clr_journal.specs.declared.reading.Turn.{Turn}
-use Rattle.clr_place.specs.declared.place.Place.{Place}
+use Rattle.clr_rules.specs.declared.place.Place.{Place}
 use Rattle.clr_chain.specs.First.{first_turn_at}
 use Rattle.clr_chain.specs.Level.{place_after}
 use Rattle.clr_chain.specs.Sums.{sum_after, sum_behind}

@@ -4,11 +4,11 @@ use Rattle.std.proofs.lemmas.Bool.{true≢false}
 use Rattle.std.proofs.lemmas.Bool.Decides.{eqb_tells}
 use Rattle.serde_json.specs.Data.{Data}
 use Rattle.serde_json.specs.View.{view}
-use Rattle.clr_deeds.specs.Deeds.{Deed, after_deed, deed_of}
+use Rattle.clr_changes.specs.Deeds.{Deed, after_deed, deed_of}
 use Rattle.clr_journal.specs.Answered.{deed_reply}
 use Rattle.clr_rules.specs.Register.{Register}
-use Rattle.clr_place.specs.declared.place.Place.{Place}
-use Rattle.clr_tables.specs.Tables.{tables_of}
+use Rattle.clr_rules.specs.declared.place.Place.{Place}
+use Rattle.clr_load.specs.Tables.{tables_of}
 use Rattle.clr_journal.proofs.JournalsRead.{deeds_grow, withdrawn_is_left_out}
 use Rattle.clr_journal.specs.Journals.{carried_out, deeds_of, turn_after, withdraws}
 use Rattle.clr_journal.specs.Laws.{turn_behind}

@@ -2,14 +2,14 @@
 use Rattle.std.proofs.Common.{◌≡◌, ◌==◌, ◌&&◌, ◌+◌, ℕ, Bool, true, false, not, cond, List, [], ◌∷◌, ◌++◌, None, Some, refl, ap, ap₂, sym, subst}
 use Rattle.std.proofs.lemmas.Bool.{and_from, and_parts, true≢false}
 use Rattle.serde_json.specs.Data.{Data}
-use Rattle.clr_deeds.specs.Deeds.{Deed, after_deed, after_deeds}
+use Rattle.clr_changes.specs.Deeds.{Deed, after_deed, after_deeds}
 use Rattle.clr_journal.specs.Answered.{deed_replies, deed_reply}
 use Rattle.clr_rules.specs.Register.{Register}
 use Rattle.clr_journal.specs.Journals.{carried_out, in_turn, is_next, onto_some, own_pair, turn_after, withdraws}
 use Rattle.clr_journal.specs.Laws.{turn_behind}
 use Rattle.clr_journal.specs.Line.{Entry, carried, withdrawn}
 use Rattle.clr_journal.specs.declared.reading.Turn.{Turn}
-use Rattle.clr_place.specs.declared.place.Place.{Place}
+use Rattle.clr_rules.specs.declared.place.Place.{Place}
 use Rattle.clr_chain.specs.First.{first_turn_at}
 use Rattle.clr_chain.specs.Level.{IsRunOf}
 use Rattle.clr_checking.specs.Checking.{AreAnswered, IsLevelByTables, none, refused, gone, done}

@@ -4,11 +4,11 @@
 use Rattle.std.specs.Prelude.{◌≡◌, ◌⊎◌, ℕ, true, false, List, [], ◌∷◌, ◌++◌, length, ⊤}
 use Rattle.std.specs.Prelude.{◌≢◌, None, Some}
 use Rattle.serde_json.specs.Data.{Data}
-use Rattle.clr_deeds.specs.Deeds.{Deed, after_deed}
+use Rattle.clr_changes.specs.Deeds.{Deed, after_deed}
 use Rattle.clr_journal.specs.Answered.{deed_reply}
 use Rattle.clr_rules.specs.Register.{Register}
-use Rattle.clr_place.specs.declared.place.Place.{Place}
-use Rattle.clr_tables.specs.Tables.{tables_of}
+use Rattle.clr_rules.specs.declared.place.Place.{Place}
+use Rattle.clr_load.specs.Tables.{tables_of}
 use Rattle.clr_journal.specs.Journals.{deeds_of, next_place, withdraws}
 use Rattle.clr_journal.specs.Line.{Entry, carried, withdrawn, is_accepted}
 use Rattle.clr_journal.specs.declared.line.Receipt.{Receipt}

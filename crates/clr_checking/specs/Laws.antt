@@ -2,7 +2,7 @@
 -- brief is taken.
 use Rattle.std.specs.Prelude.{◌≡◌, ◌≤◌, ℕ, List, Some}
 use Rattle.serde_json.specs.Data.{Data, depth}
-use Rattle.clr_deeds.specs.Deeds.{Deed, command}
+use Rattle.clr_changes.specs.Deeds.{Deed, command}
 use Rattle.clr_rules.specs.Answer.{Answer, answer}
 use Rattle.clr_rules.specs.Register.{Register}
 use Rattle.clr_rules.specs.declared.command.Command.{Command}

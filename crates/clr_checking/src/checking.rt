@@ -2,12 +2,12 @@
 ghost use Rattle.std.specs.Prelude.{◌≡◌, ◌≢◌, ◌⊎◌, ◌+◌, ◌∷◌, ◌++◌, [], ℕ, IfErr, IfOk, IsSome};
 ghost use Rattle.std.specs.Prelude.{IfSome, List, None, OnErr, OnOk, Some, false, true};
 ghost use Rattle.serde_json.specs.View.{view};
-ghost use Rattle.clr_deeds.specs.Deeds.{after_deed, deed_of};
+ghost use Rattle.clr_changes.specs.Deeds.{after_deed, deed_of};
 ghost use Rattle.clr_journal.specs.Answered.{deed_reply};
 ghost use Rattle.clr_rules.specs.Good.{IsGood};
 ghost use Rattle.clr_rules.specs.Register.{Register};
-ghost use Rattle.clr_place.specs.declared.place.Place.{Place as AnyPlace};
-ghost use Rattle.clr_tables.specs.Tables.{tables_of};
+ghost use Rattle.clr_rules.specs.declared.place.Place.{Place as AnyPlace};
+ghost use Rattle.clr_load.specs.Tables.{tables_of};
 ghost use Rattle.clr_journal.specs.Journals.{next_place, turn_after, withdraws};
 ghost use Rattle.clr_journal.specs.Line.{Entry, carried, entry_of, is_accepted, withdrawn};
 ghost use Rattle.clr_journal.specs.declared.reading.Turn.{Turn};
@@ -27,7 +27,7 @@ use crate::fault::CheckFault;
 use clr_chain::{Step, Walk};
 use clr_desk::{Desk, DeskBook, Unkept};
 use clr_journal::{Carried, Line, is_accepted};
-use clr_place::Place;
+use clr_rules::Place;
 use clr_verify::compare;
 use std::alloc::{AllocError, Global};
 

@@ -2,8 +2,8 @@
 ghost use Rattle.std.specs.Prelude.{◌≡◌, if◌then◌else◌, IfErr, IfOk, OnOk};
 ghost use Rattle.serde_json.specs.View.{view};
 ghost use Rattle.clr_checking.specs.Brief.{DecidesDeed, DecidesTaken};
-ghost use Rattle.clr_deeds.specs.Deeds.{after_deed, archive, command as of_command, deed_of};
-ghost use Rattle.clr_deeds.specs.Deeds.{update};
+ghost use Rattle.clr_changes.specs.Deeds.{after_deed, archive, command as of_command, deed_of};
+ghost use Rattle.clr_changes.specs.Deeds.{update};
 ghost use Rattle.clr_journal.specs.Answered.{deed_reply, not_done};
 ghost use Rattle.clr_journal.specs.Line.{done};
 ghost use Rattle.clr_rules.specs.Answer.{Answer, answer};
@@ -13,10 +13,10 @@ ghost use Rattle.clr_verify.specs.Replies.{DecidesReply};
 
 use crate::brief::is_taken;
 use crate::fault::CheckFault;
+use clr_book::own::answer;
 use clr_changes::made_of;
 use clr_desk::{Desk, DeskBook, Unkept};
 use clr_journal::{Changes, Deed};
-use clr_own::answer;
 use clr_rules::{Command, Moment};
 use clr_verify::{is_done, is_not_done, is_reply};
 use serde_json::Value;

@@ -18,7 +18,7 @@ use Rattle.clr_edge.specs.declared.fault.Fault.{Fault}
 use Rattle.clr_edge.specs.declared.fault.Fault.TheVariants.{Memory, Output}
 use Rattle.clr_commands.specs.Connections.{ReportsFirst}
 use Rattle.clr_commands.specs.Faults.{FailsAsSubcommand, IsOfSubcommand}
-use Rattle.clr_parts.specs.Journal.{IsSent}
+use Rattle.clr_keeping.specs.Journal.{IsSent}
 use Rattle.clr_commands.specs.declared.replies.Printed.{Printed}
 use Rattle.clr_commands.proofs.Archived.{HasWritten, archive_written}
 use Rattle.clr_commands.proofs.Written.{Writes, serve_written}

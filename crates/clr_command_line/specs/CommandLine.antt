@@ -28,7 +28,7 @@ use Rattle.clr_commands.specs.Verify.{ReadsPlaced, VerifiesAt, VerifiesFromAt}
 use Rattle.clr_commands.specs.Update.{UpdatesFiles}
 use Rattle.clr_commands.specs.WayBack.{PrintsWayBack}
 use Rattle.clr_commands.specs.declared.replies.Printed.{Printed}
-use Rattle.clr_parts.specs.Journal.{PrintsParts}
+use Rattle.clr_keeping.specs.Journal.{PrintsParts}
 use Rattle.clr_command_line.specs.Around.{Around, Steps}
 use Rattle.clr_command_line.specs.OwnFiles.{NamesOthers, NamesOwn, UnlessMemory}
 use Rattle.clr_command_line.specs.Report.{Reports, ReportsFault, ReportsRun, ReportsServed}

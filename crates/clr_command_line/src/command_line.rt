@@ -33,7 +33,7 @@ use clr_edge::journals::Journals;
 use clr_edge::loopback::Loopback;
 use clr_edge::output::write_out;
 use clr_edge::paths::Opens;
-use clr_parts::journal::journal;
+use clr_keeping::journal::journal;
 use clr_stream::{CountedFlush, CountedRead};
 use std::alloc::AllocError;
 use std::convert::AsStr;

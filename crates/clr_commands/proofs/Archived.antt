@@ -5,7 +5,7 @@ use Rattle.std.specs.Prelude.{IfErr, IsErrAnd, None, Option, Some}
 use Rattle.sqlite.specs.Held.{Held, state}
 use Rattle.sqlite_trees.specs.declared.store.Store.{Ghosts}
 use Rattle.clr_args.specs.declared.asked.ArchiveArgs.{ArchiveArgs}
-use Rattle.clr_deeds.specs.Deeds.{archive}
+use Rattle.clr_changes.specs.Deeds.{archive}
 use Rattle.clr_desk.specs.Faults.{FailsAsStore}
 use Rattle.clr_desk.specs.declared.commit.Commit as commit
 use Rattle.clr_desk.specs.declared.desk.Desk.{Desk}

@@ -2,7 +2,7 @@
 use Rattle.std.proofs.Common.{◌≡◌, ◌∙◌, ap, inl, inr, refl, subst, sym, ℕ, Bool, false, true, List, [], ◌∷◌, ◌++◌, append_assoc, append-nil, Result, Ok, Err}
 use Rattle.std.specs.Prelude.{IfErr, IfOk, IfSome, IsErrAnd, None, Option, Some, String, Vec, string_bytes}
 use Rattle.std.specs.declared.alloc.Global.{Global}
-use Rattle.clr_append.specs.Lines.{ended_lines}
+use Rattle.clr_journal.specs.Lines.{ended_lines}
 use Rattle.clr_rules.specs.Register.{Register}
 use Rattle.clr_chain.specs.Chain.{read_on}
 use Rattle.clr_chain.specs.First.{end_at, read_first}
@@ -12,16 +12,16 @@ use Rattle.clr_chain.specs.declared.chain_end.ChainEnd.{ChainEnd}
 use Rattle.clr_journal.specs.Line.{Entry}
 use Rattle.clr_edge.specs.Lines.{ends_whole}
 use Rattle.clr_edge.specs.declared.fault.Fault.{Fault}
-use Rattle.clr_place.specs.declared.place.Place.{Place}
+use Rattle.clr_rules.specs.declared.place.Place.{Place}
 use Rattle.clr_checking.specs.Checking.{EndsAt, IsChecked, IsCheckedFrom}
 use Rattle.clr_checking.specs.CheckingOn.{CheckedTo, CheckedToFrom, GoesOver, IsReady}
 use Rattle.clr_checking.specs.declared.checking.Checking.{Checking}
 use Rattle.clr_checking.specs.declared.fault.CheckFault.{CheckFault}
-use Rattle.clr_parts.specs.Journal.{all_known}
-use Rattle.clr_parts.specs.Parts.{BreaksAfter, FirstIs, ReadsLine, walked}
+use Rattle.clr_keeping.specs.Journal.{all_known}
+use Rattle.clr_keeping.specs.Parts.{BreaksAfter, FirstIs, ReadsLine, walked}
 use Rattle.clr_commands.specs.Verify.{BeginOn, Checks, ChecksAll, ChecksFrom, ChecksOn, GoOn, HalfOn, HasLines, IsOfCheck, IsOfFiles, verified_text}
-use Rattle.clr_parts.proofs.BrokenParts.{breaks-more}
-use Rattle.clr_parts.proofs.PartLines.{AreBefore, before-more, before-none, before-whole, known-next, walked-end, walked-same}
+use Rattle.clr_keeping.proofs.BrokenParts.{breaks-more}
+use Rattle.clr_keeping.proofs.PartLines.{AreBefore, before-more, before-none, before-whole, known-next, walked-end, walked-same}
 
 -- ---- the lines of a part
 

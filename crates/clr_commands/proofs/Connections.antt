@@ -14,8 +14,8 @@ use Rattle.clr_http.proofs.RequestRuns.{carried_one, comes_further}
 use Rattle.clr_http.specs.declared.serve.HttpFault.{HttpFault}
 use Rattle.clr_http.specs.declared.serve.Served.{Served}
 use Rattle.clr_args.specs.declared.asked.ServeArgs.{ServeArgs}
-use Rattle.clr_logins.specs.declared.logins.LoginRow.{LoginRow}
-use Rattle.clr_result.specs.Results.{◌>>=◌}
+use Rattle.clr_staff.specs.declared.logins.LoginRow.{LoginRow}
+use Rattle.clr_net.specs.Results.{◌>>=◌}
 use Rattle.clr_edge.specs.Logins.{known_logins}
 use Rattle.clr_edge.specs.Visit.{Done}
 use Rattle.clr_edge.specs.declared.fault.Fault.{Fault}

@@ -39,7 +39,7 @@ use Rattle.clr_commands.specs.Import.{IsOfAnyFile}
 use Rattle.clr_commands.specs.Run.{IsOfInput}
 use Rattle.clr_commands.specs.declared.replies.Printed.{Printed}
 use Rattle.clr_commands.specs.Stored.{IsOfOrder}
-use Rattle.clr_parts.specs.Parts.{IsOfPart}
+use Rattle.clr_keeping.specs.Parts.{IsOfPart}
 use Rattle.clr_commands.specs.Verify.{IsOfCheck, of_check}
 use Rattle.clr_commands.specs.WayBack.{IsOfWayBack}
 

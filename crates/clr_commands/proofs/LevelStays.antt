@@ -1,7 +1,7 @@
 -- What was done over a desk with a journal keeps register and journal level, and its lines safe.
 use Rattle.std.proofs.Common.{ℕ, List}
 use Rattle.sqlite.specs.State.{State}
-use Rattle.clr_append.specs.declared.journal.Journal as append
+use Rattle.clr_journal.specs.declared.journal.Journal as append
 use Rattle.clr_desk.specs.Given.{LeadsTo}
 use Rattle.clr_desk.specs.Placing.{Placing}
 use Rattle.clr_desk.specs.Taking.{Taking}

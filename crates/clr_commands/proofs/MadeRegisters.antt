@@ -11,7 +11,7 @@ use Rattle.clr_rules.specs.Register.{Register, opening}
 use Rattle.clr_args.specs.declared.asked.Files.{Files}
 use Rattle.clr_args.specs.declared.asked.InitArgs.{InitArgs}
 use Rattle.clr_args.specs.declared.asked.StoredArgs.{StoredArgs}
-use Rattle.clr_place.specs.declared.place.Place.{Place}
+use Rattle.clr_rules.specs.declared.place.Place.{Place}
 use Rattle.clr_keeping.specs.Beginning.{BeginsFirst, IsOfBegun}
 use Rattle.clr_keeping.specs.TakenUp.{Logs}
 use Rattle.clr_edge.specs.Visit.{Done}

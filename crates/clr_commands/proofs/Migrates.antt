@@ -6,7 +6,7 @@ use Rattle.std.specs.declared.alloc.Global.{Global}
 use Rattle.sqlite.specs.Held.{Held}
 use Rattle.sqlite_trees.specs.declared.store.Store.{Ghosts}
 use Rattle.clr_rules.specs.Register.{Register}
-use Rattle.clr_place.specs.declared.place.Place.{Place}
+use Rattle.clr_rules.specs.declared.place.Place.{Place}
 use Rattle.clr_print.specs.Printed.{board_text}
 use Rattle.clr_desk.specs.declared.desk.Desk.{Desk}
 use Rattle.clr_keeping.specs.Beginning.{IsOfBegun, PlacesAt}

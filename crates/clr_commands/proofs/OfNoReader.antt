@@ -15,7 +15,7 @@ use Rattle.clr_staff.specs.Staff as staff
 use Rattle.clr_csv.specs.declared.fault.CsvFault.{CsvFault}
 use Rattle.clr_staff.specs.declared.staff_fault.StaffFault.{StaffFault}
 use Rattle.clr_staff.specs.declared.staff_fault.StaffFault.TheVariants as staff_fault
-use Rattle.clr_result.specs.Results.{◌>>=◌}
+use Rattle.clr_net.specs.Results.{◌>>=◌}
 use Rattle.clr_edge.specs.Answers.{unless}
 use Rattle.clr_edge.specs.Fault.{of_file, of_network, of_staff}
 use Rattle.clr_commands.specs.Fence.{IsFenceOf, argument, fence_lines, name_among, point_named, points_named, section_named}

@@ -4,7 +4,7 @@ use Rattle.std.specs.Prelude.{◌≢◌, IfErr, IsErrAnd, Option, Some, String, 
 use Rattle.std.specs.declared.alloc.Global.{Global}
 use Rattle.sqlite.specs.Held.{Held, state}
 use Rattle.sqlite_trees.specs.declared.store.Store.{Ghosts}
-use Rattle.clr_place.specs.declared.place.Place.{Place}
+use Rattle.clr_rules.specs.declared.place.Place.{Place}
 use Rattle.clr_level.proofs.BegunLevel.{begun_level}
 use Rattle.clr_desk.specs.declared.desk.Desk.{Desk}
 use Rattle.clr_keeping.specs.Keeping.{IsNotUp, IsUp, plain}

@@ -4,7 +4,7 @@ use Rattle.std.specs.Prelude.{IsErrAnd}
 use Rattle.std.proofs.lemmas.List.{append-nil}
 use Rattle.clr_net.specs.Grid.{Grid}
 use Rattle.clr_edge.specs.declared.fault.Fault.{Fault}
-use Rattle.clr_result.specs.Results.{◌>>=◌}
+use Rattle.clr_net.specs.Results.{◌>>=◌}
 use Rattle.clr_commands.specs.Answers.{Gives, IsMemory}
 use Rattle.clr_commands.specs.Fence.{point_named, points_named}
 

@@ -4,7 +4,7 @@ use Rattle.std.proofs.lemmas.Bool.{true≢false}
 use Rattle.std.specs.Borrow.{Bor}
 use Rattle.std.specs.Prelude.{IfErr, IfOk, IfSome, IsErrAnd, None, Option, Some, String, Vec, string_bytes}
 use Rattle.std.specs.declared.alloc.Global.{Global}
-use Rattle.clr_append.specs.Lines.{ended_lines}
+use Rattle.clr_journal.specs.Lines.{ended_lines}
 use Rattle.clr_rules.specs.Register.{Register}
 use Rattle.clr_chain.specs.Chain.{read_on}
 use Rattle.clr_chain.specs.First.{end_at, other_rules_in, read_first}
@@ -12,7 +12,7 @@ use Rattle.clr_chain.specs.Walking.{part_of}
 use Rattle.clr_chain.specs.Sums.{Files}
 use Rattle.clr_chain.specs.declared.chain_end.ChainEnd.{ChainEnd}
 use Rattle.clr_journal.specs.Line.{Entry}
-use Rattle.clr_place.specs.declared.place.Place.{Place}
+use Rattle.clr_rules.specs.declared.place.Place.{Place}
 use Rattle.clr_journal.specs.Journals.{next_place}
 use Rattle.clr_edge.specs.Lines.{ends_whole}
 use Rattle.clr_edge.specs.declared.fault.Fault.{Fault}
@@ -24,13 +24,13 @@ use Rattle.clr_checking.specs.CheckingOn.{CheckedTo, CheckedToFrom, GoesOver}
 use Rattle.clr_checking.specs.declared.checking.Checking.{Checking}
 use Rattle.clr_checking.specs.declared.fault.CheckFault.{CheckFault}
 use Rattle.clr_checking.specs.declared.fault.CheckFault.TheVariants.{BadLine, Differs, NoMemory, OtherRegister, Reply, Tables, TooShort}
-use Rattle.clr_parts.specs.Journal.{FailsAny, all_known}
-use Rattle.clr_parts.specs.Parts.{Breaks, BreaksAfter, FailsLater, FirstIs, IsNoFirst, IsNoNext, IsOfReading, IsOpened, IsUnreadOr, IsUnreadPart, ReadsLine, walked}
+use Rattle.clr_keeping.specs.Journal.{FailsAny, all_known}
+use Rattle.clr_keeping.specs.Parts.{Breaks, BreaksAfter, FailsLater, FirstIs, IsNoFirst, IsNoNext, IsOfReading, IsOpened, IsUnreadOr, IsUnreadPart, ReadsLine, walked}
 use Rattle.clr_edge.specs.Paths.{AtPaths, at_paths}
 use Rattle.clr_commands.specs.Verify.{AreOthers, AreRefused, BeginOn, BeginsWith, Checks, ChecksAll, ChecksFrom, EndsInHalf, FailsFrom, FailsSome, GoOn, HalfOn, HasLines, IsHalf, IsNextAfter, IsNo, IsOfEnd, IsOfFiles, IsRefusedBy, IsRefusedIn, IsWhole, RefusesAll, RefusesHalf, RefusesHalves, RefusesIn, RefusesPart, RefusesSome, of_check}
-use Rattle.clr_parts.proofs.BrokenParts.{first_breaks, next_breaks, not_next}
+use Rattle.clr_keeping.proofs.BrokenParts.{first_breaks, next_breaks, not_next}
 use Rattle.clr_commands.proofs.CheckedParts.{CheckedLines, CheckedParts, Known, begin_on-none, begin_on-part, begins_at, checks_yes, checks_yes_from, go_on-none, half_on-part}
-use Rattle.clr_parts.proofs.PartLines.{before-more, before-some, before-whole, known-next, later-part}
+use Rattle.clr_keeping.proofs.PartLines.{before-more, before-some, before-whole, known-next, later-part}
 
 -- ---- a line
 

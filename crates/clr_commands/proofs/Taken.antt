@@ -3,9 +3,9 @@ use Rattle.std.proofs.Common.{◌≡◌, Bool, Err, List, Ok, OnOk, inl, inr, re
 use Rattle.std.specs.Prelude.{IfErr, IsErrAnd, IsTrue, OnErr}
 use Rattle.sqlite.specs.State.{HasCleanDisk, State, Survives}
 use Rattle.sqlite.proofs.StateLemmas.{survives_weaker}
-use Rattle.clr_append.specs.declared.journal.Journal as append
-use Rattle.clr_archive.specs.Archive.{archived}
-use Rattle.clr_deeds.specs.Deeds.{Deed, archive}
+use Rattle.clr_journal.specs.declared.journal.Journal as append
+use Rattle.clr_changes.specs.Archive.{archived}
+use Rattle.clr_changes.specs.Deeds.{Deed, archive}
 use Rattle.clr_desk.specs.Archiving.{AreArchived}
 use Rattle.clr_desk.specs.Faults.{IsOfKeeper}
 use Rattle.clr_desk.specs.Placing.{Placing}
@@ -21,7 +21,7 @@ use Rattle.clr_level.specs.declared.keeper.Keeper.{Keeper}
 use Rattle.clr_rules.specs.Good.{IsGood}
 use Rattle.clr_rules.specs.Register.{Register}
 use Rattle.clr_stream.specs.Streams.{IsCut, Stream}
-use Rattle.clr_tables.specs.Tables.{tables_of}
+use Rattle.clr_load.specs.Tables.{tables_of}
 use Rattle.clr_edge.specs.Visit.{Done}
 use Rattle.clr_edge.specs.declared.fault.Fault.TheVariants.{Memory, Output}
 use Rattle.clr_commands.specs.Archive.{IsUnsent, TakesOut}

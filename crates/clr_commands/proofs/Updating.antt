@@ -9,11 +9,11 @@ use Rattle.sqlite.specs.Held.{Held, state}
 use Rattle.sqlite.specs.State.{HasCleanDisk, State, Survives}
 use Rattle.sqlite.proofs.StateLemmas.{survives_weaker}
 use Rattle.sqlite_trees.specs.declared.store.Store.{Ghosts}
-use Rattle.clr_append.specs.declared.journal.Journal as append
+use Rattle.clr_journal.specs.declared.journal.Journal as append
 use Rattle.clr_net.specs.Grid.{Grid, unplaced}
 use Rattle.clr_net.specs.NameText.{read_name}
 use Rattle.clr_net.specs.declared.point.PointRow.{PointRow}
-use Rattle.clr_result.specs.Results.{◌>>=◌}
+use Rattle.clr_net.specs.Results.{◌>>=◌}
 use Rattle.clr_rules.specs.Fit.{IsFit}
 use Rattle.clr_rules.specs.Good.{IsGood}
 use Rattle.clr_rules.specs.Register.{Register}
@@ -34,10 +34,10 @@ use Rattle.clr_changes.specs.declared.outcome.Outcome.{Outcome}
 use Rattle.clr_changes.specs.declared.outcome.Outcome.TheVariants.{Accepted, InTheWay as Obstructed}
 use Rattle.clr_changes.specs.declared.report.Report.{Report}
 use Rattle.clr_changes.specs.declared.report.Report.TheVariants.{Changes, InTheWay}
-use Rattle.clr_deeds.specs.Deeds.{update}
-use Rattle.clr_delta.specs.Delta.{can_be_said}
-use Rattle.clr_delta.specs.Rows.{is_open}
-use Rattle.clr_tables.specs.Tables.{tables_of}
+use Rattle.clr_changes.specs.Deeds.{update}
+use Rattle.clr_journal.specs.Delta.{can_be_said}
+use Rattle.clr_journal.specs.DeltaRows.{is_open}
+use Rattle.clr_load.specs.Tables.{tables_of}
 use Rattle.clr_load.specs.Stored.{AreTables, HasTables}
 use Rattle.clr_load.specs.declared.fault.StoreFault.{StoreFault}
 use Rattle.clr_load.specs.declared.fault.StoreFault.TheVariants as store

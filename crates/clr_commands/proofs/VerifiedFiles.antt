@@ -10,7 +10,7 @@ use Rattle.clr_edge.specs.declared.fault.Fault.{Fault}
 use Rattle.clr_edge.specs.declared.fault.Fault.TheVariants.{Memory}
 use Rattle.clr_commands.specs.First.{files_of}
 use Rattle.clr_commands.specs.Import.{AreKnown, AreReadAt, contents_of, lists_of, rows_of}
-use Rattle.clr_parts.specs.Journal.{all_known}
+use Rattle.clr_keeping.specs.Journal.{all_known}
 use Rattle.clr_edge.specs.Paths.{AtPaths}
 use Rattle.clr_commands.specs.Run.{IsOpeningOf, rows_fault}
 use Rattle.clr_commands.specs.Verify.{Checks, ChecksFrom, FailsSome, Placed, VerifiesAt, VerifiesFromAt, WhereKnown}

@@ -4,9 +4,9 @@ use Rattle.std.specs.Prelude.{◌≡◌, ◌⊎◌, ℕ, IfErr, IsErrAnd, IsTrue
 use Rattle.sqlite.specs.Held.{Held, state}
 use Rattle.sqlite.specs.State.{HasCleanDisk, State, Survives}
 use Rattle.sqlite_trees.specs.declared.store.Store.{Ghosts}
-use Rattle.clr_archive.specs.Archive.{archived}
+use Rattle.clr_changes.specs.Archive.{archived}
 use Rattle.clr_args.specs.declared.asked.ArchiveArgs.{ArchiveArgs}
-use Rattle.clr_deeds.specs.Deeds.{archive}
+use Rattle.clr_changes.specs.Deeds.{archive}
 use Rattle.clr_desk.specs.Archiving.{AreArchived}
 use Rattle.clr_desk.specs.Faults.{FailsAsStore}
 use Rattle.clr_desk.specs.declared.commit.Commit as commit
@@ -16,7 +16,7 @@ use Rattle.clr_load.specs.Contract.{IsSaved}
 use Rattle.clr_load.specs.Stored.{HasTables}
 use Rattle.clr_rules.specs.Register.{Register}
 use Rattle.clr_stream.specs.Streams.{IsCut, Stream, WentOut}
-use Rattle.clr_tables.specs.Tables.{tables_of}
+use Rattle.clr_load.specs.Tables.{tables_of}
 use Rattle.clr_keeping.specs.Keeping.{WorksEither, logged_keeper, plain_keeper}
 use Rattle.clr_keeping.specs.TakenUp.{Logs, store_place}
 use Rattle.clr_edge.specs.Visit.{Comes, Done, Ending, Opening, Shutting, first_fault}

@@ -10,7 +10,7 @@ use Rattle.clr_rules.specs.Register.{Register}
 use Rattle.clr_rules.specs.Steps.{steps_of}
 use Rattle.clr_rules.specs.declared.record.Record.{Record}
 use Rattle.clr_rules.specs.declared.step_row.StepRow.{StepRow}
-use Rattle.clr_archive.specs.Archive.{printed_records}
+use Rattle.clr_changes.specs.Archive.{printed_records}
 use Rattle.clr_text.specs.Json.{id_data, list_data, name_data, optional_data, whole_data}
 
 -- a step with its round and its number

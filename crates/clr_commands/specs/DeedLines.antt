@@ -2,8 +2,8 @@
 -- `renew` of clr_level.
 use Rattle.std.specs.Prelude.{◌≡◌, ◌⊎◌, ℕ, IsErrAnd, Result, Ok, Err}
 use Rattle.sqlite.specs.State.{State}
-use Rattle.clr_append.specs.declared.journal.Journal as append
-use Rattle.clr_deeds.specs.Deeds.{Deed}
+use Rattle.clr_journal.specs.declared.journal.Journal as append
+use Rattle.clr_changes.specs.Deeds.{Deed}
 use Rattle.clr_desk.specs.Placing.{Placing}
 use Rattle.clr_desk.specs.Taking.{Came}
 use Rattle.clr_desk.specs.declared.desk.Desk.{Desk}

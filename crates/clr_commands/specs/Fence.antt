@@ -13,7 +13,7 @@ use Rattle.clr_net.specs.declared.section.SectionRow.{SectionRow}
 use Rattle.clr_net.specs.declared.point.PointRow.{PointRow}
 use Rattle.clr_net.specs.declared.net_fault.NetFault.{NetFault}
 use Rattle.clr_net.specs.declared.name.NameFault.{NameFault}
-use Rattle.clr_result.specs.Results.{◌>>=◌}
+use Rattle.clr_net.specs.Results.{◌>>=◌}
 use Rattle.clr_edge.specs.Answers.{After}
 use Rattle.clr_args.specs.declared.asked.FenceArgs.{FenceArgs}
 use Rattle.clr_edge.specs.Fault.{of_name, of_network}

@@ -1,7 +1,7 @@
 -- THE FIRST PLACE OF A REGISTER in a journal that is begun.
 use Rattle.std.specs.Prelude.{ℕ, List, [], ◌++◌, codes, decimal}
 use Rattle.clr_rules.specs.Register.{Register}
-use Rattle.clr_place.specs.declared.place.Place.{Place}
+use Rattle.clr_rules.specs.declared.place.Place.{Place}
 use Rattle.clr_chain.specs.Sums.{Files, first_sum}
 use Rattle.clr_print.specs.Printed.{board_text}
 use Rattle.std.specs.Prelude.{pos}

@@ -8,7 +8,7 @@ use Rattle.clr_csv.specs.Sections.{sections_of}
 use Rattle.clr_csv.specs.StaffRows.{staff_of}
 use Rattle.clr_csv.specs.declared.fault.CsvFault.{CsvFault}
 use Rattle.clr_csv.specs.declared.fault.CsvFault.TheVariants as csv
-use Rattle.clr_result.specs.Results.{◌>>=◌}
+use Rattle.clr_net.specs.Results.{◌>>=◌}
 use Rattle.clr_args.specs.declared.asked.Files.{Files}
 use Rattle.clr_edge.specs.Answers.{After}
 use Rattle.clr_edge.specs.Fault.{IsOfFile}

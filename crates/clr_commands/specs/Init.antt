@@ -4,12 +4,12 @@ use Rattle.std.specs.Prelude.{◌⊎◌, IsErrAnd, Result, Ok, Err, String, stri
 use Rattle.std.specs.Borrow.{Bor}
 use Rattle.std.specs.declared.alloc.Global.{Global}
 use Rattle.clr_rules.specs.Register.{Register}
-use Rattle.clr_result.specs.Results.{◌>>=◌}
+use Rattle.clr_net.specs.Results.{◌>>=◌}
 use Rattle.clr_net.specs.Grid.{Grid}
 use Rattle.clr_net.specs.Network as network
 use Rattle.clr_staff.specs.Staff as staff
 use Rattle.clr_staff.specs.declared.employee.StaffRow.{StaffRow}
-use Rattle.clr_place.specs.declared.place.Place.{Place}
+use Rattle.clr_rules.specs.declared.place.Place.{Place}
 use Rattle.clr_args.specs.declared.asked.Files.{Files}
 use Rattle.clr_args.specs.declared.asked.InitArgs.{InitArgs}
 use Rattle.clr_args.specs.declared.asked.StoredArgs.{StoredArgs}

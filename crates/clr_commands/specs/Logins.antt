@@ -1,10 +1,10 @@
 -- The logins of a service: what their file gives, and the terms of a server by them.
 use Rattle.std.specs.Prelude.{◌≡◌, ℕ, List, None, Option, Some, Result, Ok, IfErr, IfSome}
 use Rattle.std.specs.Borrow.{Bor}
-use Rattle.clr_result.specs.Results.{◌>>=◌}
+use Rattle.clr_net.specs.Results.{◌>>=◌}
 use Rattle.clr_staff.specs.declared.employee.StaffRow.{StaffRow}
 use Rattle.clr_csv.specs.LoginRows.{logins_of}
-use Rattle.clr_logins.specs.declared.logins.LoginRow.{LoginRow}
+use Rattle.clr_staff.specs.declared.logins.LoginRow.{LoginRow}
 use Rattle.clr_args.specs.declared.asked.ServeArgs.{ServeArgs}
 use Rattle.clr_edge.specs.Fault.{IsOfFile}
 use Rattle.clr_edge.specs.Files.{IsUnread, told_of}

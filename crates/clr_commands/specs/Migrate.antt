@@ -6,7 +6,7 @@ use Rattle.std.specs.declared.alloc.Global.{Global}
 use Rattle.sqlite.specs.Held.{Held}
 use Rattle.sqlite_trees.specs.declared.store.Store.{Ghosts}
 use Rattle.clr_rules.specs.Register.{Register}
-use Rattle.clr_place.specs.declared.place.Place.{Place}
+use Rattle.clr_rules.specs.declared.place.Place.{Place}
 use Rattle.clr_args.specs.declared.asked.MigrateArgs.{MigrateArgs}
 use Rattle.clr_keeping.specs.Beginning.{PlacesAt}
 use Rattle.clr_edge.specs.Database.{IsOfLine}

@@ -6,7 +6,7 @@ use Rattle.std.specs.declared.alloc.Global.{Global}
 use Rattle.sqlite.specs.Held.{Held, state}
 use Rattle.sqlite_trees.specs.declared.store.Store.{Ghosts}
 use Rattle.clr_rules.specs.Register.{Register}
-use Rattle.clr_place.specs.declared.place.Place.{Place}
+use Rattle.clr_rules.specs.declared.place.Place.{Place}
 use Rattle.clr_level.specs.Placing.{IsAt}
 use Rattle.clr_keeping.specs.Beginning.{BeginsFirst, BeginsLevel}
 use Rattle.clr_keeping.specs.Keeping.{IsNotRead, IsReadFrom}

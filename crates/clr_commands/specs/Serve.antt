@@ -7,7 +7,7 @@ use Rattle.sqlite_trees.specs.declared.store.Store.{Ghosts}
 use Rattle.clr_stream.specs.Streams.{IsCut, Stream, WentOut}
 use Rattle.clr_rules.specs.Good.{IsGood}
 use Rattle.clr_rules.specs.Staffed.{IsStaffed}
-use Rattle.clr_logins.specs.declared.logins.LoginRow.{LoginRow}
+use Rattle.clr_staff.specs.declared.logins.LoginRow.{LoginRow}
 use Rattle.clr_desk.specs.Given.{LeadsTo}
 use Rattle.clr_desk.specs.declared.commit.Commit as commit
 use Rattle.clr_desk.specs.declared.desk.Desk.{Desk}

@@ -8,11 +8,11 @@ use Rattle.std.specs.declared.alloc.Global.{Global}
 use Rattle.sqlite.specs.Held.{Held, state}
 use Rattle.sqlite.specs.State.{HasCleanDisk, State, Survives}
 use Rattle.sqlite_trees.specs.declared.store.Store.{Ghosts}
-use Rattle.clr_append.specs.declared.journal.Journal as append
+use Rattle.clr_journal.specs.declared.journal.Journal as append
 use Rattle.clr_net.specs.NameText.{read_name}
 use Rattle.clr_net.specs.Network as network
 use Rattle.clr_staff.specs.Staff as staff
-use Rattle.clr_result.specs.Results.{◌>>=◌}
+use Rattle.clr_net.specs.Results.{◌>>=◌}
 use Rattle.clr_rules.specs.Fit.{IsFit}
 use Rattle.clr_rules.specs.Register.{Register}
 use Rattle.clr_update.specs.Changes.{changes}
@@ -21,11 +21,11 @@ use Rattle.clr_update.specs.declared.obstacle.Obstacle.{Obstacle}
 use Rattle.clr_changes.specs.Lines.{change_lines}
 use Rattle.clr_changes.specs.declared.report.Report.{Report}
 use Rattle.clr_changes.specs.declared.report.Report.TheVariants.{Changes, InTheWay as Obstructed}
-use Rattle.clr_tables.specs.Tables.{tables_of}
+use Rattle.clr_load.specs.Tables.{tables_of}
 use Rattle.clr_load.specs.Contract.{IsSaved}
 use Rattle.clr_load.specs.Stored.{HasTables}
-use Rattle.clr_deeds.specs.Deeds.{update}
-use Rattle.clr_delta.specs.Delta.{can_be_said}
+use Rattle.clr_changes.specs.Deeds.{update}
+use Rattle.clr_journal.specs.Delta.{can_be_said}
 use Rattle.clr_desk.specs.Faults.{FailsAsStore}
 use Rattle.clr_desk.specs.Placing.{Placing}
 use Rattle.clr_desk.specs.Updating.{AreUpdated}

@@ -8,10 +8,10 @@ use Rattle.std.specs.Borrow.{Bor}
 use Rattle.std.specs.declared.alloc.Global.{Global}
 use Rattle.sqlite.specs.Held.{Held, state}
 use Rattle.sqlite_trees.specs.declared.store.Store.{Ghosts}
-use Rattle.clr_append.specs.Lines.{ended_lines}
+use Rattle.clr_journal.specs.Lines.{ended_lines}
 use Rattle.clr_book.specs.Book.{Shelved}
 use Rattle.clr_rules.specs.Register.{Register}
-use Rattle.clr_place.specs.declared.place.Place.{Place}
+use Rattle.clr_rules.specs.declared.place.Place.{Place}
 use Rattle.clr_journal.specs.Journals.{next_place}
 use Rattle.clr_journal.specs.Line.{Entry}
 use Rattle.clr_chain.specs.Chain.{read_on}
@@ -39,9 +39,9 @@ use Rattle.clr_checking.specs.declared.fault.CheckFault.{CheckFault}
 use Rattle.clr_checking.specs.declared.fault.CheckFault.TheVariants as check
 use Rattle.clr_commands.specs.First.{files_of}
 use Rattle.clr_commands.specs.Import.{AnswersFiles, AreKnown, Contents, FileRows, rows_of}
-use Rattle.clr_parts.specs.Journal.{FailsAny, all_known}
-use Rattle.clr_parts.specs.Parts.{Breaks, BreaksAfter, FailsLater, IsOfPart, IsOfReading}
-use Rattle.clr_parts.specs.Parts.{IsUnreadPart, walked}
+use Rattle.clr_keeping.specs.Journal.{FailsAny, all_known}
+use Rattle.clr_keeping.specs.Parts.{Breaks, BreaksAfter, FailsLater, IsOfPart, IsOfReading}
+use Rattle.clr_keeping.specs.Parts.{IsUnreadPart, walked}
 use Rattle.clr_edge.specs.Paths.{AtPaths}
 use Rattle.clr_commands.specs.Run.{IsOpeningOf, rows_fault}
 use Rattle.clr_commands.specs.Stored.{WhileOpen}

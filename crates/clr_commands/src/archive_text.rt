@@ -7,8 +7,8 @@ ghost use Rattle.clr_text.specs.Json.{list_data, name_data, optional_data};
 ghost use Rattle.clr_commands.specs.ArchiveText.{archive_text, record_data, record_line};
 ghost use Rattle.clr_commands.specs.ArchiveText.{step_row_data};
 
-use clr_archive::printed_records;
 use clr_book::Book;
+use clr_changes::printed_records;
 use clr_net::Name;
 use clr_order::step_text;
 use clr_rules::{Hold, Moment, PointState, Record, StepRow};

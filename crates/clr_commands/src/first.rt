@@ -5,7 +5,7 @@ ghost use Rattle.clr_commands.specs.Import.{contents_of};
 
 use crate::import::Texts;
 use clr_chain::first_sum;
-use clr_place::Place;
+use clr_rules::Place;
 use std::alloc::{AllocError, Global};
 
 /// The first place of a register of three files in a journal: its id is made of the files, of a

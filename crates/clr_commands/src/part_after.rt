@@ -10,7 +10,7 @@ use clr_edge::database::{Databases, close, first_fault};
 use clr_edge::fault::{Fault, JournalFault};
 use clr_edge::journals::Journals;
 use clr_keeping::taking_up::{open_desk, placed};
-use clr_place::Place;
+use clr_rules::Place;
 use clr_store::Store;
 use sqlite::{Alter, Connection};
 use std::alloc::Global;

@@ -8,7 +8,7 @@ use Rattle.std.proofs.lemmas.Slice.Eq.{bytes_eq-Decides, slice_eq-Decides}
 use Rattle.clr_csv.specs.declared.columns.ColumnFault.{ColumnFault}
 use Rattle.clr_csv.specs.declared.fault.CsvFault.{CsvFault}
 use Rattle.clr_csv.specs.declared.fault.CsvFault.TheVariants.{FieldCount, Header, NotText, ReadFailed}
-use Rattle.clr_result.specs.Results.{◌>>=◌}
+use Rattle.clr_net.specs.Results.{◌>>=◌}
 use Rattle.clr_csv.specs.Rows.{Fields, as_many_as, in_row, is_ascii, is_text, row_of, rows_from, rows_in, same_fields, text_in, under_header}
 use Rattle.clr_csv.specs.Table.{BeginsWithoutText}
 use Rattle.clr_csv.specs.declared.columns.ColumnFault.TheVariants as column

@@ -3,7 +3,7 @@ use Rattle.std.specs.Prelude.{ℕ, ◌-◌, ◌==◌, Bool, true, false, if◌th
 use Rattle.std.specs.Prelude.{Option, Some, None, unwrap_or, Result, Ok, Err, ok_or}
 use Rattle.std.specs.Cmp.Lexicographic.{pointwise}
 use Rattle.csv.specs.Records.{field_at}
-use Rattle.clr_logins.specs.Login.{read_login}
+use Rattle.clr_staff.specs.Login.{read_login}
 use Rattle.clr_net.specs.NameText.{read_name}
 use Rattle.clr_net.specs.declared.name.NameFault.{NameFault}
 use Rattle.clr_net.specs.declared.point.Position.TheVariants.{Opened, Closed}

@@ -6,3 +6,6 @@ pub mod Rows
 pub mod Sections
 pub mod StaffRows
 pub mod Table
+pub mod Alike
+pub mod Warnings
+pub mod WarningText

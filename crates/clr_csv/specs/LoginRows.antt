@@ -3,8 +3,8 @@ use Rattle.std.specs.Prelude.{ℕ, List, [], ◌∷◌, codes, Result, Ok}
 use Rattle.clr_csv.specs.declared.columns.ColumnFault.{ColumnFault}
 use Rattle.clr_csv.specs.declared.fault.CsvFault.{CsvFault}
 use Rattle.clr_csv.specs.Columns.{login_in, name_in}
-use Rattle.clr_logins.specs.declared.logins.LoginRow.{LoginRow}
-use Rattle.clr_result.specs.Results.{◌>>=◌}
+use Rattle.clr_staff.specs.declared.logins.LoginRow.{LoginRow}
+use Rattle.clr_net.specs.Results.{◌>>=◌}
 use Rattle.clr_csv.specs.Rows.{Fields, rows_of}
 
 abbrev pub logins_header : Fields

@@ -5,7 +5,7 @@ use Rattle.clr_net.specs.Prelude.{list_all}
 use Rattle.std.specs.Cmp.Lexicographic.{pointwise}
 use Rattle.std.specs.Str.{is_utf8}
 use Rattle.csv.specs.Reading.{default_config, records, strip_bom}
-use Rattle.clr_result.specs.Results.{◌>>=◌}
+use Rattle.clr_net.specs.Results.{◌>>=◌}
 use Rattle.clr_csv.specs.declared.columns.ColumnFault.{ColumnFault}
 use Rattle.clr_csv.specs.declared.fault.CsvFault.{CsvFault}
 use Rattle.clr_csv.specs.declared.fault.CsvFault.TheVariants.{Header, NotText, FieldCount, TooLong}

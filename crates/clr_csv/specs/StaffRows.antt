@@ -4,7 +4,7 @@ use Rattle.clr_csv.specs.declared.columns.ColumnFault.{ColumnFault}
 use Rattle.clr_csv.specs.declared.fault.CsvFault.{CsvFault}
 use Rattle.clr_staff.specs.declared.employee.StaffRow.{StaffRow}
 use Rattle.clr_csv.specs.Columns.{name_in, name_or_none_in, role_in}
-use Rattle.clr_result.specs.Results.{◌>>=◌}
+use Rattle.clr_net.specs.Results.{◌>>=◌}
 use Rattle.clr_csv.specs.Rows.{Fields, rows_of}
 
 abbrev pub staff_header : Fields

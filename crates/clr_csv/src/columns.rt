@@ -5,9 +5,8 @@ ghost use Rattle.clr_csv.specs.Columns.{fault_in, field_in, login_in, name_in, n
 ghost use Rattle.clr_csv.specs.Columns.{position_in, role_in, yes_no_in};
 
 use crate::fault::CsvFault;
-use clr_logins::Login;
 use clr_net::{Name, Position};
-use clr_staff::Role;
+use clr_staff::{Login, Role};
 use csv::StringRecord;
 
 /// Why a column of a row does not read. Columns count from 1.

@@ -8,7 +8,7 @@ ghost use Rattle.clr_stream.specs.Whole.{TakesAtMost};
 use crate::columns::{ColumnFault, login_in, name_in};
 use crate::fault::CsvFault;
 use crate::rows::{FileRow, read_rows};
-use clr_logins::LoginRow;
+use clr_staff::LoginRow;
 use clr_stream::CountedRead;
 use csv::StringRecord;
 use std::alloc::Global;

@@ -15,10 +15,10 @@ use Rattle.clr_rules.specs.declared.step_row.StepRow.{StepRow}
 use Rattle.clr_shelf.proofs.Keys.{equal}
 use Rattle.clr_shelf.proofs.Lists.{Contains-here, Contains-later, list_all-filter}
 use Rattle.clr_shelf.specs.Rows.{without_row}
-use Rattle.clr_tables.proofs.TableKeys.{map-without_row, step_row_cmp}
-use Rattle.clr_tables.specs.Tables.{step_row, tables_of}
-use Rattle.clr_archive.specs.Archive.{archived, gives_up, steps_that_go}
-use Rattle.clr_tables.specs.TypedRows.{IsTyped, is_typed_step}
+use Rattle.clr_load.proofs.TableKeys.{map-without_row, step_row_cmp}
+use Rattle.clr_load.specs.Tables.{step_row, tables_of}
+use Rattle.clr_changes.specs.Archive.{archived, gives_up, steps_that_go}
+use Rattle.clr_load.specs.TypedRows.{IsTyped, is_typed_step}
 use Rattle.clr_store.specs.StepsTaken.{step_key_values, without_step, without_steps}
 
 -- ---- steps taken one after the other

@@ -45,8 +45,8 @@ use Rattle.clr_rules.specs.declared.point_state.PointState.{PointState}
 use Rattle.clr_rules.specs.declared.record.Record.{Record}
 use Rattle.clr_rules.specs.declared.step_row.StepRow.{StepRow}
 use Rattle.clr_desk.specs.Shelving.{put_all, shelved}
-use Rattle.clr_tables.specs.RowsRead.{with_its_position}
-use Rattle.clr_tables.specs.Tables.{state_at}
+use Rattle.clr_load.specs.RowsRead.{with_its_position}
+use Rattle.clr_load.specs.Tables.{state_at}
 use Rattle.clr_desk.specs.Filling.{filling, grid_now, hand_edit}
 use Rattle.clr_desk.specs.Opening.{OpensAgain, bad_network, bad_staff}
 

@@ -18,7 +18,7 @@ use Rattle.clr_rules.specs.Register.{Register, first_state, opening}
 use Rattle.clr_rules.specs.States.{change_state, changed_state, state_key, state_of}
 use Rattle.clr_rules.specs.declared.point_state.PointState.{PointState}
 use Rattle.clr_store.specs.Renewed.{AreStatesOf}
-use Rattle.clr_tables.specs.TypedRows.{IsTyped, is_typed_state}
+use Rattle.clr_load.specs.TypedRows.{IsTyped, is_typed_state}
 use Rattle.clr_desk.specs.Filling.{hand_edit, position_edit}
 
 abbrev first_or : {X : Type 0} → X → List X → X

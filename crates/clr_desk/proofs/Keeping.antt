@@ -8,9 +8,9 @@ use Rattle.clr_rules.specs.declared.command.Command.{Command}
 use Rattle.clr_rules.specs.declared.reply.Reply.{Reply}
 use Rattle.clr_rules.proofs.keeps.EveryKind.{commands_keep_good}
 use Rattle.clr_load.specs.Stored.{HasTables}
-use Rattle.clr_tables.specs.Tables.{tables_of}
-use Rattle.clr_tables.specs.TypedRows.{IsTyped}
-use Rattle.clr_tables.proofs.TypedEdits.{commands_keep_typed}
+use Rattle.clr_load.specs.Tables.{tables_of}
+use Rattle.clr_load.specs.TypedRows.{IsTyped}
+use Rattle.clr_load.proofs.TypedEdits.{commands_keep_typed}
 use Rattle.clr_desk.specs.Carrying.{CarriesOut}
 use Rattle.clr_desk.specs.Commit.{Stays}
 use Rattle.clr_desk.specs.Kept.{Keeps}

@@ -6,7 +6,7 @@ use Rattle.clr_load.specs.declared.layout.Layout.{Layout}
 use Rattle.clr_load.specs.declared.layout.Layout.TheVariants.{AsMade, AsMadeLogged, AsMoved, AsMovedLogged, OfOne}
 use Rattle.clr_load.specs.Schema.{no_schema, schema_in}
 use Rattle.clr_load.specs.Stored.{HasTables}
-use Rattle.clr_tables.specs.Tables.{Tables}
+use Rattle.clr_load.specs.Tables.{Tables}
 use Rattle.clr_desk.specs.Commit.{Commits, no_database, nothing}
 
 -- the tables of a register are more than none

@@ -9,7 +9,7 @@ use Rattle.clr_rules.specs.Register.{Register}
 use Rattle.clr_rules.specs.RunHeadline.{with_reply}
 use Rattle.clr_rules.specs.declared.command.Command.{Command}
 use Rattle.clr_rules.specs.declared.reply.Reply.{Reply}
-use Rattle.clr_own.specs.Own.{asked_answer}
+use Rattle.clr_book.specs.Own.{asked_answer}
 use Rattle.clr_desk.specs.Asking.{near_after, near_network}
 use Rattle.clr_desk.specs.NearRun.{IsNearRun, near_after_all, near_network_all, near_replies}
 

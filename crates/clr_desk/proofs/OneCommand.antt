@@ -8,21 +8,21 @@ use Rattle.clr_rules.specs.Answer.{Answer, answer}
 use Rattle.clr_rules.specs.Command.{is_jumper}
 use Rattle.clr_rules.specs.Edits.{after_edits}
 use Rattle.clr_rules.specs.Good.{IsGood}
-use Rattle.clr_own.specs.Own.{asked_answer, asked_near}
+use Rattle.clr_book.specs.Own.{asked_answer, asked_near}
 use Rattle.clr_rules.specs.Register.{Register}
 use Rattle.clr_rules.specs.Run.{after}
 use Rattle.clr_rules.specs.declared.change.Edit.{Edit}
 use Rattle.clr_rules.specs.declared.command.Command.{Command}
 use Rattle.clr_rules.specs.declared.reply.Reply.{Reply}
 use Rattle.clr_rules.proofs.edits.PlainEdits.{answers_with_plain}
-use Rattle.clr_own.proofs.Enough.{own_rows_are_enough}
+use Rattle.clr_book.proofs.Enough.{own_rows_are_enough}
 use Rattle.clr_book.specs.Growth.{network_after_all}
 use Rattle.clr_book.proofs.BookEdits.{plain_network}
 use Rattle.clr_store.specs.Contract.{AreEdited}
 use Rattle.clr_load.specs.Stored.{AreTables}
-use Rattle.clr_tables.specs.TableEdits.{tables_edited}
-use Rattle.clr_tables.specs.Tables.{tables_of}
-use Rattle.clr_tables.proofs.TableChanges.{tables_follow_edits}
+use Rattle.clr_load.specs.TableEdits.{tables_edited}
+use Rattle.clr_load.specs.Tables.{tables_of}
+use Rattle.clr_load.proofs.TableChanges.{tables_follow_edits}
 use Rattle.clr_desk.specs.Asking.{near_after, near_network}
 use Rattle.clr_desk.specs.Crash.{AreAfter}
 use Rattle.clr_desk.specs.Faults.{IsOfCommand, of_store}

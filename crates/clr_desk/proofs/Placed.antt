@@ -4,9 +4,9 @@ use Rattle.std.specs.Prelude.{Option, option_map}
 use Rattle.sqlite.specs.State.{HasCleanDisk, State, Survives}
 use Rattle.sqlite.specs.Tree.{Trees}
 use Rattle.sqlite.proofs.StateLemmas.{survives_weaker}
-use Rattle.clr_place.specs.declared.place.Place.{Place}
+use Rattle.clr_rules.specs.declared.place.Place.{Place}
 use Rattle.clr_rules.specs.declared.change.Edit.{Edit}
-use Rattle.clr_tables.specs.Tables.{Tables, place_row}
+use Rattle.clr_load.specs.Tables.{Tables, place_row}
 use Rattle.clr_load.specs.Contract.{IsSaved}
 use Rattle.clr_load.specs.Stored.{ArePlaced, HasTables}
 use Rattle.clr_load.specs.declared.fault.StoreFault.{StoreFault}

@@ -3,13 +3,13 @@ use Rattle.std.proofs.Common.{◌≡◌, IsTrue, Err, Ok, Result, arith, ap, inl
 use Rattle.sqlite.specs.State.{State, Survives}
 use Rattle.sqlite.specs.Tree.{Trees}
 use Rattle.sqlite.proofs.StateLemmas.{survives_weaker}
-use Rattle.clr_place.specs.declared.place.Place.{Place}
+use Rattle.clr_rules.specs.declared.place.Place.{Place}
 use Rattle.clr_rules.specs.Good.{IsGood}
 use Rattle.clr_rules.specs.Register.{Register}
 use Rattle.clr_load.specs.Contract.{IsSaved}
 use Rattle.clr_load.specs.Stored.{AreTables, HasTables}
-use Rattle.clr_tables.specs.Tables.{Tables, tables_of}
-use Rattle.clr_tables.specs.TypedRows.{IsTyped}
+use Rattle.clr_load.specs.Tables.{Tables, tables_of}
+use Rattle.clr_load.specs.TypedRows.{IsTyped}
 use Rattle.clr_desk.specs.Faults.{IsOfKeeper}
 use Rattle.clr_desk.specs.Placing.{Placing, TurnsAt}
 use Rattle.clr_desk.specs.Renewing.{AreComeTo, ComesTo}

@@ -17,10 +17,10 @@ use Rattle.clr_load.specs.declared.fault.StoreFault.TheVariants.{Sql, WrongVersi
 use Rattle.clr_load.proofs.AllGiven.{gives_back}
 use Rattle.clr_load.proofs.Reopened.{opened_with}
 use Rattle.clr_store.specs.Contract.{RefusesOpening}
-use Rattle.clr_tables.specs.RowsRead.{read_version, rows_read}
-use Rattle.clr_tables.specs.Tables.{tables_of}
-use Rattle.clr_tables.specs.TypedRows.{IsTyped}
-use Rattle.clr_tables.proofs.TablesRead.{tables_are_read}
+use Rattle.clr_load.specs.RowsRead.{read_version, rows_read}
+use Rattle.clr_load.specs.Tables.{tables_of}
+use Rattle.clr_load.specs.TypedRows.{IsTyped}
+use Rattle.clr_load.proofs.TablesRead.{tables_are_read}
 use Rattle.clr_desk.specs.Opening.{OpensAs}
 use Rattle.clr_desk.specs.Reopening.{OpensBack, RunsGoOnAfterACrash, TablesComeBack}
 use Rattle.clr_desk.proofs.RowsOpened.{fails_by_database, opened_again}

@@ -11,11 +11,11 @@ use Rattle.clr_load.specs.Filling.{GivesInto}
 use Rattle.clr_load.specs.Fault.{IsOfDatabase}
 use Rattle.clr_load.specs.declared.fault.StoreFault.{StoreFault}
 use Rattle.clr_load.specs.declared.fault.StoreFault.TheVariants.{Sql, WrongVersion, BadRow, NoMemory, OtherTables}
-use Rattle.clr_tables.specs.RowsRead.{Rows, rows_of, rows_read}
-use Rattle.clr_tables.specs.Tables.{tables_of}
-use Rattle.clr_tables.specs.TypedRows.{IsTyped}
-use Rattle.clr_tables.specs.declared.table_name.TableName.{TableName}
-use Rattle.clr_tables.proofs.TablesRead.{tables_are_read, tables_read_as_no_others}
+use Rattle.clr_load.specs.RowsRead.{Rows, rows_of, rows_read}
+use Rattle.clr_load.specs.Tables.{tables_of}
+use Rattle.clr_load.specs.TypedRows.{IsTyped}
+use Rattle.clr_load.specs.declared.table_name.TableName.{TableName}
+use Rattle.clr_load.proofs.TablesRead.{tables_are_read, tables_read_as_no_others}
 use Rattle.clr_desk.specs.Opening.{FailsToOpen, HasNetworkOf, IsRegisterOf, OpensAs, bad_table}
 use Rattle.clr_desk.proofs.Filled.{opens_again}
 

@@ -19,7 +19,7 @@ use Rattle.clr_rules.proofs.isolation.RunReplies.{others_change_no_reply, own_st
 use Rattle.clr_load.specs.Contract.{IsSaved}
 use Rattle.clr_load.specs.Stored.{AreTables, HasTables}
 use Rattle.clr_load.proofs.Reopened.{left_of}
-use Rattle.clr_tables.specs.Tables.{tables_of}
+use Rattle.clr_load.specs.Tables.{tables_of}
 use Rattle.clr_desk.specs.Answering.{has_accepted, replies_of}
 use Rattle.clr_desk.specs.Crash.{AreAfterSome}
 use Rattle.clr_desk.specs.declared.desk_fault.DeskFault.{DeskFault}

@@ -19,8 +19,8 @@ use Rattle.clr_rules.specs.States.{change_state, changed_state, state_key, state
 use Rattle.clr_rules.specs.declared.command.Command.{Command}
 use Rattle.clr_rules.specs.declared.point_state.PointState.{PointState}
 use Rattle.clr_rules.specs.Edits.{after_edits}
-use Rattle.clr_tables.specs.TypedRows.{IsTyped, is_id_or_none, is_typed_command, is_typed_point, is_typed_section, is_typed_state}
-use Rattle.clr_tables.proofs.TypedEdits.{commands_keep_typed, openings_are_typed}
+use Rattle.clr_load.specs.TypedRows.{IsTyped, is_id_or_none, is_typed_command, is_typed_point, is_typed_section, is_typed_state}
+use Rattle.clr_load.proofs.TypedEdits.{commands_keep_typed, openings_are_typed}
 use Rattle.clr_desk.specs.Filling.{hand_edit}
 use Rattle.clr_desk.specs.Typed.{is_typed_network, is_typed_staff}
 use Rattle.clr_desk.proofs.Filled.{hands_edited, set_hands}

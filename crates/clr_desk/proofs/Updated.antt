@@ -10,7 +10,7 @@ use Rattle.clr_rules.specs.Register.{Register, first_state}
 use Rattle.clr_rules.specs.States.{state_key, state_of}
 use Rattle.clr_rules.specs.declared.point_state.PointState.{PointState}
 use Rattle.clr_store.specs.Renewed.{AreStatesOf, tables_renewed}
-use Rattle.clr_tables.specs.Tables.{tables_of}
+use Rattle.clr_load.specs.Tables.{tables_of}
 use Rattle.clr_update.proofs.Delta.{updated_is}
 use Rattle.clr_update.proofs.Filed.{is_filed}
 use Rattle.clr_update.proofs.Free.{free_of}

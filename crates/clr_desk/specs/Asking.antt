@@ -5,7 +5,7 @@ use Rattle.clr_rules.specs.Edits.{after_edits}
 use Rattle.clr_rules.specs.Register.{Register}
 use Rattle.clr_rules.specs.declared.command.Command.{Command}
 use Rattle.clr_book.specs.Growth.{network_after_all}
-use Rattle.clr_own.specs.Own.{asked_answer}
+use Rattle.clr_book.specs.Own.{asked_answer}
 
 -- the register with the edits of the answer from what the command looks at; of a good register that
 -- is the answer of the whole register

@@ -11,11 +11,11 @@ use Rattle.clr_rules.specs.declared.command.Command.{Command}
 use Rattle.clr_rules.specs.declared.reply.Reply.{Reply}
 use Rattle.clr_load.specs.Contract.{IsSaved}
 use Rattle.clr_load.specs.Stored.{HasTables}
-use Rattle.clr_tables.specs.Tables.{tables_of}
-use Rattle.clr_tables.specs.TypedRows.{is_typed_command}
+use Rattle.clr_load.specs.Tables.{tables_of}
+use Rattle.clr_load.specs.TypedRows.{is_typed_command}
 use Rattle.clr_desk.specs.Answering.{has_accepted}
 use Rattle.clr_desk.specs.Commit.{Stays}
-use Rattle.clr_own.specs.Own.{asked_answer}
+use Rattle.clr_book.specs.Own.{asked_answer}
 use Rattle.clr_desk.specs.Asking.{near_after, near_network}
 use Rattle.clr_desk.specs.Crash.{AreAfter}
 use Rattle.clr_desk.specs.Faults.{IsOfKeeper}

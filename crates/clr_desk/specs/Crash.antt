@@ -9,7 +9,7 @@ use Rattle.clr_rules.specs.Run.{after, after_all}
 use Rattle.clr_rules.specs.declared.command.Command.{Command}
 use Rattle.clr_load.specs.Contract.{IsSaved}
 use Rattle.clr_load.specs.Stored.{AreTables, HasTables}
-use Rattle.clr_tables.specs.Tables.{tables_of}
+use Rattle.clr_load.specs.Tables.{tables_of}
 
 -- where a database had the tables of a good register, these trees have the tables after a command
 abbrev pub AreAfter : Database → Register → Command → Trees → Type 0

@@ -9,7 +9,7 @@ use Rattle.clr_rules.specs.declared.hold.Hold.{Hold}
 use Rattle.clr_rules.specs.declared.point_state.PointState.{PointState}
 use Rattle.clr_rules.specs.declared.record.Record.{Record}
 use Rattle.clr_rules.specs.declared.step_row.StepRow.{StepRow}
-use Rattle.clr_tables.specs.RowsRead.{with_its_position}
+use Rattle.clr_load.specs.RowsRead.{with_its_position}
 
 -- the network of a register, each point in the position where it is now
 abbrev pub grid_now : Register → Grid

@@ -7,8 +7,8 @@ use Rattle.clr_rules.specs.Good.{IsGood}
 use Rattle.clr_rules.specs.Register.{Register}
 use Rattle.clr_load.specs.Contract.{IsSaved}
 use Rattle.clr_load.specs.Stored.{HasTables}
-use Rattle.clr_tables.specs.Tables.{tables_of}
-use Rattle.clr_tables.specs.TypedRows.{IsTyped}
+use Rattle.clr_load.specs.Tables.{tables_of}
+use Rattle.clr_load.specs.TypedRows.{IsTyped}
 
 -- a good register stays good, with its values within their types, and where the disk is clean and the connection open, they were
 -- before; then a store that had the tables of the register has them, and a store that was saved is

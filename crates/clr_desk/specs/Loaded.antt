@@ -11,7 +11,7 @@ use Rattle.clr_rules.specs.declared.step_row.StepRow.{StepRow}
 use Rattle.clr_load.specs.Filling.{IsLoaded}
 use Rattle.clr_desk.specs.Shelving.{shelved}
 use Rattle.clr_load.specs.declared.rows.Loaded.{Loaded}
-use Rattle.clr_tables.specs.RowsRead.{Rows}
+use Rattle.clr_load.specs.RowsRead.{Rows}
 
 -- these are the rows that were loaded: each was put on its shelf, one after another
 abbrev pub HasRows : Loaded (List Record) (List StepRow) (List Hold) → Rows → Type 0

@@ -1,13 +1,13 @@
 -- WHAT IS TO BE DONE OF AN UPDATE AND OF AN ARCHIVE, made before anything is written.
 use Rattle.std.specs.Prelude.{◌≡◌, ℕ, map, None, Some, string_bytes}
-use Rattle.clr_archive.specs.Archive.{archived, steps_that_go}
+use Rattle.clr_changes.specs.Archive.{archived, steps_that_go}
 use Rattle.clr_changes.specs.Lines.{change_lines}
 use Rattle.clr_changes.specs.Renewed.{renewed}
 use Rattle.clr_rules.specs.Good.{IsGood}
 use Rattle.clr_rules.specs.Register.{Register}
 use Rattle.clr_rules.specs.StepKey.{step_key}
 use Rattle.clr_store.specs.Renewed.{AreStatesOf}
-use Rattle.clr_tables.specs.TypedRows.{IsTyped}
+use Rattle.clr_load.specs.TypedRows.{IsTyped}
 use Rattle.clr_update.specs.Changes.{changes}
 use Rattle.clr_update.specs.Update.{Update, in_the_way, updated}
 use Rattle.clr_desk.specs.declared.archiving.Left.{Left}

@@ -9,11 +9,11 @@ use Rattle.clr_changes.specs.declared.report.Report.{Report}
 use Rattle.clr_changes.specs.declared.report.Report.TheVariants.{Changes, InTheWay}
 use Rattle.clr_load.specs.Contract.{IsSaved}
 use Rattle.clr_load.specs.Stored.{AreTables, HasTables}
-use Rattle.clr_place.specs.declared.place.Place.{Place}
+use Rattle.clr_rules.specs.declared.place.Place.{Place}
 use Rattle.clr_rules.specs.Good.{IsGood}
 use Rattle.clr_rules.specs.Register.{Register}
-use Rattle.clr_tables.specs.Tables.{Tables, tables_of}
-use Rattle.clr_tables.specs.TypedRows.{IsTyped}
+use Rattle.clr_load.specs.Tables.{Tables, tables_of}
+use Rattle.clr_load.specs.TypedRows.{IsTyped}
 use Rattle.clr_update.specs.Update.{Update, in_the_way, updated}
 use Rattle.clr_desk.specs.Faults.{IsOfKeeper}
 use Rattle.clr_desk.specs.Placing.{Placing}

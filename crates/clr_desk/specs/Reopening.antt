@@ -15,9 +15,9 @@ use Rattle.clr_load.specs.Stored.{AreTables, HasTables}
 use Rattle.clr_load.specs.declared.fault.StoreFault.{StoreFault}
 use Rattle.clr_load.specs.declared.rows.Rows.{Rows as Loaded}
 use Rattle.clr_store.specs.Contract.{RefusesOpening}
-use Rattle.clr_tables.specs.RowsRead.{rows_read}
-use Rattle.clr_tables.specs.Tables.{tables_of}
-use Rattle.clr_tables.specs.TypedRows.{IsTyped, is_typed_command}
+use Rattle.clr_load.specs.RowsRead.{rows_read}
+use Rattle.clr_load.specs.Tables.{tables_of}
+use Rattle.clr_load.specs.TypedRows.{IsTyped, is_typed_command}
 use Rattle.clr_desk.specs.Crash.{AreAfterSome}
 use Rattle.clr_desk.specs.Opening.{OpensAs}
 

@@ -5,7 +5,7 @@ use Rattle.clr_staff.specs.declared.employee.StaffRow.{StaffRow}
 use Rattle.clr_net.specs.Grid.{Grid}
 use Rattle.clr_net.specs.Name.{is_name}
 use Rattle.clr_order.specs.declared.step.Step.{Step}
-use Rattle.clr_tables.specs.TypedRows.{is_typed_employee, is_typed_point, is_typed_section}
+use Rattle.clr_load.specs.TypedRows.{is_typed_employee, is_typed_point, is_typed_section}
 
 -- the point of a step is named; how far the step has come is no part of a command
 abbrev pub has_typed_point : Step → Bool

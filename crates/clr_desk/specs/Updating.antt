@@ -10,7 +10,7 @@ use Rattle.clr_changes.specs.declared.report.Report.TheVariants.{Changes, InTheW
 use Rattle.clr_load.specs.Contract.{IsSaved}
 use Rattle.clr_load.specs.Stored.{AreTables, HasTables}
 use Rattle.clr_rules.specs.Register.{Register}
-use Rattle.clr_tables.specs.Tables.{tables_of}
+use Rattle.clr_load.specs.Tables.{tables_of}
 use Rattle.clr_update.specs.Update.{Update, in_the_way, updated}
 
 -- the trees are those of an update that nothing was in the way of: where the tables were those of a

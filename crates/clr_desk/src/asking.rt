@@ -4,11 +4,11 @@ ghost use Rattle.std.specs.Prelude.{◌≡◌, true, IfOk};
 ghost use Rattle.clr_answer.specs.Decision.{ChangesIfAccepted, answer_of_decision};
 ghost use Rattle.clr_book.specs.Book.{Fits, needs};
 ghost use Rattle.clr_rules.specs.Edits.{fit};
-ghost use Rattle.clr_own.specs.Own.{asked_answer};
+ghost use Rattle.clr_book.specs.Own.{asked_answer};
 
 use crate::book::DeskBook;
 use clr_answer::Decision;
-use clr_own::answer;
+use clr_book::own::answer;
 use clr_rules::Command;
 use std::alloc::AllocError;
 

@@ -5,7 +5,7 @@ ghost use Rattle.clr_book.specs.Growth.{network_after_all};
 ghost use Rattle.clr_rules.specs.Edits.{after_edits, fit};
 ghost use Rattle.clr_rules.specs.Register.{opening};
 ghost use Rattle.clr_rules.specs.Run.{IsReached};
-ghost use Rattle.clr_tables.specs.TypedRows.{IsTyped};
+ghost use Rattle.clr_load.specs.TypedRows.{IsTyped};
 
 use crate::typed::Typed;
 use clr_book::Book;

@@ -3,8 +3,8 @@ ghost use Rattle.std.specs.Prelude.{◌≡◌, IfOk, map};
 ghost use Rattle.clr_desk.specs.Shelving.{shelved};
 ghost use Rattle.clr_net.specs.Grid.{unplaced};
 ghost use Rattle.clr_rules.specs.Good.{IsGood};
-ghost use Rattle.clr_tables.specs.RowsRead.{rows_of, with_its_position};
-ghost use Rattle.clr_tables.specs.TypedRows.{IsTyped};
+ghost use Rattle.clr_load.specs.RowsRead.{rows_of, with_its_position};
+ghost use Rattle.clr_load.specs.TypedRows.{IsTyped};
 ghost use Rattle.clr_desk.specs.Loaded.{HasRows};
 
 use crate::book::DeskBook;

@@ -1,10 +1,10 @@
 //! The book after changes and after an archive, and a desk that goes on with it where it keeps
 //! nothing.
 ghost use Rattle.std.specs.Prelude.{◌≡◌, IfOk, OnErr, OnOk, Some};
-ghost use Rattle.clr_archive.specs.Archive.{archived};
+ghost use Rattle.clr_changes.specs.Archive.{archived};
 ghost use Rattle.clr_changes.specs.Made.{IsMade};
 ghost use Rattle.clr_rules.specs.Good.{IsGood};
-ghost use Rattle.clr_tables.specs.TypedRows.{IsTyped};
+ghost use Rattle.clr_load.specs.TypedRows.{IsTyped};
 ghost use Rattle.clr_update.specs.Changes.{Changes};
 ghost use Rattle.clr_update.specs.Delta.{after_changes};
 ghost use Rattle.clr_desk.specs.Making.{IsAfterSome};
@@ -14,8 +14,7 @@ use crate::commit::Unkept;
 use crate::copy::typed_copy;
 use crate::desk::Desk;
 use crate::stated::book_with;
-use clr_archive::archived_book;
-use clr_changes::After;
+use clr_changes::{After, archived_book};
 use clr_rules::Moment;
 use std::alloc::{AllocError, Global};
 

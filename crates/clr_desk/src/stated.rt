@@ -6,7 +6,7 @@ ghost use Rattle.clr_changes.specs.Renewed.{renewed};
 ghost use Rattle.clr_rules.specs.Edits.{after_edits, fit};
 ghost use Rattle.clr_rules.specs.Register.{opening};
 ghost use Rattle.clr_store.specs.Renewed.{AreStatesOf};
-ghost use Rattle.clr_tables.specs.TypedRows.{IsTyped};
+ghost use Rattle.clr_load.specs.TypedRows.{IsTyped};
 ghost use Rattle.clr_desk.specs.Filling.{position_edit};
 
 use crate::book::{DeskBook, apply, opening_book};

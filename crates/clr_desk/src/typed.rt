@@ -5,10 +5,10 @@ ghost use Rattle.std.specs.List.{list_all};
 ghost use Rattle.clr_net.specs.Name.{is_name};
 ghost use Rattle.clr_rules.specs.Id.{is_id};
 ghost use Rattle.clr_rules.specs.Moment.{is_moment};
-ghost use Rattle.clr_tables.specs.TypedRows.{is_id_or_none, is_name_or_none, is_typed_command};
-ghost use Rattle.clr_tables.specs.TypedRows.{is_typed_employee, is_typed_hold, is_typed_kind};
-ghost use Rattle.clr_tables.specs.TypedRows.{is_typed_point, is_typed_record, is_typed_section};
-ghost use Rattle.clr_tables.specs.TypedRows.{is_typed_state, is_typed_step, is_typed_task};
+ghost use Rattle.clr_load.specs.TypedRows.{is_id_or_none, is_name_or_none, is_typed_command};
+ghost use Rattle.clr_load.specs.TypedRows.{is_typed_employee, is_typed_hold, is_typed_kind};
+ghost use Rattle.clr_load.specs.TypedRows.{is_typed_point, is_typed_record, is_typed_section};
+ghost use Rattle.clr_load.specs.TypedRows.{is_typed_state, is_typed_step, is_typed_task};
 ghost use Rattle.clr_desk.specs.Typed.{has_typed_point, is_typed_network, is_typed_staff};
 
 use clr_net::{Name, Network, PointRow, SectionRow};

@@ -15,11 +15,11 @@ const PIECE: usize = 4096;
 
 impl<K: Clock + Drop> Timed<TcpStream, K> {
     /// Ends a connection after its response. A socket that is closed while bytes of its peer are
-    /// unread takes back what it sent. So nothing more is sent, and at most 65,536 bytes are read on,
-    /// which are not looked at.
+    /// unread takes back what it sent. So nothing more is sent, and at most 65,536 bytes are read
+    /// on, which are not looked at.
     ///
-    /// Where more is expected and there is a limit, what comes up to the end of the peer or up to the
-    /// limit is read; otherwise what is there.
+    /// Where more is expected and there is a limit, what comes up to the end of the peer or up to
+    /// the limit is read; otherwise what is there.
     pub fn end(self, is_expected: bool) {
         let mut timed = self;
         if timed.stream.shutdown(Shutdown::Write).is_err() {
@@ -35,8 +35,8 @@ impl<K: Clock + Drop> Timed<TcpStream, K> {
     }
 }
 
-/// Reads on to the end of a reader, up to this number of bytes, or until it fails. Gives how many more
-/// may be read.
+/// Reads on to the end of a reader, up to this number of bytes, or until it fails. Gives how many
+/// more may be read.
 #[tactic(auto, using(crate::proofs::Taken::none_taken, crate::proofs::Taken::more_taken, crate::proofs::Taken::last_taken))]
 pub(crate) fn read_on<R: Read>(reader: &mut R, most: usize) -> usize
     ensures within { result ≤ most }

@@ -14,8 +14,8 @@ use std::io::ErrorKind;
 /// A database in its files.
 pub type Database<D> = Connection<FileStore<D>>;
 
-/// Opens the database at a path, as the kit's `Connection::open_from` does: one that is not there is
-/// made, in smaller pages. What the files held is found where the disk is clean.
+/// Opens the database at a path, as the kit's `Connection::open_from` does: one that is not there
+/// is made, in smaller pages. What the files held is found where the disk is clean.
 pub fn open_database<Y: System>(
     alloc: Global,
     system: &mut Y,

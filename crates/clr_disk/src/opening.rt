@@ -16,8 +16,8 @@ const LINE_MILLIS: u64 = 250;
 /// The bytes of a MiB.
 const MIB: u64 = 1_048_576;
 
-/// An opening: the bytes of its file, those that were read, and from which of its milliseconds on the
-/// next line is due. It reads each byte of the file several times.
+/// An opening: the bytes of its file, those that were read, and from which of its milliseconds on
+/// the next line is due. It reads each byte of the file several times.
 #[derive(Clone, Copy)]
 pub(crate) struct Opening {
     size: u64,

@@ -31,8 +31,8 @@ pub trait Waits<K> {
     /// `let_wait` says so.
     ghost is_over: { Self → AnyCall → AnyLimit K → Type 0 };
 
-    /// Lets each call of that kind that follows wait for at most what is left of the time now. Fails
-    /// where nothing is.
+    /// Lets each call of that kind that follows wait for at most what is left of the time now.
+    /// Fails where nothing is.
     fn let_wait(&self, call: Call, limit: &Limit<K>) -> io::Result<()>
         ensures waits { OnOk result (waits self.now call limit.now) }
         ensures is_over { OnErr result (is_over self.now call limit.now) };
@@ -92,9 +92,9 @@ impl<K> Limit<K> {
     }
 }
 
-/// A stream that has a limit, or none. With one, a read or a write waits for at most what is left of
-/// the time, and fails where nothing is: a peer that sends a byte now and then gains no time by it.
-/// Without one each call is the stream's own.
+/// A stream that has a limit, or none. With one, a read or a write waits for at most what is left
+/// of the time, and fails where nothing is: a peer that sends a byte now and then gains no time by
+/// it. Without one each call is the stream's own.
 #[derive(Drop)]
 pub struct Timed<T, K> {
     pub(crate) stream: T,

@@ -1,7 +1,7 @@
 //! The watch over the opening of a database.
 //!
-//! Of what a cell holds, and of a terminal, no clause speaks: what is shown, and when, the clauses of
-//! `Opening` say.
+//! Of what a cell holds, and of a terminal, no clause speaks: what is shown, and when, the clauses
+//! of `Opening` say.
 ghost use Rattle.std.specs.Prelude.{◌≡◌, ◌<◌, ◌/◌, ◌^◌};
 ghost use Rattle.std.specs.Duration.{as_nanos};
 

@@ -6,8 +6,8 @@ use Rattle.sqlite.specs.Held.{Held, state}
 use Rattle.sqlite.specs.State.{HasCleanDisk, State, Survives}
 use Rattle.sqlite_trees.specs.declared.store.Store.{Ghosts}
 use Rattle.sqlite_trees.specs.Tree.{Trees}
-use Rattle.clr_tables.specs.declared.table_name.TableName.{TableName}
-use Rattle.clr_tables.specs.declared.table_name.TableName.TheVariants as tables
+use Rattle.clr_load.specs.declared.table_name.TableName.{TableName}
+use Rattle.clr_load.specs.declared.table_name.TableName.TheVariants as tables
 use Rattle.clr_book.specs.Book.{Shelved}
 use Rattle.clr_edge.specs.AtFault.{table_at_fault}
 use Rattle.clr_desk.specs.Opening.{IsRegisterOf, OpensAs}
@@ -24,8 +24,8 @@ use Rattle.clr_store.specs.Contract.{RefusesOpening}
 use Rattle.clr_store.specs.Moving.{RefusesToMove}
 use Rattle.clr_load.specs.declared.fault.StoreFault.{StoreFault}
 use Rattle.clr_load.specs.declared.fault.StoreFault.TheVariants as store
-use Rattle.clr_tables.specs.RowsRead.{Rows, read_version, rows_read}
-use Rattle.clr_tables.specs.Tables.{Tables, tables_of}
+use Rattle.clr_load.specs.RowsRead.{Rows, read_version, rows_read}
+use Rattle.clr_load.specs.Tables.{Tables, tables_of}
 use Rattle.clr_edge.specs.Fault.{of_desk, of_store}
 use Rattle.clr_edge.specs.declared.fault.Fault.{Fault}
 use Rattle.clr_edge.specs.Database.{IsAsBefore, IsOfLine, IsOfStore, IsOfUnfit, RefusesTables}

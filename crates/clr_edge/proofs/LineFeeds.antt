@@ -10,8 +10,8 @@ use Rattle.std.specs.List.{list_any, position_or_len}
 use Rattle.std.specs.Option.{option_map_or}
 use Rattle.std.specs.Prelude.{IfSome, position, slice_get}
 use Rattle.std.specs.declared.alloc.Global.{Global}
-use Rattle.clr_append.specs.Lines.{ended_lines, is_line_feed}
-use Rattle.clr_append.proofs.Pieces.{line_first}
+use Rattle.clr_journal.specs.Lines.{ended_lines, is_line_feed}
+use Rattle.clr_journal.proofs.Pieces.{line_first}
 use Rattle.clr_edge.specs.Lines.{EndsAs, IsNextLine, IsTooLong, ends_whole}
 
 -- ---- the first line feed

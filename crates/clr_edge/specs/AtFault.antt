@@ -6,8 +6,8 @@ use Rattle.clr_good.specs.declared.fault.ListAtFault.{ListAtFault}
 use Rattle.clr_good.specs.declared.fault.ListAtFault.TheVariants.{Points, Clearances}
 use Rattle.clr_good.specs.declared.fault.ListAtFault.TheVariants.{Steps, Holds}
 use Rattle.clr_rules.specs.Register.{Register}
-use Rattle.clr_tables.specs.declared.table_name.TableName.{TableName}
-use Rattle.clr_tables.specs.declared.table_name.TableName.TheVariants as table
+use Rattle.clr_load.specs.declared.table_name.TableName.{TableName}
+use Rattle.clr_load.specs.declared.table_name.TableName.TheVariants as table
 
 -- the table that a list is read from
 abbrev pub table_of_list : ListAtFault → TableName

@@ -20,12 +20,12 @@ use Rattle.clr_load.specs.declared.fault.StoreFault.{StoreFault}
 use Rattle.clr_load.specs.declared.fault.StoreFault.TheVariants.{BadRow, OtherTables, Sql}
 use Rattle.clr_store.specs.Contract.{RefusesOpening, RefusesVersion}
 use Rattle.clr_store.specs.Moving.{LeavesMoved, RefusesMove, RefusesToMove}
-use Rattle.clr_tables.specs.RowsRead.{Rows, read_version, rows_read}
-use Rattle.clr_tables.specs.TableEdits.{tables_moved}
-use Rattle.clr_tables.specs.TableLaws.{HasNoJumper}
-use Rattle.clr_tables.specs.Tables.{Tables, tables_by, tables_of, version_one}
-use Rattle.clr_tables.specs.TypedRows.{IsTyped}
-use Rattle.clr_tables.specs.declared.table_name.TableName.{TableName}
+use Rattle.clr_load.specs.RowsRead.{Rows, read_version, rows_read}
+use Rattle.clr_load.specs.TableEdits.{tables_moved}
+use Rattle.clr_load.specs.TableLaws.{HasNoJumper}
+use Rattle.clr_load.specs.Tables.{Tables, tables_by, tables_of, version_one}
+use Rattle.clr_load.specs.TypedRows.{IsTyped}
+use Rattle.clr_load.specs.declared.table_name.TableName.{TableName}
 use Rattle.clr_book.specs.Book.{Shelved}
 use Rattle.clr_edge.specs.AtFault.{table_at_fault}
 use Rattle.clr_desk.specs.Opening.{IsRegisterOf, OpensAs}

@@ -14,9 +14,9 @@ use Rattle.clr_stream.specs.declared.fault.ReadFault.{ReadFault}
 use Rattle.clr_stream.specs.declared.fault.ReadFault.TheVariants as read
 use Rattle.clr_rules.specs.HoldKind.{hold_kind_text}
 use Rattle.clr_rules.specs.Id.{id_text}
-use Rattle.clr_tables.specs.TableText.{table_text}
-use Rattle.clr_tables.specs.declared.table_name.TableName.{TableName}
-use Rattle.clr_tables.specs.declared.table_name.TableName.TheVariants as table
+use Rattle.clr_load.specs.TableText.{table_text}
+use Rattle.clr_load.specs.declared.table_name.TableName.{TableName}
+use Rattle.clr_load.specs.declared.table_name.TableName.TheVariants as table
 use Rattle.clr_verify.specs.declared.registers.Difference.{Difference}
 use Rattle.clr_verify.specs.declared.registers.Difference.TheVariants as row
 use Rattle.clr_load.specs.declared.fault.StoreFault.{StoreFault}

@@ -5,7 +5,7 @@ use Rattle.std.specs.declared.io.ErrorKind.TheVariants.{OutOfMemory}
 use Rattle.sqlite_disk.specs.Disk.{Cut, Follows, MoreFaults, Only}
 use Rattle.sqlite_disk.specs.declared.Disk as disk
 use Rattle.sqlite_disk.specs.declared.Files.{Files}
-use Rattle.clr_append.specs.declared.journal.Journal as append
+use Rattle.clr_journal.specs.declared.journal.Journal as append
 use Rattle.clr_journal.specs.Opening.{Unchanged}
 use Rattle.clr_chain.specs.Finding.{found_in}
 use Rattle.clr_chain.specs.OnDisk.{WasRead}
@@ -15,7 +15,7 @@ use Rattle.clr_chain.specs.declared.fault.ChainFault.TheVariants as chain
 use Rattle.clr_chain.specs.declared.fault.NewFault.{NewFault}
 use Rattle.clr_chain.specs.declared.fault.NewFault.TheVariants as unbegun
 use Rattle.clr_chain.specs.declared.finding.Ahead.{Ahead}
-use Rattle.clr_place.specs.declared.place.Place.{Place}
+use Rattle.clr_rules.specs.declared.place.Place.{Place}
 use Rattle.clr_disk.specs.Opened.{AreLetGo}
 use Rattle.clr_edge.specs.declared.fault.Fault.{Fault}
 use Rattle.clr_edge.specs.declared.fault.Fault.TheVariants.{Journal, Memory}

@@ -2,7 +2,7 @@
 use Rattle.std.specs.Prelude.{◌≡◌, ◌<◌, ℕ, Bool, true, List, [], ◌∷◌, ◌++◌, None, Option, Some}
 use Rattle.std.specs.Prelude.{Vec, drop, length, option_map}
 use Rattle.std.specs.declared.alloc.Global.{Global}
-use Rattle.clr_append.specs.Lines.{ended_lines, is_line_feed}
+use Rattle.clr_journal.specs.Lines.{ended_lines, is_line_feed}
 use Rattle.clr_edge.specs.declared.lines.Lines.{Lines}
 
 -- what was read and not given yet

@@ -3,7 +3,7 @@ use Rattle.std.specs.Prelude.{ℕ, ◌+◌, Bool, not, is_some, List, find, posi
 use Rattle.std.specs.Prelude.{Result, Ok, Err}
 use Rattle.clr_net.specs.Name.{same_name}
 use Rattle.clr_staff.specs.declared.employee.StaffRow.{StaffRow}
-use Rattle.clr_logins.specs.declared.logins.LoginRow.{LoginRow}
+use Rattle.clr_staff.specs.declared.logins.LoginRow.{LoginRow}
 use Rattle.clr_edge.specs.declared.fault.Fault.{Fault}
 use Rattle.clr_edge.specs.declared.fault.Fault.TheVariants.{UnknownEmployee}
 

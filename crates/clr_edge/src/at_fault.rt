@@ -5,7 +5,7 @@ ghost use Rattle.clr_edge.specs.AtFault.{table_at_fault, table_of_list};
 
 use clr_desk::DeskBook;
 use clr_good::{ListAtFault, list_at_fault};
-use clr_tables::TableName;
+use clr_load::TableName;
 use std::alloc::{AllocError, Global};
 
 /// The first table of a book, in the order of points, clearances, steps and holds, whose rows do

@@ -10,12 +10,11 @@ ghost use Rattle.clr_edge.specs.Fault.{store_fault_name, verify_fault_name};
 
 use clr_csv::CsvFault;
 use clr_desk::DeskFault;
-use clr_load::StoreFault;
+use clr_load::{StoreFault, TableName};
 use clr_net::{Name, NameFault, NetFault};
 use clr_rules::ClearanceId;
 use clr_staff::StaffFault;
 use clr_stream::ReadFault;
-use clr_tables::TableName;
 use clr_update::Obstacle;
 use clr_verify::Difference;
 use std::alloc::{AllocError, AllocFailed};

@@ -11,9 +11,8 @@ ghost use Rattle.clr_edge.specs.Files.{GivesBytes, GivesFile, GivesRows, told_of
 
 use crate::fault::{Fault, ImportFile};
 use clr_csv::{CsvFault, read_logins, read_points, read_sections, read_staff};
-use clr_logins::LoginRow;
 use clr_net::{PointRow, SectionRow};
-use clr_staff::StaffRow;
+use clr_staff::{LoginRow, StaffRow};
 use clr_stream::{Counted, CountedRead, ReadFault, read_whole};
 use std::alloc::Global;
 use std::io::Read;

@@ -9,14 +9,14 @@ ghost use Rattle.clr_edge.specs.Journals.{IsNew};
 ghost use Rattle.clr_edge.specs.Journals.{IsOfBeginning, IsOfOpening, IsUnbegunAt, IsUnopenedAt};
 ghost use Rattle.clr_edge.specs.Journals.{of_chain, of_new, size_fault};
 ghost use Rattle.clr_edge.specs.declared.fault.Fault.{Fault as AnyFault};
-ghost use Rattle.clr_place.specs.declared.place.Place.{Place as AnyPlace};
+ghost use Rattle.clr_rules.specs.declared.place.Place.{Place as AnyPlace};
 
 use crate::fault::{Fault, JournalFault};
 use crate::machine::Machine;
-use clr_append::{Journal, OnDisk};
 use clr_chain::{Ahead, ChainFault, Clock, NewFault, new_chain, open_chain};
 use clr_disk::System;
-use clr_place::Place;
+use clr_journal::{Journal, OnDisk};
+use clr_rules::Place;
 use sqlite_disk::Files;
 use sqlite_std_file::OpenError;
 use std::time::{SystemTime, UNIX_EPOCH};

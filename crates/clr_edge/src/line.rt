@@ -3,16 +3,16 @@ ghost use Rattle.std.specs.Prelude.{◌≡◌, ◌+◌, ◌++◌, ◌≤◌, cod
 ghost use Rattle.std.specs.Fmt.{signed_decimal};
 ghost use Rattle.clr_rules.specs.HoldKind.{hold_kind_text};
 ghost use Rattle.clr_rules.specs.Id.{id_text};
-ghost use Rattle.clr_tables.specs.TableText.{table_text};
+ghost use Rattle.clr_load.specs.TableText.{table_text};
 ghost use Rattle.clr_verify.specs.declared.registers.Difference.TheVariants as row;
 ghost use Rattle.arrayvec.specs.ArrayString.{array_string_len};
 ghost use Rattle.clr_edge.specs.Fault.{detail_text, key_text, table_of, told_line};
 
 use crate::fault::{Detail, Fault};
 use arrayvec::ArrayString;
+use clr_load::TableName;
 use clr_net::Name;
 use clr_rules::{ClearanceId, Hold, HoldKind, StepKey};
-use clr_tables::TableName;
 use clr_verify::Difference;
 use itoa::Buffer;
 

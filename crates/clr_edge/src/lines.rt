@@ -3,7 +3,7 @@ ghost use Rattle.std.specs.Prelude.{◌≡◌, ◌≢◌, ◌≤◌, ◌+◌, �
 ghost use Rattle.std.specs.Prelude.{IsErrOf, OnErr, [], false, length, position};
 ghost use Rattle.std.specs.Io.KnownBytes.{IsAtEnd, Keeps};
 ghost use Rattle.std.specs.List.{list_any};
-ghost use Rattle.clr_append.specs.Lines.{ended_lines, is_line_feed};
+ghost use Rattle.clr_journal.specs.Lines.{ended_lines, is_line_feed};
 ghost use Rattle.clr_stream.specs.Failures.{Rose};
 
 use clr_stream::{CountedRead, ReadFault};

@@ -3,9 +3,8 @@ ghost use Rattle.std.specs.Prelude.{◌≡◌, not, position};
 ghost use Rattle.clr_edge.specs.Logins.{is_employee, known_logins};
 
 use crate::fault::Fault;
-use clr_logins::{LoginRow, Logins};
 use clr_net::Name;
-use clr_staff::Staff;
+use clr_staff::{LoginRow, Logins, Staff};
 
 /// These logins. A row whose employee the staff lacks is a fault, which names the first.
 pub fn known_logins(staff: &Staff, logins: Logins) -> Result<Logins, Fault>

@@ -4,8 +4,8 @@ use Rattle.clr_rules.proofs.Common.{IsReached, after_all, after_edits, in_fence,
 use Rattle.clr_rules.proofs.Common.{has_any_hold, has_some_hold, held_among, hindering_hold, new_steps, places_of}
 use Rattle.clr_rules.proofs.keeps.EveryKind.{reached_are_good}
 use Rattle.clr_rules.proofs.staffed.EveryKind.{reached_are_staffed}
-use Rattle.clr_archive.specs.Acts.{ShowNoneGone}
-use Rattle.clr_archive.specs.Archive.{gives_up}
+use Rattle.clr_changes.specs.Acts.{ShowNoneGone}
+use Rattle.clr_changes.specs.Archive.{gives_up}
 use Rattle.clr_examples.proofs.ReachedExamples.{worked_is_network, worked_is_staff}
 use Rattle.clr_examples.specs.Archives.{CommandsGoOn, TheLawsSpeakOfIt, beside_kim, one_closed}
 use Rattle.clr_examples.specs.Worked.{from_moment, jones_1, kim_1, worked_net, worked_staff}

@@ -10,8 +10,8 @@ use Rattle.clr_rules.specs.declared.phase.Phase.TheVariants.{Requested, Closed}
 use Rattle.clr_rules.specs.declared.refusal.Refusal.TheVariants.{WrongPhase}
 use Rattle.clr_rules.specs.declared.reply.Reply.TheVariants.{Accepted, Shown}
 use Rattle.clr_rules.specs.declared.step_row.StepRow.{StepRow}
-use Rattle.clr_archive.specs.Acts.{Act, ShowNoneGone}
-use Rattle.clr_archive.specs.Archive.{archived, gives_up, printed_records}
+use Rattle.clr_changes.specs.Acts.{Act, ShowNoneGone}
+use Rattle.clr_changes.specs.Archive.{archived, gives_up, printed_records}
 use Rattle.clr_examples.specs.Runs.{giving_up}
 use Rattle.clr_examples.specs.Worked.{JONES, KIM, L2, OPS, Saying, jones_1, kim_1}
 use Rattle.clr_examples.specs.Worked.{kim_is_ordered, refused, register_after, s2_opened, said_at}

@@ -10,7 +10,7 @@ use Rattle.clr_http.proofs.Connections.{answered_served, connection, empty_conne
 use Rattle.clr_http.proofs.RequestRuns.{none_of, reading_may_ask, turn_carries, unmade_carries}
 use Rattle.clr_http.proofs.Requests.{asks_unrefused, at_end, no_head, reading_is, refusal_is}
 use Rattle.clr_http.proofs.Turns.{IsLeft, stays_good, stays_reached, turn_leaves}
-use Rattle.clr_logins.specs.declared.logins.LoginRow.{LoginRow}
+use Rattle.clr_staff.specs.declared.logins.LoginRow.{LoginRow}
 use Rattle.clr_http.specs.Answered.{IsAnsweredAt, Source}
 use Rattle.clr_http.specs.Callers.{caller_checked, may_ask}
 use Rattle.clr_http.specs.Carried.{IsToldAt}

@@ -3,8 +3,8 @@ use Rattle.std.proofs.Common.{◌≡◌, ◌∙◌, ℕ, Bool, true, false, if�
 use Rattle.std.specs.Prelude.{nat_eq}
 use Rattle.std.specs.Cmp.Lexicographic.{pointwise}
 use Rattle.httparse.specs.Grammar.{RequestHead}
-use Rattle.clr_logins.specs.Logins.{may_speak}
-use Rattle.clr_logins.specs.declared.logins.LoginRow.{LoginRow}
+use Rattle.clr_staff.specs.Logins.{may_speak}
+use Rattle.clr_staff.specs.declared.logins.LoginRow.{LoginRow}
 use Rattle.clr_rules.specs.declared.command.Command.{Command}
 use Rattle.clr_http.proofs.Posts.{unchecked}
 use Rattle.clr_http.specs.Asked.{reading_asks}

@@ -4,7 +4,7 @@ use Rattle.std.specs.Prelude.{Result, IfSome}
 use Rattle.std.specs.Io.KnownBytes.{IsAtEnd}
 use Rattle.httparse.specs.Grammar.{RequestHead}
 use Rattle.clr_desk.specs.Taking.{Hearing}
-use Rattle.clr_logins.specs.declared.logins.LoginRow.{LoginRow}
+use Rattle.clr_staff.specs.declared.logins.LoginRow.{LoginRow}
 use Rattle.clr_rules.specs.declared.command.Command.{Command}
 use Rattle.clr_http.proofs.Requests.{at_end, no_head}
 use Rattle.clr_http.proofs.RequestRuns.{reading_may_ask}

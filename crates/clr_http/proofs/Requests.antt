@@ -17,7 +17,7 @@ use Rattle.clr_http.specs.Fields.{fields_of}
 use Rattle.clr_http.specs.Request.{IsReading, IsRefusedHead, Reading, asks, command_read, head_read, refusal_of, refused, request_read_at}
 use Rattle.clr_http.specs.Reading.{target_asks}
 use Rattle.clr_http.specs.Response.{Content, fault_response, status_of}
-use Rattle.clr_logins.specs.declared.logins.LoginRow.{LoginRow}
+use Rattle.clr_staff.specs.declared.logins.LoginRow.{LoginRow}
 use Rattle.clr_http.specs.declared.head.HeadFault.{HeadFault}
 use Rattle.clr_http.specs.declared.options.Service.{Service}
 use Rattle.clr_http.specs.declared.head.HeadFault.TheVariants as head_fault

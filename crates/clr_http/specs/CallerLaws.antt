@@ -1,8 +1,8 @@
 -- NO COMMAND IN ANOTHER'S NAME, and none of a page of elsewhere.
 use Rattle.std.specs.Prelude.{◌≡◌, ℕ, true, List, Some}
 use Rattle.httparse.specs.Grammar.{RequestHead}
-use Rattle.clr_logins.specs.Logins.{may_speak}
-use Rattle.clr_logins.specs.declared.logins.LoginRow.{LoginRow}
+use Rattle.clr_staff.specs.Logins.{may_speak}
+use Rattle.clr_staff.specs.declared.logins.LoginRow.{LoginRow}
 use Rattle.clr_rules.specs.declared.command.Command.{Command}
 use Rattle.clr_http.specs.Asked.{AsksAt}
 use Rattle.clr_http.specs.Callers.{login_of}

@@ -1,9 +1,9 @@
 -- IN WHOSE NAME A REQUEST MAY SPEAK: in any, or in those that its login may use.
 use Rattle.std.specs.Prelude.{ℕ, Bool, true, false, if◌then◌else◌, List, codes}
 use Rattle.std.specs.Prelude.{Option, None, Some}
-use Rattle.clr_logins.specs.Login.{read_login}
-use Rattle.clr_logins.specs.Logins.{may_speak}
-use Rattle.clr_logins.specs.declared.logins.LoginRow.{LoginRow}
+use Rattle.clr_staff.specs.Login.{read_login}
+use Rattle.clr_staff.specs.Logins.{may_speak}
+use Rattle.clr_staff.specs.declared.logins.LoginRow.{LoginRow}
 use Rattle.clr_rules.specs.declared.command.Command.{Command}
 use Rattle.clr_http.specs.Fields.{Field, only_field}
 use Rattle.clr_http.specs.Reading.{Reading, reading_asks, refused}

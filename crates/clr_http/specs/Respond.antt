@@ -13,7 +13,7 @@ use Rattle.clr_print.specs.Printed.{board_text, order_text}
 use Rattle.clr_text.specs.Reading.{read_command}
 use Rattle.clr_text.specs.Replies.{reply_text}
 use Rattle.clr_text.specs.declared.fault.TextFault.{TextFault}
-use Rattle.clr_logins.specs.declared.logins.LoginRow.{LoginRow}
+use Rattle.clr_staff.specs.declared.logins.LoginRow.{LoginRow}
 use Rattle.clr_view.specs.View.{network_text}
 use Rattle.clr_wayback.specs.Answer.{way_back_answer}
 use Rattle.clr_wayback.specs.Text.{way_back_text}

@@ -4,9 +4,9 @@ ghost use Rattle.httparse.specs.Spans.{IsHeaderWithin, header_bytes};
 ghost use Rattle.clr_http.specs.Callers.{login_may_speak, login_of, may_ask};
 
 use crate::fields::only_field;
-use clr_logins::{Login, Logins};
 use clr_net::Name;
 use clr_rules::{Command, Text};
+use clr_staff::{Login, Logins};
 use httparse::spans::HeaderSpan;
 use std::alloc::{AllocError, Global};
 

@@ -2,7 +2,7 @@
 ghost use Rattle.std.specs.Prelude.{◌≡◌};
 ghost use Rattle.clr_http.specs.Options.{plain};
 
-use clr_logins::Logins;
+use clr_staff::Logins;
 
 /// The options of a service. The plain one has none.
 #[derive(Debug, Drop)]

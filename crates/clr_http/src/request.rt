@@ -27,7 +27,7 @@ use crate::length::{LengthFault, body_length};
 use crate::options::Service;
 use crate::response::{Fault, Method, Response};
 use crate::target::{Target, target_of};
-use clr_logins::Login;
+use clr_staff::Login;
 use clr_stream::CountedRead;
 use httparse::spans::{EMPTY_HEADER_SPAN, HeaderSpan, RequestSpans};
 use std::alloc::Global;

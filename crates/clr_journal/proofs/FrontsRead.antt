@@ -4,9 +4,9 @@ use Rattle.std.proofs.Math.Seq.{take-append-add}
 use Rattle.std.proofs.lemmas.Bool.{and_parts, cases_lt, or_parts}
 use Rattle.std.proofs.lemmas.List.{take-append-le}
 use Rattle.std.specs.List.{list_any}
-use Rattle.clr_append.proofs.Pieces.{line_first, no_line}
-use Rattle.clr_append.specs.Lines.{ended_lines, is_line_feed}
-use Rattle.clr_result.specs.Results.{◌>>=◌}
+use Rattle.clr_journal.proofs.Pieces.{line_first, no_line}
+use Rattle.clr_journal.specs.Lines.{ended_lines, is_line_feed}
+use Rattle.clr_net.specs.Results.{◌>>=◌}
 use Rattle.clr_journal.proofs.JournalsRead.{is_the_next, lines_are_one_line, taken_by}
 use Rattle.clr_journal.specs.Journals.{bad_line, first_turn, in_turn, is_next, journal_text, lines_read, next_place, turn_after}
 use Rattle.clr_journal.specs.Laws.{FrontsRead, ReadBack}

@@ -3,10 +3,10 @@ use Rattle.std.proofs.Common.{◌≡◌, ◌∙◌, ◌&&◌, ◌++◌, ℕ, Boo
 use Rattle.std.proofs.lemmas.Bool.{and_from, and_parts}
 use Rattle.std.specs.List.{list_any}
 use Rattle.serde_json.specs.Data.{Data}
-use Rattle.clr_append.proofs.Pieces.{line_first, no_line}
-use Rattle.clr_append.specs.Lines.{ended_lines, is_line_feed}
-use Rattle.clr_result.specs.Results.{◌>>=◌}
-use Rattle.clr_deeds.specs.Deeds.{Deed}
+use Rattle.clr_journal.proofs.Pieces.{line_first, no_line}
+use Rattle.clr_journal.specs.Lines.{ended_lines, is_line_feed}
+use Rattle.clr_net.specs.Results.{◌>>=◌}
+use Rattle.clr_changes.specs.Deeds.{Deed}
 use Rattle.clr_text.proofs.PlainTexts.{one_line}
 use Rattle.clr_journal.specs.Journals.{bad_line, carried_out, first_turn, if_next, in_turn, is_next, journal_text, lines_read, next_line, next_place, onto_some, own_pair, turn_after, withdraws}
 use Rattle.clr_journal.specs.Laws.{DeedsGrow, JournalsReadBack, LinesAreOneLine, LinesGrow, ReadBack, WithdrawnIsLeftOut, turn_behind}

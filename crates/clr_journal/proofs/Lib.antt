@@ -4,3 +4,6 @@ pub mod LinesRead
 pub mod RepliesFlat
 pub mod Values
 pub mod Written
+pub mod Pieces
+pub mod Back
+pub mod NoFloats

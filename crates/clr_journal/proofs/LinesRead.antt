@@ -4,9 +4,9 @@ use Rattle.std.specs.Result.{result_ok}
 use Rattle.serde_json.specs.Data.{Data, depth, string}
 use Rattle.serde_json.specs.Read.{read}
 use Rattle.serde_json.specs.Written.{has_float}
-use Rattle.clr_deeds.specs.Deeds.{archive, command, update}
-use Rattle.clr_delta.proofs.NoFloats.{in_changes}
-use Rattle.clr_delta.specs.Delta.{changes_data, changes_in}
+use Rattle.clr_changes.specs.Deeds.{archive, command, update}
+use Rattle.clr_journal.proofs.NoFloats.{in_changes}
+use Rattle.clr_journal.specs.Delta.{changes_data, changes_in}
 use Rattle.clr_rules.specs.Moment.{is_moment}
 use Rattle.clr_rules.specs.declared.command.Command.{Command}
 use Rattle.clr_rules.specs.declared.reply.Reply.{Reply}

@@ -6,9 +6,9 @@ use Rattle.std.specs.Prelude.{bytes_eq}
 use Rattle.std.proofs.lemmas.Str.{is_utf8-from_IsUtf8}
 use Rattle.json.proofs.Printed.Utf8.{IsUtf8-are_ascii, are_ascii}
 use Rattle.serde_json.specs.Data.{Data, Members, boolean, depth, member, no_members, object, string}
-use Rattle.clr_deeds.specs.Deeds.{Deed, archive, command, update}
-use Rattle.clr_delta.proofs.Back.{change_values_are_plain, changes_read_back}
-use Rattle.clr_delta.specs.Delta.{can_be_said, changes_data}
+use Rattle.clr_changes.specs.Deeds.{Deed, archive, command, update}
+use Rattle.clr_journal.proofs.Back.{change_values_are_plain, changes_read_back}
+use Rattle.clr_journal.specs.Delta.{can_be_said, changes_data}
 use Rattle.clr_rules.specs.Moment.{is_moment}
 use Rattle.clr_rules.specs.declared.command.Command.{Command}
 use Rattle.clr_update.specs.Changes.{Changes}

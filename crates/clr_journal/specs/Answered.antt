@@ -4,7 +4,7 @@ use Rattle.std.specs.Prelude.{List, [], ◌∷◌, codes, if◌then◌else◌}
 use Rattle.serde_json.specs.Data.{Data, member, no_members, object, string}
 use Rattle.clr_rules.specs.Answer.{Answer, answer}
 use Rattle.clr_rules.specs.Register.{Register}
-use Rattle.clr_deeds.specs.Deeds.{Deed, after_deed, archive, command, update}
+use Rattle.clr_changes.specs.Deeds.{Deed, after_deed, archive, command, update}
 use Rattle.clr_text.specs.Replies.{reply_data}
 use Rattle.clr_update.specs.Delta.{can_be_made}
 use Rattle.clr_journal.specs.Line.{done}

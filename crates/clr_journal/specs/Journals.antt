@@ -4,9 +4,9 @@ use Rattle.std.specs.Prelude.{◌+◌, ◌-◌, ◌^◌, ◌==◌, ◌&&◌, ℕ
 use Rattle.std.specs.Prelude.{List, [], ◌∷◌, map, Option, None, Some, Result, Ok, ok_or}
 use Rattle.std.specs.Prelude.{if◌then◌else◌, option_and_then}
 use Rattle.serde_json.specs.Data.{Data}
-use Rattle.clr_append.specs.Lines.{ended_lines, text_of}
-use Rattle.clr_result.specs.Results.{◌>>=◌}
-use Rattle.clr_deeds.specs.Deeds.{Deed}
+use Rattle.clr_journal.specs.Lines.{ended_lines, text_of}
+use Rattle.clr_net.specs.Results.{◌>>=◌}
+use Rattle.clr_changes.specs.Deeds.{Deed}
 use Rattle.clr_journal.specs.Line.{Entry, carried, withdrawn, is_accepted, line_text, read_line}
 use Rattle.clr_journal.specs.declared.reading.Turn.{Turn}
 

@@ -6,9 +6,9 @@ use Rattle.std.specs.List.{list_any}
 use Rattle.std.specs.Str.{is_utf8}
 use Rattle.serde_json.specs.Data.{Data, Members, array, boolean, depth, member, no_members, null}
 use Rattle.serde_json.specs.Data.{number, object, string}
-use Rattle.clr_append.specs.Lines.{is_line_feed}
-use Rattle.clr_deeds.specs.Deeds.{Deed, archive, command, update}
-use Rattle.clr_delta.specs.Delta.{can_be_said}
+use Rattle.clr_journal.specs.Lines.{is_line_feed}
+use Rattle.clr_changes.specs.Deeds.{Deed, archive, command, update}
+use Rattle.clr_journal.specs.Delta.{can_be_said}
 use Rattle.clr_rules.specs.Moment.{is_moment}
 use Rattle.clr_text.specs.CommandLaws.{is_plain}
 use Rattle.clr_text.specs.CommandText.{can_be_sent}

@@ -3,3 +3,8 @@ pub mod Journals
 pub mod Laws
 pub mod Opening
 pub mod Answered
+pub mod Journal
+pub mod Lines
+pub mod DeltaRows
+pub mod Delta
+pub mod DeltaLaws

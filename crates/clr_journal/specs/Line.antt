@@ -12,8 +12,8 @@ use Rattle.serde_json.specs.Written.{compact_text}
 use Rattle.clr_rules.specs.declared.command.Command.{Command}
 use Rattle.clr_rules.specs.declared.command.Kind.{Kind}
 use Rattle.clr_rules.specs.declared.command.Kind.TheVariants as kinds
-use Rattle.clr_deeds.specs.Deeds.{Deed, archive, command, deed_of, update}
-use Rattle.clr_delta.specs.Delta.{changes_data, changes_in}
+use Rattle.clr_changes.specs.Deeds.{Deed, archive, command, deed_of, update}
+use Rattle.clr_journal.specs.Delta.{changes_data, changes_in}
 use Rattle.clr_text.specs.CommandText.{command_data}
 use Rattle.clr_text.specs.Json.{optional_data, whole_data}
 use Rattle.clr_text.specs.Reading.{command_in, value_of}

@@ -2,7 +2,7 @@
 ghost use Rattle.std.specs.Prelude.{◌≡◌, ◌&&◌, IfOk, map, not, option_map, None, Some};
 ghost use Rattle.std.specs.Prelude.{if◌then◌else◌};
 ghost use Rattle.serde_json.specs.View.{view};
-ghost use Rattle.clr_deeds.specs.Deeds.{deed_of};
+ghost use Rattle.clr_changes.specs.Deeds.{deed_of};
 ghost use Rattle.clr_journal.specs.Journals.{carried_out, own_pair, withdraws};
 ghost use Rattle.clr_journal.specs.Line.{entry_of};
 

@@ -3,7 +3,7 @@ ghost use Rattle.std.specs.Prelude.{◌≡◌};
 ghost use Rattle.serde_json.specs.View.{view};
 ghost use Rattle.clr_journal.specs.Line.{is_accepted, says};
 
-use clr_deeds::Deed;
+use clr_changes::Deed;
 use clr_rules::Text;
 use serde_json::Value;
 

@@ -3,8 +3,8 @@ ghost use Rattle.std.specs.Prelude.{◌≡◌, IfOk, IsTrue, Some, string_bytes,
 ghost use Rattle.std.specs.List.{list_all};
 ghost use Rattle.serde_json.specs.View.{view};
 ghost use Rattle.serde_json.specs.Data.{string};
-ghost use Rattle.clr_deeds.specs.Deeds.{archive, command as asked, update};
-ghost use Rattle.clr_delta.specs.Rows.{is_open};
+ghost use Rattle.clr_changes.specs.Deeds.{archive, command as asked, update};
+ghost use Rattle.clr_journal.specs.DeltaRows.{is_open};
 ghost use Rattle.clr_update.specs.Shown.{as_changes};
 ghost use Rattle.clr_text.specs.CommandText.{has_its_moment};
 ghost use Rattle.clr_text.specs.Json.{optional_data};
@@ -13,8 +13,8 @@ ghost use Rattle.clr_journal.specs.Line.{archive_data, bare, carried, done, entr
 ghost use Rattle.clr_journal.specs.Line.{read_line, withdrawn};
 
 use crate::line::Receipt;
-use clr_deeds::Changes;
-use clr_delta::{can_be_said, changes_value};
+use crate::{can_be_said, changes_value};
+use clr_changes::Changes;
 use clr_rules::{Command, Moment, Reply, Text};
 use clr_text::{can_be_sent, command_value, reply_value};
 use serde_json::{Value, json};

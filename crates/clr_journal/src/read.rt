@@ -4,15 +4,15 @@ ghost use Rattle.serde_json.specs.Find.{get};
 ghost use Rattle.serde_json.specs.View.{view};
 ghost use Rattle.clr_text.specs.Reading.{value_of};
 ghost use Rattle.clr_text.specs.Values.{moment_in, whole};
-ghost use Rattle.clr_delta.specs.Delta.{changes_in};
+ghost use Rattle.clr_journal.specs.Delta.{changes_in};
 ghost use Rattle.clr_update.specs.Shown.{as_changes};
 ghost use Rattle.clr_journal.specs.Line.{archived_in, at_key, bare_receipt_in, carried_in};
 ghost use Rattle.clr_journal.specs.Line.{command_at, done, entry_of, line_in, login_in, read_line};
 ghost use Rattle.clr_journal.specs.Line.{receipt_in, updated_in, withdrawn_in};
 
+use crate::changes_in;
 use crate::line::{Carried, Line, Receipt};
-use clr_deeds::{Changes, Deed};
-use clr_delta::changes_in;
+use clr_changes::{Changes, Deed};
 use clr_rules::{Command, Moment, Text};
 use clr_text::{TextFault, command_in};
 use serde_json::{Value, json};

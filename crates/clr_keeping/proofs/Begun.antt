@@ -5,9 +5,9 @@ use Rattle.sqlite.specs.Held.{Held, state}
 use Rattle.sqlite.specs.State.{HasCleanDisk}
 use Rattle.sqlite_trees.specs.declared.store.Store.{Ghosts}
 use Rattle.clr_rules.specs.Register.{Register}
-use Rattle.clr_place.specs.declared.place.Place.{Place}
-use Rattle.clr_tables.specs.TableEdits.{tables_edited}
-use Rattle.clr_tables.specs.Tables.{Tables, place_row, tables_of}
+use Rattle.clr_rules.specs.declared.place.Place.{Place}
+use Rattle.clr_load.specs.TableEdits.{tables_edited}
+use Rattle.clr_load.specs.Tables.{Tables, place_row, tables_of}
 use Rattle.clr_load.specs.Stored.{ArePlaced, HasTables}
 use Rattle.clr_store.specs.Contract.{MakesEditsAt}
 use Rattle.clr_level.proofs.BegunLevel.{begun_level}

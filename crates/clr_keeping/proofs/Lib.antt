@@ -3,3 +3,11 @@ pub mod Keeping
 pub mod LetGo
 pub mod PartsLevel
 pub mod TakenUp
+pub mod BrokenParts
+pub mod KindSteps
+pub mod NoWord
+pub mod PartLines
+pub mod PrintedJournal
+pub mod PrintedParts
+pub mod SentTexts
+pub mod StepTexts

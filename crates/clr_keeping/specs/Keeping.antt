@@ -14,8 +14,8 @@ use Rattle.clr_desk.specs.Placing.{Placing}
 use Rattle.clr_desk.specs.Taking.{HearsNothing, PassesOver}
 use Rattle.clr_desk.specs.declared.commit.Commit as commit
 use Rattle.clr_desk.specs.declared.desk.Desk.{Desk}
-use Rattle.clr_place.specs.declared.place.Place.{Place}
-use Rattle.clr_append.specs.declared.journal.Journal as append
+use Rattle.clr_rules.specs.declared.place.Place.{Place}
+use Rattle.clr_journal.specs.declared.journal.Journal as append
 use Rattle.clr_level.specs.Journaling.{FailsToo, HearsLogin, IsSound, Journals, is_doubtful}
 use Rattle.clr_level.specs.Levelling.{IsKeptLevel}
 use Rattle.clr_level.specs.Restarting.{IsSafeAt}

@@ -2,7 +2,7 @@
 use Rattle.std.specs.Prelude.{◌++◌, List}
 use Rattle.sqlite.specs.State.{State}
 use Rattle.clr_rules.specs.Register.{Register}
-use Rattle.clr_place.specs.declared.place.Place.{Place}
+use Rattle.clr_rules.specs.declared.place.Place.{Place}
 use Rattle.clr_journal.specs.Line.{Entry}
 use Rattle.clr_chain.specs.Level.{IsLevel, place_after}
 use Rattle.clr_desk.specs.Placing.{Placing}

@@ -6,14 +6,14 @@ use Rattle.sqlite.specs.Held.{Held, state}
 use Rattle.sqlite.specs.Order.{Row}
 use Rattle.sqlite.specs.State.{HasCleanDisk, State, Survives}
 use Rattle.sqlite_trees.specs.declared.store.Store.{Ghosts}
-use Rattle.clr_append.specs.declared.journal.Journal as append
+use Rattle.clr_journal.specs.declared.journal.Journal as append
 use Rattle.clr_rules.specs.Fit.{IsFit}
 use Rattle.clr_rules.specs.Good.{IsGood}
 use Rattle.clr_rules.specs.Register.{Register}
 use Rattle.clr_rules.specs.Staffed.{IsStaffed}
-use Rattle.clr_place.specs.declared.place.Place.{Place}
-use Rattle.clr_tables.specs.RowsRead.{place_read}
-use Rattle.clr_tables.specs.Tables.{Tables, place_row}
+use Rattle.clr_rules.specs.declared.place.Place.{Place}
+use Rattle.clr_load.specs.RowsRead.{place_read}
+use Rattle.clr_load.specs.Tables.{Tables, place_row}
 use Rattle.clr_load.specs.Cause.{SqlHasCause}
 use Rattle.clr_load.specs.Contract.{Gives, IsSaved}
 use Rattle.clr_load.specs.Stored.{ArePlaced, HasTables}

@@ -11,16 +11,15 @@ ghost use Rattle.clr_keeping.specs.TakenUp.{IsOfTakingUp, logs};
 ghost use Rattle.clr_edge.specs.Visit.{Alone, Comes};
 
 use crate::taking_up::{Opened, take_up};
-use clr_append::Journal;
 use clr_chain::Clock;
 use clr_desk::{CommitAt, Desk};
 use clr_edge::database::{Databases, Makes, close, first_fault, settled};
 use clr_edge::fault::{Fault, JournalFault};
 use clr_edge::journals::Journals;
+use clr_journal::Journal;
 use clr_level::Keeper;
 use clr_net::Network;
-use clr_place::Place;
-use clr_rules::{Change, Text};
+use clr_rules::{Change, Place, Text};
 use clr_staff::Staff;
 use clr_store::{Back, Store};
 use sqlite::{Alter, Connection};

@@ -14,14 +14,14 @@ ghost use Rattle.clr_keeping.specs.TakenUp.{LacksPlace};
 ghost use Rattle.clr_keeping.specs.TakenUp.{LeavesFronts, MissesOne, OpensLevel, RollsForward};
 ghost use Rattle.clr_keeping.specs.TakenUp.{StaysRead, StopsForward, entries_of, logs, of_opening};
 
-use clr_append::Journal;
 use clr_chain::{Ahead, Clock};
 use clr_desk::{Commit, CommitAt, Desk};
 use clr_edge::database::{Databases, close, desk_over};
 use clr_edge::fault::{Fault, JournalFault};
 use clr_edge::journals::{Journals, OpenedJournal};
+use clr_journal::Journal;
 use clr_level::{Keeper, OpeningFault, with_journal};
-use clr_place::Place;
+use clr_rules::Place;
 use clr_store::Store;
 use sqlite::{Alter, Connection};
 use std::alloc::Global;

@@ -15,9 +15,9 @@ use Rattle.clr_net.specs.declared.section.SectionRow.{SectionRow}
 use Rattle.clr_csv.specs.Points.{points_of}
 use Rattle.clr_csv.specs.Sections.{sections_of}
 use Rattle.clr_csv.specs.declared.fault.CsvFault.{CsvFault}
-use Rattle.clr_check.specs.Alike.{differ_by_one_letter}
-use Rattle.clr_check.specs.Regrets.{alike, regrets}
-use Rattle.clr_check.specs.Text.{regret_lines}
+use Rattle.clr_csv.specs.Alike.{differ_by_one_letter}
+use Rattle.clr_csv.specs.Warnings.{alike, warnings}
+use Rattle.clr_csv.specs.WarningText.{warning_lines}
 use Rattle.clr_rules.proofs.Common.{after_edits, greatest_number, row_of, steps_in, with_row}
 use Rattle.clr_rules.proofs.good.Opening.{opening_is_good}
 use Rattle.clr_rules.specs.Answer.{Answer, answer}
@@ -50,7 +50,7 @@ use Rattle.clr_commands.specs.Init.{counts_of}
 use Rattle.clr_commands.specs.Replies.{AnswersInput, PrintsAnswers, answers, as_lines, asked_commands, asked_lines, reading_of, readings_of}
 use Rattle.clr_commands.specs.Run.{IsRunOf, rows_fault}
 use Rattle.clr_commands.specs.declared.replies.Printed.{Printed}
-use Rattle.clr_known.specs.FilesAlone.{IsReply, IsUnanswered, IsUnreadNetwork, RepliesToRequest, l2_fence, request_input, request_line, request_reply, worked_regrets}
+use Rattle.clr_known.specs.FilesAlone.{IsReply, IsUnanswered, IsUnreadNetwork, RepliesToRequest, l2_fence, request_input, request_line, request_reply, worked_warnings}
 use Rattle.clr_known.specs.Known.{point_file, section_file, staff_file, worked_counts}
 use Rattle.clr_known.proofs.KnownAnswers.{counts_known, known_read, opening_given, rows_read, worked_files, worked_rows}
 use Rattle.clr_known.proofs.WorkedRows.{file_sections, is_worked_net, is_worked_staff, points_read, sections_read}
@@ -104,26 +104,26 @@ fence_given s p sections points cut same result it =
     (subst (λ (s : Option (List ℕ)). IfSome s (λ sections. IfSome p (λ points. FencesFiles sections points L2 cut result))) sections it)))
 
 -- ---- check
-regrets_known : regret_lines (regrets worked_net worked_staff) ≡ worked_regrets
+warnings_known : warning_lines (warnings worked_net worked_staff) ≡ worked_warnings
 unfolding in_fence reaches alike differ_by_one_letter
-regrets_known = refl
+warnings_known = refl
 
-regrets_told : (answer : Result (List ℕ) Fault) → IsCheckOf worked_rows answer → answer ≡ Ok worked_regrets
-regrets_told (Ok text) (fits, has) =
+warnings_told : (answer : Result (List ℕ) Fault) → IsCheckOf worked_rows answer → answer ≡ Ok worked_warnings
+warnings_told (Ok text) (fits, has) =
     ap (λ (t : List ℕ). Ok t) (has.lines
-    ∙ (λ i. regret_lines (regrets (is_worked_net has.net has.is_network i) (is_worked_staff has.team has.is_staff i)))
-    ∙ regrets_known)
-regrets_told (Err fault) unfit = absurd (cc (sym rows_fit ∙ unfit))
+    ∙ (λ i. warning_lines (warnings (is_worked_net has.net has.is_network i) (is_worked_staff has.team has.is_staff i)))
+    ∙ warnings_known)
+warnings_told (Err fault) unfit = absurd (cc (sym rows_fit ∙ unfit))
 
-regrets_printed : (result : Result (String Global) Fault) → ChecksRows worked_rows result → GivesText IsUnreadFile (Ok worked_regrets) result
-regrets_printed (Ok text) it = sym (regrets_told (Ok (string_bytes text)) it)
-regrets_printed (Err fault) why = λ other. sym (regrets_told (Err fault) (why (λ memory. other (inl (inl memory)))))
+warnings_printed : (result : Result (String Global) Fault) → ChecksRows worked_rows result → GivesText IsUnreadFile (Ok worked_warnings) result
+warnings_printed (Ok text) it = sym (warnings_told (Ok (string_bytes text)) it)
+warnings_printed (Err fault) why = λ other. sym (warnings_told (Err fault) (why (λ memory. other (inl (inl memory)))))
 
-pub regrets_given : (s p e : Option (List ℕ)) → s ≡ Some section_file → p ≡ Some point_file → e ≡ Some staff_file
+pub warnings_given : (s p e : Option (List ℕ)) → s ≡ Some section_file → p ≡ Some point_file → e ≡ Some staff_file
     → (read : Result FileRows Fault) → AreRead s p e read → (result : Result (String Global) Fault) → After read ChecksRows result
-    → GivesText IsUnreadFile (Ok worked_regrets) result
-regrets_given s p e sections points staff read are result it =
-    text_given ChecksRows worked_regrets regrets_printed read result (known_read s p e sections points staff read are) it
+    → GivesText IsUnreadFile (Ok worked_warnings) result
+warnings_given s p e sections points staff read are result it =
+    text_given ChecksRows worked_warnings warnings_printed read result (known_read s p e sections points staff read are) it
 
 -- ---- init
 counts_printed : (result : Result (String Global) Fault) → GivesText IsMemory (counts_of worked_rows) result → GivesText IsUnreadFile (Ok worked_counts) result

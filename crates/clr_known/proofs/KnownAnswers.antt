@@ -16,9 +16,9 @@ use Rattle.clr_desk.specs.Faults.{FailsAsStore}
 use Rattle.clr_load.specs.Stored.{HasTables}
 use Rattle.clr_load.specs.declared.fault.StoreFault.{StoreFault}
 use Rattle.clr_load.specs.declared.fault.StoreFault.TheVariants as store
-use Rattle.clr_tables.specs.Tables.{tables_of}
+use Rattle.clr_load.specs.Tables.{tables_of}
 use Rattle.clr_csv.specs.declared.fault.CsvFault.{CsvFault}
-use Rattle.clr_result.specs.Results.{◌>>=◌}
+use Rattle.clr_net.specs.Results.{◌>>=◌}
 use Rattle.clr_edge.specs.Answers.{After}
 use Rattle.clr_edge.specs.Files.{told_of}
 use Rattle.clr_edge.specs.declared.fault.ImportFile.TheVariants.{Points, Sections, Staff}

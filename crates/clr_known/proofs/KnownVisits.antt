@@ -10,7 +10,7 @@ use Rattle.clr_rules.specs.Good.{IsGood}
 use Rattle.clr_rules.specs.Id.{Id}
 use Rattle.clr_rules.specs.Register.{Register}
 use Rattle.clr_http.specs.declared.registrar.Registrar as registrar
-use Rattle.clr_logins.specs.declared.logins.LoginRow.{LoginRow}
+use Rattle.clr_staff.specs.declared.logins.LoginRow.{LoginRow}
 use Rattle.clr_args.specs.declared.asked.ServeArgs.{ServeArgs}
 use Rattle.clr_commands.specs.declared.serve.Terms.{Terms}
 use Rattle.clr_edge.specs.Database.{HasRegister, IsOfLine}

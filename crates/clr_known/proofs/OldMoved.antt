@@ -10,10 +10,10 @@ use Rattle.clr_rules.proofs.Common.{in_fence, reaches, row_of, with_row, without
 use Rattle.clr_rules.proofs.Common.{after_edits, touching_names, held_among, hindering_hold, first_of_each, places_of, after_all}
 use Rattle.clr_rules.specs.declared.command.Command.{Command}
 use Rattle.clr_examples.specs.Worked.{worked_opening}
-use Rattle.clr_tables.specs.RowsRead.{all_read, read_placed, read_version}
-use Rattle.clr_tables.specs.TableLaws.{HasNoJumper}
-use Rattle.clr_tables.specs.Tables.{Tables, tables_by, tables_of, version_one}
-use Rattle.clr_tables.specs.declared.table_name.TableName.TheVariants.{Meta, Section, Point, Staff, Clearance, Step, Hold, NetworkPoint, Journal}
+use Rattle.clr_load.specs.RowsRead.{all_read, read_placed, read_version}
+use Rattle.clr_load.specs.TableLaws.{HasNoJumper}
+use Rattle.clr_load.specs.Tables.{Tables, tables_by, tables_of, version_one}
+use Rattle.clr_load.specs.declared.table_name.TableName.TheVariants.{Meta, Section, Point, Staff, Clearance, Step, Hold, NetworkPoint, Journal}
 use Rattle.clr_load.specs.Contract.{old_points}
 use Rattle.clr_load.specs.Stored.{HasTables}
 use Rattle.clr_load.specs.declared.fault.StoreFault.{StoreFault}

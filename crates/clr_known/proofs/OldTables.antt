@@ -21,9 +21,9 @@ use Rattle.clr_rules.proofs.Common.{in_fence, reaches, row_of, with_row, without
 use Rattle.clr_rules.proofs.Common.{after_edits, touching_names, held_among, hindering_hold, first_of_each, places_of, after_all}
 use Rattle.clr_rules.specs.declared.command.Command.{Command}
 use Rattle.clr_examples.specs.Worked.{worked_opening}
-use Rattle.clr_tables.specs.Tables.{Tables, tables_by, version_one}
-use Rattle.clr_tables.specs.declared.table_name.TableName.{TableName}
-use Rattle.clr_tables.specs.declared.table_name.TableName.TheVariants.{Meta, Section, Point, Staff, Clearance, Step, Hold, NetworkPoint, Journal}
+use Rattle.clr_load.specs.Tables.{Tables, tables_by, version_one}
+use Rattle.clr_load.specs.declared.table_name.TableName.{TableName}
+use Rattle.clr_load.specs.declared.table_name.TableName.TheVariants.{Meta, Section, Point, Staff, Clearance, Step, Hold, NetworkPoint, Journal}
 use Rattle.clr_load.proofs.Inside.{then_runs}
 use Rattle.clr_load.proofs.Loading.{then_kept}
 use Rattle.clr_load.specs.Fault.{IsOfDatabase}

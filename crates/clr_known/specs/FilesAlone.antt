@@ -27,8 +27,8 @@ IsUnreadNetwork fault = IsUnread Sections fault ⊎ IsUnread Points fault
 
 -- nobody is over BOSS and KIM, the tie cannot be locked, and of two pairs of names each differs by
 -- one letter
-abbrev pub worked_regrets : List ℕ
-worked_regrets =
+abbrev pub worked_warnings : List ℕ
+worked_warnings =
     codes "employee BOSS may hold a clearance and has no supervisor\n"
     ++ codes "employee KIM may hold a clearance and has no supervisor\n"
     ++ codes "point T1 can be locked by nothing\n"
@@ -67,6 +67,6 @@ RepliesToRequest result = Answers IsUnanswered (λ printed. printed) IsReply res
 pub record ArePrinted (fenced checked counted : Result (String Global) Fault)
     (replied : Result Printed Fault) : Type 0 where
   pub fence_is : GivesText IsUnreadNetwork (Ok l2_fence) fenced
-  pub regrets_are : GivesText IsUnreadFile (Ok worked_regrets) checked
+  pub warnings_are : GivesText IsUnreadFile (Ok worked_warnings) checked
   pub counts_are : GivesText IsUnreadFile (Ok worked_counts) counted
   pub reply_is : RepliesToRequest replied

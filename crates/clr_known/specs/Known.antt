@@ -18,7 +18,7 @@ use Rattle.clr_examples.specs.Worked.{worked_opening}
 use Rattle.clr_stream.specs.Streams.{Stream}
 use Rattle.clr_print.specs.Printed.{board_text}
 use Rattle.clr_text.specs.Lines.{commands_in}
-use Rattle.clr_tables.specs.Tables.{tables_of}
+use Rattle.clr_load.specs.Tables.{tables_of}
 use Rattle.clr_load.specs.Stored.{HasTables}
 use Rattle.clr_desk.specs.Faults.{FailsAsStore}
 use Rattle.clr_http.specs.Answered.{Source}

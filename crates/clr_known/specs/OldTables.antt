@@ -12,10 +12,10 @@ use Rattle.sqlite.specs.declared.transaction.Transaction.{Transaction}
 use Rattle.sqlite.specs.declared.types.Value.TheVariants.{Null, Text}
 use Rattle.clr_examples.specs.Worked.{BOSS, DALE, G, H, JONES, KIM, L1, L2, L3, OPS, REED, S1, S2}
 use Rattle.clr_examples.specs.Worked.{S3, S4, T1}
-use Rattle.clr_tables.specs.Tables.{Tables, number_value, tables_by, tables_of, version_one}
-use Rattle.clr_tables.specs.declared.table_name.TableName.{TableName}
-use Rattle.clr_tables.specs.declared.table_name.TableName.TheVariants.{Meta, Section, Point, Staff}
-use Rattle.clr_tables.specs.declared.table_name.TableName.TheVariants.{Clearance, Step, Hold}
+use Rattle.clr_load.specs.Tables.{Tables, number_value, tables_by, tables_of, version_one}
+use Rattle.clr_load.specs.declared.table_name.TableName.{TableName}
+use Rattle.clr_load.specs.declared.table_name.TableName.TheVariants.{Meta, Section, Point, Staff}
+use Rattle.clr_load.specs.declared.table_name.TableName.TheVariants.{Clearance, Step, Hold}
 use Rattle.clr_load.specs.Fault.{IsOfDatabase}
 use Rattle.clr_load.specs.Inside.{RunsInside}
 use Rattle.clr_load.specs.Stored.{HasOldTables, HasTables, Keeps}

@@ -3,8 +3,8 @@ ghost use Rattle.std.specs.Prelude.{◌≡◌, false, IfErr, IfOk, IsTrue, None}
 ghost use Rattle.clr_edge.specs.Database.{IsOfLine};
 ghost use Rattle.clr_known.specs.Known.{IsAlwaysClean};
 
-use clr_append::{Journal, OnDisk};
 use clr_edge::fault::Fault;
+use clr_journal::{Journal, OnDisk};
 use clr_load::StoreFault;
 use sqlite::{Alter, Connection, FileStore, Options};
 use sqlite_disk::{Disk, Files, Memory};

@@ -8,8 +8,8 @@ ghost use Rattle.clr_examples.specs.Worked.{worked_net, worked_opening, worked_s
 ghost use Rattle.clr_rules.specs.declared.command.Command.{Command as AnyCommand};
 ghost use Rattle.clr_load.specs.Contract.{IsSaved};
 ghost use Rattle.clr_load.specs.Stored.{HasTables};
-ghost use Rattle.clr_tables.specs.Tables.{tables_of};
-ghost use Rattle.clr_tables.specs.TypedRows.{IsTyped};
+ghost use Rattle.clr_load.specs.Tables.{tables_of};
+ghost use Rattle.clr_load.specs.TypedRows.{IsTyped};
 ghost use Rattle.clr_text.specs.Lines.{commands_in};
 ghost use Rattle.clr_text.specs.Reading.{read_command};
 ghost use Rattle.clr_edge.specs.Database.{HasRegister, IsOfLine};

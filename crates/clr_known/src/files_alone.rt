@@ -5,7 +5,7 @@ ghost use Rattle.clr_commands.specs.Answers.{GivesText};
 ghost use Rattle.clr_commands.specs.Import.{IsUnreadFile};
 ghost use Rattle.clr_examples.specs.Worked.{S2, S3};
 ghost use Rattle.clr_known.specs.FilesAlone.{ArePrinted, IsUnreadNetwork, RepliesToRequest};
-ghost use Rattle.clr_known.specs.FilesAlone.{l2_fence, request_input, worked_regrets};
+ghost use Rattle.clr_known.specs.FilesAlone.{l2_fence, request_input, worked_warnings};
 ghost use Rattle.clr_known.specs.Known.{HasWorkedFiles, worked_counts};
 
 use crate::blank::Blank;
@@ -33,7 +33,7 @@ const REQUEST: &[u8] = b"{\"at\":100,\"by\":\"JONES\",\"do\":\"request\",\"secti
 pub struct OfFiles {
     /// The fence of L2, cut at S2 and S3.
     pub fenced: Result<String, Fault>,
-    /// What is regretted of the network and the staff.
+    /// The warnings about the network and the staff.
     pub checked: Result<String, Fault>,
     /// How many rows each file has.
     pub counted: Result<String, Fault>,
@@ -67,10 +67,10 @@ fn fence_of_l2<'a, O: Opens<'a>>(alloc: Global, paths: &O) -> Result<String, Fau
     fence(alloc, paths, &args)
 }
 
-/// What a control room would regret of the worked files.
-fn regrets_of_files<'a, O: Opens<'a>>(alloc: Global, paths: &O) -> Result<String, Fault>
+/// The warnings about the worked files.
+fn warnings_of_files<'a, O: Opens<'a>>(alloc: Global, paths: &O) -> Result<String, Fault>
     requires { HasWorkedFiles (O.bytes_at paths.now) }
-    ensures { GivesText IsUnreadFile (Ok worked_regrets) result }
+    ensures { GivesText IsUnreadFile (Ok worked_warnings) result }
 {
     let files = Files {
         sections: "sections.csv",
@@ -134,7 +134,7 @@ fn of_files<'a, R: Makes + Journals, O: Opens<'a>, I: CountedRead>(
     ensures machine { machine.new ≡ machine.old }
 {
     let fenced = fence_of_l2(alloc, paths);
-    let checked = regrets_of_files(alloc, paths);
+    let checked = warnings_of_files(alloc, paths);
     let counted = counts_of_files(alloc, machine, paths);
     let replied = reply_over_files(alloc, machine, paths, input);
     OfFiles {

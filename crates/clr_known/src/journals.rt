@@ -8,7 +8,7 @@ use crate::version_one::OldKnown;
 use clr_chain::Clock;
 use clr_edge::fault::{Fault, JournalFault};
 use clr_edge::journals::{Journals, OpenedJournal};
-use clr_place::Place;
+use clr_rules::Place;
 
 /// Each journal fails to open.
 impl<B: Blank + Drop> Journals for Known<B> {

@@ -5,7 +5,7 @@ ghost use Rattle.sqlite.specs.Held.{state};
 ghost use Rattle.sqlite.specs.State.{HasCleanDisk};
 ghost use Rattle.sqlite.specs.Values.{bound};
 ghost use Rattle.sqlite_value.specs.Value.{owned};
-ghost use Rattle.clr_tables.specs.Tables.{number_value};
+ghost use Rattle.clr_load.specs.Tables.{number_value};
 ghost use Rattle.clr_load.specs.Layout.{has_table, names_before, names_in};
 ghost use Rattle.clr_load.specs.Schema.{columns_in, no_schema};
 ghost use Rattle.clr_load.specs.Sql.{create_sql, insert_sql};
@@ -17,8 +17,7 @@ ghost use Rattle.clr_known.specs.OldTables.{first_step_tables, jones_in_one, poi
 ghost use Rattle.clr_known.specs.OldTables.{section_in_one, waiting_in_one, with_all, with_one};
 ghost use Rattle.clr_known.specs.OldTables.{with_tables};
 
-use clr_load::StoreFault;
-use clr_tables::TableName;
+use clr_load::{StoreFault, TableName};
 use sqlite::types::ValueRef;
 use sqlite::{Alter, Connection, Transaction};
 use sqlite_schema::schema::Schema;

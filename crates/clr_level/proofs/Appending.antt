@@ -4,7 +4,7 @@ use Rattle.std.proofs.Math.Seq.{take-length}
 use Rattle.std.proofs.lemmas.Grind.{same_number_lists}
 use Rattle.std.proofs.lemmas.List.{get_or-take, length-take, length-take-le, take-append-le}
 use Rattle.sqlite_disk.specs.Disk.{Follows, Only}
-use Rattle.clr_append.specs.Journal.{BeginsWith, Grown, with_line}
+use Rattle.clr_journal.specs.Journal.{BeginsWith, Grown, with_line}
 use Rattle.clr_level.specs.Journaling.{IsDurable, IsKept, IsSafe, StaySafe}
 
 pub begins_itself : (text : List ℕ) → BeginsWith text text

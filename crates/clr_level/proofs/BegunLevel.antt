@@ -1,8 +1,8 @@
 -- A register and the journal that it begins with can be opened.
 use Rattle.std.proofs.Common.{[], refl, sym, append-nil}
 use Rattle.sqlite.specs.State.{State}
-use Rattle.clr_append.specs.Lines.{with_feed}
-use Rattle.clr_deeds.specs.Deeds.{after_deeds}
+use Rattle.clr_journal.specs.Lines.{with_feed}
+use Rattle.clr_changes.specs.Deeds.{after_deeds}
 use Rattle.clr_journal.specs.Answered.{deed_replies}
 use Rattle.clr_journal.specs.Journals.{carried_out, in_turn}
 use Rattle.clr_chain.specs.First.{first_text}

@@ -12,10 +12,10 @@ use Rattle.clr_rules.specs.declared.command.Command.{Command}
 use Rattle.clr_rules.specs.declared.reply.Reply.{Reply}
 use Rattle.clr_rules.specs.declared.reply.Reply.TheVariants.{Accepted, Added, Refused, Shown}
 use Rattle.clr_book.specs.Book.{Shelved}
-use Rattle.clr_place.specs.declared.place.Place.{Place}
-use Rattle.clr_tables.specs.Tables.{tables_of}
+use Rattle.clr_rules.specs.declared.place.Place.{Place}
+use Rattle.clr_load.specs.Tables.{tables_of}
 use Rattle.clr_load.specs.Stored.{HasTables}
-use Rattle.clr_own.specs.Own.{asked_answer}
+use Rattle.clr_book.specs.Own.{asked_answer}
 use Rattle.clr_desk.specs.Asking.{near_after}
 use Rattle.clr_desk.specs.Carrying.{CarriesOut}
 use Rattle.clr_desk.specs.Commit.{Stays}

@@ -3,9 +3,9 @@ use Rattle.std.proofs.Common.{◌≡◌, ◌∙◌, ◌==◌, ℕ, Bool, true, f
 use Rattle.std.proofs.lemmas.Cmp.{nat_eq_equiv}
 use Rattle.std.proofs.lemmas.List.{append_cancel_left, map-append}
 use Rattle.serde_json.specs.Data.{Data}
-use Rattle.clr_append.specs.Lines.{text_of, with_feed}
+use Rattle.clr_journal.specs.Lines.{text_of, with_feed}
 use Rattle.clr_rules.specs.Register.{Register}
-use Rattle.clr_deeds.specs.Deeds.{Deed, after_deed, after_deeds}
+use Rattle.clr_changes.specs.Deeds.{Deed, after_deed, after_deeds}
 use Rattle.clr_journal.specs.Answered.{deed_replies, deed_reply}
 use Rattle.clr_journal.specs.Journals.{carried_out, onto_some, own_pair, turn_after, withdraws}
 use Rattle.clr_journal.specs.Laws.{turn_behind}
@@ -13,7 +13,7 @@ use Rattle.clr_journal.specs.Line.{Entry, carried, is_accepted, withdrawn}
 use Rattle.clr_journal.specs.declared.line.Receipt.{Receipt}
 use Rattle.clr_journal.specs.declared.reading.Turn.{Turn}
 use Rattle.clr_journal.proofs.JournalsRead.{deeds_grow}
-use Rattle.clr_place.specs.declared.place.Place.{Place}
+use Rattle.clr_rules.specs.declared.place.Place.{Place}
 use Rattle.clr_chain.specs.Chain.{chain_text, link_texts}
 use Rattle.clr_chain.specs.First.{first_text, first_turn_at}
 use Rattle.clr_chain.specs.Level.{IsRunOf, place_after, place_with}

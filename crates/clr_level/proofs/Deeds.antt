@@ -7,19 +7,19 @@ use Rattle.sqlite.specs.State.{State, Survives}
 use Rattle.sqlite.proofs.StateLemmas.{survives_weaker}
 use Rattle.clr_answer.specs.Decision.{is_accepted as accepts}
 use Rattle.clr_book.specs.Book.{Shelved}
-use Rattle.clr_archive.specs.Archive.{archived}
+use Rattle.clr_changes.specs.Archive.{archived}
 use Rattle.clr_changes.specs.declared.report.Report.TheVariants as reported
-use Rattle.clr_deeds.specs.Deeds.{Deed, after_deed, archive, command, update}
-use Rattle.clr_deeds.proofs.Deeds.{deed_keeps_good}
+use Rattle.clr_changes.specs.Deeds.{Deed, after_deed, archive, command, update}
+use Rattle.clr_changes.proofs.Deeds.{deed_keeps_good}
 use Rattle.clr_rules.specs.Answer.{Answer, answer}
 use Rattle.clr_rules.specs.Good.{IsGood}
 use Rattle.clr_rules.specs.Register.{Register}
 use Rattle.clr_rules.specs.Run.{after}
 use Rattle.clr_rules.specs.declared.command.Command.{Command}
 use Rattle.clr_rules.specs.declared.reply.Reply.{Reply}
-use Rattle.clr_place.specs.declared.place.Place.{Place}
-use Rattle.clr_tables.specs.Tables.{tables_of}
-use Rattle.clr_tables.specs.TypedRows.{IsTyped}
+use Rattle.clr_rules.specs.declared.place.Place.{Place}
+use Rattle.clr_load.specs.Tables.{tables_of}
+use Rattle.clr_load.specs.TypedRows.{IsTyped}
 use Rattle.clr_load.specs.Stored.{AreTables, HasTables}
 use Rattle.clr_load.specs.declared.fault.StoreFault.TheVariants.{Sql, WrongVersion, BadRow, OtherTables, NoMemory as NoMemoryThere}
 use Rattle.clr_desk.specs.Faults.{IsOfKeeper}

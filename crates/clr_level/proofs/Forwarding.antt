@@ -8,11 +8,11 @@ use Rattle.sqlite.specs.State.{State, Survives}
 use Rattle.sqlite.specs.Tree.{Trees}
 use Rattle.serde_json.specs.Data.{Data}
 use Rattle.serde_json.specs.View.{view}
-use Rattle.clr_place.specs.declared.place.Place.{Place}
+use Rattle.clr_rules.specs.declared.place.Place.{Place}
 use Rattle.clr_rules.specs.Good.{IsGood}
 use Rattle.clr_rules.specs.Register.{Register}
-use Rattle.clr_deeds.specs.Deeds.{Deed, after_deed, deed_of}
-use Rattle.clr_deeds.proofs.Deeds.{deeds_good}
+use Rattle.clr_changes.specs.Deeds.{Deed, after_deed, deed_of}
+use Rattle.clr_changes.proofs.Deeds.{deeds_good}
 use Rattle.clr_journal.specs.Answered.{deed_reply}
 use Rattle.clr_journal.specs.Journals.{carried_out, next_place, withdraws}
 use Rattle.clr_journal.specs.Line.{Entry, entry_of, is_accepted, withdrawn}

@@ -7,8 +7,8 @@ use Rattle.clr_rules.specs.Answer.{Answer, answer}
 use Rattle.clr_rules.specs.Good.{IsGood}
 use Rattle.clr_rules.specs.Register.{Register}
 use Rattle.clr_rules.specs.Run.{after}
-use Rattle.clr_deeds.specs.Deeds.{Deed, after_deed, command as of_command}
-use Rattle.clr_deeds.proofs.Deeds.{deeds_good}
+use Rattle.clr_changes.specs.Deeds.{Deed, after_deed, command as of_command}
+use Rattle.clr_changes.proofs.Deeds.{deeds_good}
 use Rattle.clr_rules.specs.declared.command.Command.{Command}
 use Rattle.clr_rules.specs.declared.reply.Reply.{Reply}
 use Rattle.clr_rules.specs.declared.reply.Reply.TheVariants.{Accepted, Shown, Refused, Added}
@@ -21,13 +21,13 @@ use Rattle.clr_journal.specs.Line.{Entry, carried, is_accepted, withdrawn}
 use Rattle.clr_journal.specs.declared.line.Receipt.{Receipt}
 use Rattle.clr_journal.specs.declared.reading.Turn.{Turn}
 use Rattle.clr_journal.proofs.JournalsRead.{lines_grow, withdrawn_is_left_out}
-use Rattle.clr_place.specs.declared.place.Place.{Place}
+use Rattle.clr_rules.specs.declared.place.Place.{Place}
 use Rattle.clr_chain.specs.Chain.{chain_text}
 use Rattle.clr_chain.specs.First.{first_turn_at}
 use Rattle.clr_chain.specs.Laws.{line_at}
 use Rattle.clr_chain.specs.Level.{IsLevel, IsRunOf, place_after, place_with}
 use Rattle.clr_chain.proofs.LevelKept.{carried_out-append, steps_keep}
-use Rattle.clr_own.specs.Own.{asked_answer}
+use Rattle.clr_book.specs.Own.{asked_answer}
 use Rattle.clr_desk.specs.Given.{AreGiven, Given, IsAnswered, command, login}
 use Rattle.clr_desk.specs.Taking.{Takes, Taking}
 use Rattle.clr_desk.specs.declared.desk_fault.DeskFault.{DeskFault}

@@ -1,7 +1,7 @@
 -- A keeper that is given its journal, level with it.
 use Rattle.std.proofs.Common.{◌≡◌, ◌∙◌, false, List, [], ◌++◌, None, ℕ, ap, sym, subst, append_assoc, append-nil}
 use Rattle.sqlite.specs.State.{State}
-use Rattle.clr_place.specs.declared.place.Place.{Place}
+use Rattle.clr_rules.specs.declared.place.Place.{Place}
 use Rattle.clr_rules.specs.Register.{Register}
 use Rattle.clr_journal.specs.Journals.{carried_out, withdraws}
 use Rattle.clr_journal.specs.Line.{Entry}

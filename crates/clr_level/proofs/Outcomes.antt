@@ -3,7 +3,7 @@ use Rattle.std.proofs.Common.{◌≡◌, ◌≢◌, ◌∙◌, Bool, false, true
 use Rattle.std.proofs.lemmas.Bool.{false≢true}
 use Rattle.serde_json.specs.Data.{Data}
 use Rattle.clr_rules.specs.Register.{Register}
-use Rattle.clr_deeds.specs.Deeds.{update}
+use Rattle.clr_changes.specs.Deeds.{update}
 use Rattle.clr_update.specs.Changes.{Changes}
 use Rattle.clr_update.specs.Delta.{can_be_made}
 use Rattle.clr_changes.specs.Made.{IsMade}

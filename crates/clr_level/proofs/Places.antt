@@ -2,9 +2,9 @@
 use Rattle.std.proofs.Common.{List, Ok, Err, refl, subst, sym, arith}
 use Rattle.sqlite.specs.Effect.{Database}
 use Rattle.sqlite.specs.State.{State}
-use Rattle.clr_place.specs.declared.place.Place.{Place}
+use Rattle.clr_rules.specs.declared.place.Place.{Place}
 use Rattle.clr_rules.specs.declared.change.Edit.{Edit}
-use Rattle.clr_tables.specs.TableEdits.{tables_edited}
+use Rattle.clr_load.specs.TableEdits.{tables_edited}
 use Rattle.clr_desk.specs.Commit.{Stays}
 use Rattle.clr_desk.specs.declared.desk_fault.DeskFault.{DeskFault}
 use Rattle.clr_desk.proofs.Staying.{stays_open}

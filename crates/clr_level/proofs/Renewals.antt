@@ -6,11 +6,11 @@ use Rattle.sqlite.specs.Tree.{Trees}
 use Rattle.sqlite.proofs.StateLemmas.{survives_weaker}
 use Rattle.sqlite_disk.specs.Disk.{Only}
 use Rattle.clr_book.specs.Book.{Shelved}
-use Rattle.clr_deeds.specs.Deeds.{Deed, after_deed}
+use Rattle.clr_changes.specs.Deeds.{Deed, after_deed}
 use Rattle.clr_rules.specs.Good.{IsGood}
 use Rattle.clr_rules.specs.Register.{Register}
-use Rattle.clr_place.specs.declared.place.Place.{Place}
-use Rattle.clr_tables.specs.Tables.{tables_of}
+use Rattle.clr_rules.specs.declared.place.Place.{Place}
+use Rattle.clr_load.specs.Tables.{tables_of}
 use Rattle.clr_load.specs.Contract.{IsSaved}
 use Rattle.clr_load.specs.Stored.{HasTables}
 use Rattle.clr_load.specs.declared.fault.StoreFault.TheVariants.{Sql, WrongVersion, BadRow, OtherTables, NoMemory as NoMemoryThere}

@@ -4,11 +4,11 @@ use Rattle.sqlite.specs.Effect.{Database}
 use Rattle.sqlite.specs.State.{State, Survives}
 use Rattle.sqlite.proofs.StateLemmas.{survives_weaker}
 use Rattle.clr_book.specs.Book.{Shelved}
-use Rattle.clr_place.specs.declared.place.Place.{Place}
+use Rattle.clr_rules.specs.declared.place.Place.{Place}
 use Rattle.clr_rules.specs.Register.{Register}
 use Rattle.clr_journal.specs.Line.{Entry}
-use Rattle.clr_tables.specs.Tables.{tables_of}
-use Rattle.clr_tables.specs.TableEdits.{tables_edited}
+use Rattle.clr_load.specs.Tables.{tables_of}
+use Rattle.clr_load.specs.TableEdits.{tables_edited}
 use Rattle.clr_load.specs.Stored.{HasTables}
 use Rattle.clr_desk.specs.Kept.{Keeps}
 use Rattle.clr_desk.specs.Placing.{AreEditedAt, CommitsAt, Placing}

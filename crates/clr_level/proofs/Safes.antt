@@ -5,18 +5,18 @@ use Rattle.sqlite.specs.State.{State}
 use Rattle.clr_rules.specs.Answer.{Answer}
 use Rattle.clr_rules.specs.Good.{IsGood}
 use Rattle.clr_rules.specs.Register.{Register}
-use Rattle.clr_deeds.specs.Deeds.{Deed, after_deed}
+use Rattle.clr_changes.specs.Deeds.{Deed, after_deed}
 use Rattle.clr_journal.specs.Answered.{deed_reply}
 use Rattle.clr_rules.specs.declared.command.Command.{Command}
 use Rattle.clr_rules.specs.declared.reply.Reply.{Reply}
 use Rattle.clr_rules.specs.declared.reply.Reply.TheVariants.{Accepted, Shown, Refused, Added}
 use Rattle.clr_answer.specs.Decision.{is_accepted}
-use Rattle.clr_place.specs.declared.place.Place.{Place}
+use Rattle.clr_rules.specs.declared.place.Place.{Place}
 use Rattle.clr_journal.specs.Journals.{carried_out}
 use Rattle.clr_chain.specs.Chain.{chain_text}
 use Rattle.clr_chain.specs.Level.{IsRunOf, place_after}
 use Rattle.clr_chain.proofs.LevelKept.{carried_out-append}
-use Rattle.clr_own.specs.Own.{asked_answer}
+use Rattle.clr_book.specs.Own.{asked_answer}
 use Rattle.clr_desk.specs.Given.{AreGiven, Given, IsAnswered, command, login}
 use Rattle.clr_desk.specs.Placing.{Placing}
 use Rattle.clr_desk.specs.Taking.{Takes, Taking, TakesOne}

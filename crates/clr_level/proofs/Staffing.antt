@@ -3,9 +3,9 @@ use Rattle.std.proofs.Common.{◌∙◌, List, [], ◌∷◌, Ok, Err, Result, i
 use Rattle.std.specs.Prelude.{⊤}
 use Rattle.sqlite.specs.State.{State}
 use Rattle.clr_book.specs.Book.{Shelved}
-use Rattle.clr_deeds.specs.Deeds.{Deed, after_deed, after_deeds}
-use Rattle.clr_deeds.proofs.Deeds.{deed_keeps_good, deeds_keep_good}
-use Rattle.clr_place.specs.declared.place.Place.{Place}
+use Rattle.clr_changes.specs.Deeds.{Deed, after_deed, after_deeds}
+use Rattle.clr_changes.proofs.Deeds.{deed_keeps_good, deeds_keep_good}
+use Rattle.clr_rules.specs.declared.place.Place.{Place}
 use Rattle.clr_rules.specs.Fit.{IsFit}
 use Rattle.clr_rules.specs.Register.{Register}
 use Rattle.clr_rules.specs.Staffed.{IsStaffed}

@@ -7,7 +7,7 @@ use Rattle.clr_rules.specs.declared.command.Command.{Command}
 use Rattle.clr_rules.specs.declared.reply.Reply.{Reply}
 use Rattle.clr_rules.specs.declared.reply.Reply.TheVariants.{Accepted, Shown, Refused, Added}
 use Rattle.clr_answer.specs.Decision.{is_accepted}
-use Rattle.clr_place.specs.declared.place.Place.{Place}
+use Rattle.clr_rules.specs.declared.place.Place.{Place}
 use Rattle.clr_desk.specs.Commit.{Stays}
 use Rattle.clr_desk.specs.Taking.{Came, Taking, is_refused}
 use Rattle.clr_desk.specs.declared.desk_fault.DeskFault.{DeskFault}

@@ -5,7 +5,7 @@ use Rattle.serde_json.specs.Data.{Data, depth}
 use Rattle.serde_json.specs.View.{view}
 use Rattle.clr_rules.specs.Good.{IsGood}
 use Rattle.clr_rules.specs.Register.{Register}
-use Rattle.clr_deeds.specs.Deeds.{Deed, after_deed, deed_of}
+use Rattle.clr_changes.specs.Deeds.{Deed, after_deed, deed_of}
 use Rattle.clr_journal.specs.Answered.{deed_reply}
 use Rattle.clr_journal.specs.Journals.{carried_out, onto_some, own_pair, withdraws}
 use Rattle.clr_journal.specs.Line.{Entry, entry_of, is_accepted}

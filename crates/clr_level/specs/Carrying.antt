@@ -3,11 +3,11 @@ use Rattle.std.specs.Prelude.{◌≡◌, true, Some, IfErr, OnErr, OnOk}
 use Rattle.sqlite.specs.Effect.{Database}
 use Rattle.sqlite.specs.State.{HasCleanDisk, State, Survives}
 use Rattle.sqlite.specs.Tree.{Trees}
-use Rattle.clr_deeds.specs.Deeds.{Deed, after_deed}
+use Rattle.clr_changes.specs.Deeds.{Deed, after_deed}
 use Rattle.clr_rules.specs.Good.{IsGood}
 use Rattle.clr_rules.specs.Register.{Register}
-use Rattle.clr_place.specs.declared.place.Place.{Place}
-use Rattle.clr_tables.specs.Tables.{tables_of}
+use Rattle.clr_rules.specs.declared.place.Place.{Place}
+use Rattle.clr_load.specs.Tables.{tables_of}
 use Rattle.clr_load.specs.Contract.{IsSaved}
 use Rattle.clr_load.specs.Stored.{AreTables, HasTables}
 use Rattle.clr_journal.specs.Answered.{deed_reply}

@@ -9,8 +9,8 @@ use Rattle.clr_rules.specs.Register.{Register}
 use Rattle.clr_rules.specs.declared.command.Command.{Command}
 use Rattle.clr_rules.specs.declared.reply.Reply.{Reply}
 use Rattle.clr_answer.specs.Decision.{is_accepted as accepts}
-use Rattle.clr_place.specs.declared.place.Place.{Place}
-use Rattle.clr_deeds.specs.Deeds.{Deed, after_deed, archive, command, deed_of, update}
+use Rattle.clr_rules.specs.declared.place.Place.{Place}
+use Rattle.clr_changes.specs.Deeds.{Deed, after_deed, archive, command, deed_of, update}
 use Rattle.clr_journal.specs.Answered.{deed_reply}
 use Rattle.clr_journal.specs.Journals.{carried_out, next_place, withdraws}
 use Rattle.clr_journal.specs.Line.{Entry, carried, is_accepted, withdrawn}

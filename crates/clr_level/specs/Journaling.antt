@@ -3,14 +3,14 @@ use Rattle.std.specs.Prelude.{◌≡◌, ◌⊎◌, ◌+◌, ◌^◌, ◌<◌, �
 use Rattle.std.specs.Prelude.{List, length, Option, Some, None, Ok, Err, if◌then◌else◌}
 use Rattle.sqlite.specs.State.{State}
 use Rattle.sqlite_disk.specs.Disk.{Only}
-use Rattle.clr_append.specs.Journal.{BeginsWith, with_line}
+use Rattle.clr_journal.specs.Journal.{BeginsWith, with_line}
 use Rattle.clr_rules.specs.declared.command.Command.{Command}
 use Rattle.clr_rules.specs.declared.command.Kind.{Kind}
 use Rattle.clr_rules.specs.declared.command.Kind.TheVariants as kinds
 use Rattle.clr_rules.specs.declared.reply.Reply.{Reply}
 use Rattle.clr_answer.specs.Decision.{is_accepted}
-use Rattle.clr_deeds.specs.Deeds.{Deed, command}
-use Rattle.clr_place.specs.declared.place.Place.{Place}
+use Rattle.clr_changes.specs.Deeds.{Deed, command}
+use Rattle.clr_rules.specs.declared.place.Place.{Place}
 use Rattle.clr_text.specs.Replies.{reply_data}
 use Rattle.clr_journal.specs.Line.{Entry, brief_kind, carried, done, withdrawn}
 use Rattle.clr_journal.specs.declared.line.Receipt.{Receipt}

@@ -1,10 +1,10 @@
 -- THE REGISTER, ITS PLACE AND THE JOURNAL ARE LEVEL.
 use Rattle.std.specs.Prelude.{◌≡◌, ◌⊎◌, ℕ, Bool, true, List, [], ◌∷◌, ◌++◌}
 use Rattle.sqlite.specs.State.{State}
-use Rattle.clr_deeds.specs.Deeds.{Deed, after_deed}
+use Rattle.clr_changes.specs.Deeds.{Deed, after_deed}
 use Rattle.clr_rules.specs.Good.{IsGood}
 use Rattle.clr_rules.specs.Register.{Register}
-use Rattle.clr_place.specs.declared.place.Place.{Place}
+use Rattle.clr_rules.specs.declared.place.Place.{Place}
 use Rattle.clr_journal.specs.Answered.{deed_reply}
 use Rattle.clr_journal.specs.Journals.{carried_out}
 use Rattle.clr_journal.specs.Line.{Entry, is_accepted}

@@ -2,12 +2,12 @@
 use Rattle.std.specs.Prelude.{◌≡◌, ◌⊎◌, ℕ, Bool, true, List, [], ◌∷◌, ◌++◌, drop, length, Some}
 use Rattle.std.specs.List.{list_any}
 use Rattle.sqlite.specs.State.{State}
-use Rattle.clr_append.specs.Journal.{BeginsWith}
-use Rattle.clr_append.specs.Lines.{ended_lines}
+use Rattle.clr_journal.specs.Journal.{BeginsWith}
+use Rattle.clr_journal.specs.Lines.{ended_lines}
 use Rattle.clr_rules.specs.Good.{IsGood}
 use Rattle.clr_rules.specs.Register.{Register}
-use Rattle.clr_deeds.specs.Deeds.{after_deed}
-use Rattle.clr_place.specs.declared.place.Place.{Place}
+use Rattle.clr_changes.specs.Deeds.{after_deed}
+use Rattle.clr_rules.specs.declared.place.Place.{Place}
 use Rattle.clr_journal.specs.Journals.{carried_out, in_turn}
 use Rattle.clr_journal.specs.Line.{Entry, withdrawn}
 use Rattle.clr_chain.specs.Chain.{ReadOn, chain_text}

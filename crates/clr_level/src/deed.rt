@@ -1,7 +1,7 @@
 //! A deed is carried out, and what it changes is kept with a place.
 ghost use Rattle.std.specs.Prelude.{◌≡◌, ◌&&◌, true};
 ghost use Rattle.clr_changes.specs.Shown.{as_update};
-ghost use Rattle.clr_deeds.specs.Deeds.{command as of_command, deed_of, update as of_changes};
+ghost use Rattle.clr_changes.specs.Deeds.{command as of_command, deed_of, update as of_changes};
 ghost use Rattle.clr_update.specs.Changes.{Changes as SaidChanges};
 ghost use Rattle.clr_update.specs.Delta.{all_there, have_no_fault, update_of};
 ghost use Rattle.clr_update.specs.Shown.{as_changes};
@@ -11,8 +11,7 @@ use crate::placing::carry_at;
 use clr_changes::{Report, Update, update_of};
 use clr_desk::{CommitAt, Desk, DeskFault};
 use clr_journal::{Changes, Deed};
-use clr_place::Place;
-use clr_rules::Command;
+use clr_rules::{Command, Place};
 use std::alloc::Global;
 
 /// Carries out a deed at a desk. What an accepted one changes is kept with this place.

@@ -4,7 +4,7 @@ ghost use Rattle.std.specs.Prelude.{Some};
 ghost use Rattle.sqlite.specs.State.{Survives};
 ghost use Rattle.clr_rules.specs.Good.{IsGood};
 ghost use Rattle.clr_rules.specs.Register.{Register};
-ghost use Rattle.clr_place.specs.declared.place.Place.{Place};
+ghost use Rattle.clr_rules.specs.declared.place.Place.{Place};
 ghost use Rattle.clr_journal.specs.Journals.{withdraws};
 ghost use Rattle.clr_journal.specs.Line.{Entry, entry_of};
 ghost use Rattle.clr_level.specs.Crash.{AreFurther, AreRolled, KeepsTables};
@@ -19,7 +19,7 @@ use crate::trying::first_differing;
 use clr_chain::step;
 use clr_desk::{CommitAt, Desk, DeskFault};
 use clr_journal::{Carried, Line, is_accepted};
-use clr_place::Place;
+use clr_rules::Place;
 use std::alloc::Global;
 
 /// A desk on its way through the lines after its register's place.

@@ -5,8 +5,7 @@ use crate::last::Last;
 use clr_chain::Clock;
 use clr_desk::CommitAt;
 use clr_journal::Journal;
-use clr_place::Place;
-use clr_rules::Text;
+use clr_rules::{Place, Text};
 use std::alloc::Global;
 
 /// A keeper, and a journal in which each deed has its line before the keeper takes it. The

@@ -1,6 +1,6 @@
 //! Lines are written.
 ghost use Rattle.std.specs.Prelude.{◌≡◌, IfErr, IsTrue, OnErr, OnOk, string_bytes};
-ghost use Rattle.clr_append.specs.Journal.{with_line};
+ghost use Rattle.clr_journal.specs.Journal.{with_line};
 ghost use Rattle.sqlite_disk.specs.Disk.{Only};
 ghost use Rattle.clr_level.specs.Journaling.{HasText, IsKept, IsOfJournal, StaySafe};
 

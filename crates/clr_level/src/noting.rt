@@ -9,7 +9,7 @@ ghost use Rattle.clr_level.specs.Journaling.{DoubtHasCause, IsDurable, IsKept, I
 ghost use Rattle.clr_level.specs.Journaling.{IsItsOwn, IsOfJournal, IsSound, IsUnnoted, IsUnwritten};
 ghost use Rattle.clr_level.specs.Journaling.{IsWithdrawn, StaySafe, end_said, is_doubtful};
 ghost use Rattle.clr_level.specs.Journaling.{IsDeedNoted, IsDeedUnwritten, line_of, said};
-ghost use Rattle.clr_deeds.specs.Deeds.{deed_of};
+ghost use Rattle.clr_changes.specs.Deeds.{deed_of};
 ghost use Rattle.clr_journal.specs.Line.{carried, done};
 
 use crate::brief::{brief, is_accepted};
@@ -82,8 +82,8 @@ impl<K: CommitAt, J: Journal + Drop, C: Clock> Keeper<K, J, C> {
         Ok(())
     }
 
-    /// Adds the line of an update or of an archive, after the withdrawal that is owed, and syncs it.
-    /// All other lines are synced before it. Where its own sync fails it is in doubt.
+    /// Adds the line of an update or of an archive, after the withdrawal that is owed, and syncs
+    /// it. All other lines are synced before it. Where its own sync fails it is in doubt.
     pub(crate) fn note_deed(&mut self, deed: &Deed) -> Result<(), DeskFault>
         ensures keeper { self.new.keeper ≡ self.old.keeper }
         ensures noted { OnOk result

@@ -3,7 +3,7 @@ ghost use Rattle.std.specs.Prelude.{◌≡◌, ℕ, false, IfErr, IfOk, map, Non
 ghost use Rattle.sqlite.specs.State.{Survives};
 ghost use Rattle.clr_rules.specs.Good.{IsGood};
 ghost use Rattle.clr_rules.specs.Register.{Register};
-ghost use Rattle.clr_place.specs.declared.place.Place.{Place};
+ghost use Rattle.clr_rules.specs.declared.place.Place.{Place};
 ghost use Rattle.clr_journal.specs.Journals.{carried_out, withdraws};
 ghost use Rattle.clr_journal.specs.Line.{entry_of};
 ghost use Rattle.clr_chain.specs.Level.{IsRunOf};
@@ -21,7 +21,7 @@ use crate::last::Last;
 use clr_chain::{Ahead, Clock, Found};
 use clr_desk::{CommitAt, Desk};
 use clr_journal::{Journal, Line};
-use clr_place::Place;
+use clr_rules::Place;
 use std::alloc::Global;
 
 /// The lines that come after a register's place, or why there are none.

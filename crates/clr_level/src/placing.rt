@@ -12,8 +12,7 @@ ghost use Rattle.clr_level.specs.Forward.{Carries, HearsBelow};
 ghost use Rattle.clr_level.specs.Placing.{ComesTo, StaysShown};
 
 use clr_desk::{Commit, CommitAt, Desk, DeskFault};
-use clr_place::Place;
-use clr_rules::{Change, Command, Reply, Text};
+use clr_rules::{Change, Command, Place, Reply, Text};
 
 /// A keeper, and the place that it keeps with each change.
 #[derive(Drop)]

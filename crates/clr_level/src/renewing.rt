@@ -1,7 +1,7 @@
 //! An update or an archive of a register with a journal: its line is noted, and then it is carried
 //! out, with the place at that line.
 ghost use Rattle.std.specs.Prelude.{◌≡◌};
-ghost use Rattle.clr_deeds.specs.Deeds.{deed_of};
+ghost use Rattle.clr_changes.specs.Deeds.{deed_of};
 ghost use Rattle.clr_journal.specs.Answered.{deed_reply};
 ghost use Rattle.clr_journal.specs.Line.{done};
 ghost use Rattle.clr_level.specs.Renewing.{CarriesBelow, RenewalsKeepLevel, RenewalsKeepSafe};
@@ -15,9 +15,9 @@ use clr_desk::{CommitAt, Desk, DeskFault};
 use clr_journal::{Deed, Journal};
 use std::alloc::Global;
 
-/// Carries out an update or an archive at a desk with a journal. Its line is durable before anything
-/// of it is done. The deed is one that the register carries out: changes that cannot be made have
-/// no line.
+/// Carries out an update or an archive at a desk with a journal. Its line is durable before
+/// anything of it is done. The deed is one that the register carries out: changes that cannot be
+/// made have no line.
 ///
 /// `Journal` where the line is not written or not synced; register and place stay. Where what keeps
 /// the tables fails after it, they stay too, and the journal is in doubt: the next opening decides.

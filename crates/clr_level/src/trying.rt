@@ -2,8 +2,8 @@
 ghost use Rattle.std.specs.Prelude.{◌≡◌, ◌<◌, IfNone, IfOk, IfSome, [], length, map, option_map};
 ghost use Rattle.std.specs.Prelude.{true};
 ghost use Rattle.serde_json.specs.View.{view};
-ghost use Rattle.clr_deeds.specs.Deeds.{after_deed, archive, command as of_command, deed_of};
-ghost use Rattle.clr_deeds.specs.Deeds.{update};
+ghost use Rattle.clr_changes.specs.Deeds.{after_deed, archive, command as of_command, deed_of};
+ghost use Rattle.clr_changes.specs.Deeds.{update};
 ghost use Rattle.clr_rules.specs.Good.{IsGood};
 ghost use Rattle.clr_update.specs.Shown.{as_changes};
 ghost use Rattle.clr_journal.specs.Journals.{carried_out, withdraws};
@@ -14,10 +14,10 @@ ghost use Rattle.clr_level.specs.Forward.{AreShallow, IsNext, IsTried, due};
 
 use clr_answer::Decision;
 use clr_book::Book;
+use clr_book::own::answer;
 use clr_changes::made_of;
 use clr_desk::{DeskBook, book_after, book_archived, copy_of};
 use clr_journal::{Carried, Changes, Deed, Line, is_accepted};
-use clr_own::answer;
 use clr_rules::{Command, Hold, Moment, PointState, Record, StepRow};
 use clr_shelf::Shelf;
 use clr_verify::{is_done, is_reply};

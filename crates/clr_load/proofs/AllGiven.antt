@@ -5,16 +5,16 @@ use Rattle.sqlite.specs.Order.{Row}
 use Rattle.sqlite_trees.proofs.ListLemmas.{map-map}
 use Rattle.clr_net.specs.declared.point.PointRow.{PointRow}
 use Rattle.clr_net.specs.declared.section.SectionRow.{SectionRow}
-use Rattle.clr_result.specs.Results.{◌>>=◌}
+use Rattle.clr_net.specs.Results.{◌>>=◌}
 use Rattle.clr_staff.specs.declared.employee.StaffRow.{StaffRow}
 use Rattle.clr_rules.specs.Register.{Register}
 use Rattle.clr_rules.specs.declared.hold.Hold.{Hold}
 use Rattle.clr_rules.specs.declared.point_state.PointState.{PointState}
 use Rattle.clr_rules.specs.declared.record.Record.{Record}
 use Rattle.clr_rules.specs.declared.step_row.StepRow.{StepRow}
-use Rattle.clr_tables.specs.RowsRead.{PointRead as ReadPoint, Rows, all_read, read_clearance, read_hold, read_point, read_section, read_staff, read_step, read_version, rows_by, rows_of, rows_read}
-use Rattle.clr_tables.specs.Tables.{Tables}
-use Rattle.clr_tables.specs.declared.table_name.TableName.{TableName}
+use Rattle.clr_load.specs.RowsRead.{PointRead as ReadPoint, Rows, all_read, read_clearance, read_hold, read_point, read_section, read_staff, read_step, read_version, rows_by, rows_of, rows_read}
+use Rattle.clr_load.specs.Tables.{Tables}
+use Rattle.clr_load.specs.declared.table_name.TableName.{TableName}
 use Rattle.clr_load.specs.Contract.{GivesBack, GivesRows}
 use Rattle.clr_load.specs.Filling.{GivesInto}
 use Rattle.clr_load.specs.Reading.{in_fields, point_values}

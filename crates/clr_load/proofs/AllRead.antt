@@ -2,9 +2,9 @@
 use Rattle.std.proofs.Common.{◌≡◌, ◌+◌, ◌<◌, ◌≤◌, ℕ, zero, suc, List, [], ◌∷◌, ◌++◌, take, get_or, length, Result, Ok, Err, refl, sym, ap, ◌∙◌, arith}
 use Rattle.std.proofs.lemmas.List.{take_more}
 use Rattle.sqlite.specs.Order.{Row}
-use Rattle.clr_result.specs.Results.{◌>>=◌}
-use Rattle.clr_tables.specs.RowsRead.{all_read}
-use Rattle.clr_tables.specs.declared.table_name.TableName.{TableName}
+use Rattle.clr_net.specs.Results.{◌>>=◌}
+use Rattle.clr_load.specs.RowsRead.{all_read}
+use Rattle.clr_load.specs.declared.table_name.TableName.{TableName}
 
 pub same_value : {B E : Type 0} {a b : B} → ◌≡◌ {A = Result B E} (Ok a) (Ok b) → a ≡ b
 same_value e = cc

@@ -6,10 +6,10 @@ use Rattle.sqlite.specs.declared.types.Value.{Value}
 use Rattle.sqlite.specs.declared.types.Value.TheVariants.{Null, Int, Real, Text, Blob}
 use Rattle.clr_net.specs.NameText.{read_name}
 use Rattle.clr_net.specs.declared.name.NameFault.{NameFault}
-use Rattle.clr_result.specs.Results.{◌>>=◌}
+use Rattle.clr_net.specs.Results.{◌>>=◌}
 use Rattle.clr_rules.specs.Id.{new_id}
-use Rattle.clr_tables.specs.RowsRead.{all_read, flag_at, hand_at, id_at, id_unless_null, name_at, name_if_read, number_at, number_of, number_within, position_at, position_if, read_placed, text_at, text_of}
-use Rattle.clr_tables.specs.declared.table_name.TableName.{TableName}
+use Rattle.clr_load.specs.RowsRead.{all_read, flag_at, hand_at, id_at, id_unless_null, name_at, name_if_read, number_at, number_of, number_within, position_at, position_if, read_placed, text_at, text_of}
+use Rattle.clr_load.specs.declared.table_name.TableName.{TableName}
 
 module _ (t : TableName) where
   abbrev Blames : {A : Type 0} → Result A TableName → Type 0

@@ -16,3 +16,13 @@ pub mod Whole
 pub mod Reopened
 pub mod Blamed
 pub mod OldPoints
+pub mod TableKeys
+pub mod TableChanges
+pub mod ColumnsRead
+pub mod RowsBack
+pub mod PointStates
+pub mod TablesRead
+pub mod SameTables
+pub mod Moved
+pub mod TypedEdits
+pub mod Places

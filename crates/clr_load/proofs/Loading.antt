@@ -28,9 +28,9 @@ use Rattle.sqlite_keyed.proofs.SortLemmas.{sorted_unique}
 use Rattle.sqlite_sql.proofs.QueryLemmas.{output_cmp_total}
 use Rattle.sqlite_trees.proofs.ListLemmas.{map-map, ascending-map}
 use Rattle.clr_shelf.specs.Rows.{in_key_order}
-use Rattle.clr_tables.specs.Tables.{Tables}
-use Rattle.clr_tables.specs.declared.table_name.TableName.{TableName}
-use Rattle.clr_tables.specs.declared.table_name.TableName.TheVariants.{Meta, Section, Point, Staff, Clearance, Step, Hold, NetworkPoint, Journal}
+use Rattle.clr_load.specs.Tables.{Tables}
+use Rattle.clr_load.specs.declared.table_name.TableName.{TableName}
+use Rattle.clr_load.specs.declared.table_name.TableName.TheVariants.{Meta, Section, Point, Staff, Clearance, Step, Hold, NetworkPoint, Journal}
 use Rattle.clr_load.specs.Found.{Fails, Finds, Lists}
 use Rattle.clr_load.specs.Layout.{AsMade, AsMadeLogged, AsMoved, AsMovedLogged, Layout, OfOne, has_rows, has_table, is_of_register, is_two, names_in, tree_in}
 use Rattle.clr_load.specs.Schema.{behind_meta, columns_in, keys_in, no_schema, schema_in, schema_of}

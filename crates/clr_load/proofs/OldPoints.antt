@@ -3,9 +3,9 @@ use Rattle.std.proofs.Common.{◌≡◌, ◌∙◌, true, List, Err, Ok, ap, ref
 use Rattle.std.specs.Prelude.{is_ok}
 use Rattle.sqlite.specs.Order.{Row}
 use Rattle.sqlite.specs.State.{State}
-use Rattle.clr_tables.specs.RowsRead.{all_read, read_placed}
-use Rattle.clr_tables.specs.Tables.{Tables}
-use Rattle.clr_tables.specs.declared.table_name.TableName.TheVariants.{Point}
+use Rattle.clr_load.specs.RowsRead.{all_read, read_placed}
+use Rattle.clr_load.specs.Tables.{Tables}
+use Rattle.clr_load.specs.declared.table_name.TableName.TheVariants.{Point}
 use Rattle.clr_load.specs.Cause.{SqlHasCause}
 use Rattle.clr_load.specs.Contract.{RefusesPoints, Yields, old_points}
 use Rattle.clr_load.specs.Fault.{IsOfDatabase, IsOfPoints}

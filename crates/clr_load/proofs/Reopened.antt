@@ -6,7 +6,7 @@ use Rattle.sqlite.specs.Tree.{Trees}
 use Rattle.sqlite_catalog.specs.Listing.{IsSound, Lists}
 use Rattle.sqlite_catalog.proofs.ReadLemmas.{lists_once}
 use Rattle.sqlite_trees.specs.Objects.{catalog_tree}
-use Rattle.clr_tables.specs.Tables.{Tables}
+use Rattle.clr_load.specs.Tables.{Tables}
 use Rattle.clr_load.specs.Contract.{IsSaved}
 use Rattle.sqlite.specs.Order.{Row}
 use Rattle.clr_load.specs.Layout.{Layout}

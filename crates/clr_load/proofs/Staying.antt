@@ -5,8 +5,8 @@ use Rattle.sqlite.specs.Held.{Held, state}
 use Rattle.sqlite.specs.State.{HasCleanDisk, IsRolledBack, IsUnchanged, State, Survives}
 use Rattle.sqlite.specs.Store.{Ghosts}
 use Rattle.sqlite.proofs.Callers.{unchanged_then}
-use Rattle.clr_tables.specs.Tables.{Tables}
-use Rattle.clr_tables.specs.declared.table_name.TableName.{TableName}
+use Rattle.clr_load.specs.Tables.{Tables}
+use Rattle.clr_load.specs.declared.table_name.TableName.{TableName}
 use Rattle.clr_load.specs.Cause.{SqlHasCause}
 use Rattle.clr_load.specs.Fault.{IsOfDatabase}
 use Rattle.clr_load.specs.Filling.{GivesInto}

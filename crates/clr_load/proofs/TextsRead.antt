@@ -12,14 +12,14 @@ use Rattle.sqlite.specs.declared.types.Value.TheVariants.{Null, Int, Real, Text,
 use Rattle.clr_net.specs.Name.{is_name}
 use Rattle.clr_net.specs.NameText.{read_name}
 use Rattle.clr_net.proofs.Names.{name_is_text}
-use Rattle.clr_result.specs.Results.{◌>>=◌}
-use Rattle.clr_tables.proofs.ColumnsRead.{name_is_not_read}
+use Rattle.clr_net.specs.Results.{◌>>=◌}
+use Rattle.clr_load.proofs.ColumnsRead.{name_is_not_read}
 use Rattle.clr_rules.specs.HoldKind.{all_hold_kinds, hold_kind_named, hold_kind_text}
 use Rattle.clr_rules.specs.Phase.{all_phases, phase_named, phase_text}
 use Rattle.clr_order.specs.Action.{all_actions}
-use Rattle.clr_tables.specs.RowsRead.{name_at, name_if_read, text_of, word_at}
-use Rattle.clr_tables.specs.Words.{action_name, action_named, all_roles, all_states, role_word, role_worded, state_name, state_named}
-use Rattle.clr_tables.specs.declared.table_name.TableName.{TableName}
+use Rattle.clr_load.specs.RowsRead.{name_at, name_if_read, text_of, word_at}
+use Rattle.clr_load.specs.Words.{action_name, action_named, all_roles, all_states, role_word, role_worded, state_name, state_named}
+use Rattle.clr_load.specs.declared.table_name.TableName.{TableName}
 use Rattle.clr_load.specs.Reading.{utf8_at}
 use Rattle.clr_load.proofs.Columns.{both_true}
 

@@ -8,12 +8,12 @@ use Rattle.sqlite.specs.Schema.{Schema}
 use Rattle.sqlite.specs.State.{Shown, State}
 use Rattle.sqlite.specs.Table.{Table}
 use Rattle.sqlite.specs.Tree.{Trees}
-use Rattle.clr_place.specs.declared.place.Place.{Place}
-use Rattle.clr_result.specs.Results.{◌>>=◌}
-use Rattle.clr_tables.specs.RowsRead.{place_read, read_place, read_version}
-use Rattle.clr_tables.specs.Tables.{version_row}
-use Rattle.clr_tables.specs.Tables.{Tables}
-use Rattle.clr_tables.specs.declared.table_name.TableName.TheVariants.{Journal, Meta, Point}
+use Rattle.clr_rules.specs.declared.place.Place.{Place}
+use Rattle.clr_net.specs.Results.{◌>>=◌}
+use Rattle.clr_load.specs.RowsRead.{place_read, read_place, read_version}
+use Rattle.clr_load.specs.Tables.{version_row}
+use Rattle.clr_load.specs.Tables.{Tables}
+use Rattle.clr_load.specs.declared.table_name.TableName.TheVariants.{Journal, Meta, Point}
 use Rattle.clr_load.specs.Layout.{AsMade, AsMadeLogged, AsMoved, AsMovedLogged, Layout, OfOne, has_rows, has_table, is_moved}
 use Rattle.clr_load.specs.Schema.{schema_in}
 use Rattle.clr_load.specs.Cause.{SqlHasCause}

@@ -5,14 +5,14 @@ use Rattle.sqlite.specs.Effect.{Database}
 use Rattle.sqlite.specs.Order.{Row, column}
 use Rattle.sqlite.specs.Schema.{Schema}
 use Rattle.sqlite_schema.specs.Names.{same_name, table_named}
-use Rattle.clr_tables.specs.TableText.{table_text}
+use Rattle.clr_load.specs.TableText.{table_text}
 use Rattle.clr_load.specs.Stored.{HasMeta, LacksMeta}
 use Rattle.sqlite.specs.declared.types.Value.{Value}
 use Rattle.sqlite.specs.declared.types.Value.TheVariants.{Null, Int, Real, Text, Blob}
-use Rattle.clr_tables.specs.RowsRead.{integer_of, is_version_name, read_version, version_if_there}
-use Rattle.clr_tables.specs.declared.table_name.TableName.TheVariants.{Meta}
+use Rattle.clr_load.specs.RowsRead.{integer_of, is_version_name, read_version, version_if_there}
+use Rattle.clr_load.specs.declared.table_name.TableName.TheVariants.{Meta}
 use Rattle.clr_load.specs.Fault.{IsOfDatabase, IsOfExpected, IsOfTables, IsOfVersion}
-use Rattle.clr_tables.specs.declared.table_name.TableName.{TableName}
+use Rattle.clr_load.specs.declared.table_name.TableName.{TableName}
 use Rattle.clr_load.specs.Contract.{Tells, TellsVersion}
 use Rattle.clr_load.specs.declared.fault.StoreFault.{StoreFault}
 use Rattle.clr_load.specs.declared.fault.StoreFault.TheVariants.{BadRow, NoMemory, OtherTables, Sql, WrongVersion}

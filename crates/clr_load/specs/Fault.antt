@@ -1,6 +1,6 @@
 -- Faults of the database itself.
 use Rattle.std.specs.Prelude.{◌≡◌, ⊤}
-use Rattle.clr_tables.specs.declared.table_name.TableName.TheVariants.{Meta, Point}
+use Rattle.clr_load.specs.declared.table_name.TableName.TheVariants.{Meta, Point}
 use Rattle.clr_load.specs.declared.fault.StoreFault.{StoreFault}
 use Rattle.clr_load.specs.declared.fault.StoreFault.TheVariants.{Sql, WrongVersion, BadRow}
 use Rattle.clr_load.specs.declared.fault.StoreFault.TheVariants.{NoMemory, OtherTables}

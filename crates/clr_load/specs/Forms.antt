@@ -5,10 +5,10 @@ use Rattle.sqlite_catalog.specs.Listing.{automatic}
 use Rattle.sqlite_schema.specs.declared.schema.Column.{Column}
 use Rattle.sqlite_schema.specs.declared.schema.Index.{Index}
 use Rattle.sqlite_value.specs.Keys.{plain}
-use Rattle.clr_tables.specs.declared.table_name.TableName.{TableName}
-use Rattle.clr_tables.specs.declared.table_name.TableName.TheVariants.{Meta, Section, Point, Staff}
-use Rattle.clr_tables.specs.declared.table_name.TableName.TheVariants.{Clearance, Step, Hold}
-use Rattle.clr_tables.specs.declared.table_name.TableName.TheVariants.{NetworkPoint, Journal}
+use Rattle.clr_load.specs.declared.table_name.TableName.{TableName}
+use Rattle.clr_load.specs.declared.table_name.TableName.TheVariants.{Meta, Section, Point, Staff}
+use Rattle.clr_load.specs.declared.table_name.TableName.TheVariants.{Clearance, Step, Hold}
+use Rattle.clr_load.specs.declared.table_name.TableName.TheVariants.{NetworkPoint, Journal}
 use Rattle.clr_load.specs.Layout.{Layout, tree_in}
 use Rattle.clr_load.specs.Schema.{column_of, first_columns, keys_in, table_at}
 use Rattle.clr_load.specs.declared.column_forms.ColumnForm.{ColumnForm}

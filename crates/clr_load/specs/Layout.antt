@@ -1,9 +1,9 @@
 -- HOW THE TABLES OF A REGISTER LIE IN A DATABASE: which there are, and in which order they were made.
 use Rattle.std.specs.Prelude.{ℕ, ◌*◌, Bool, true, false, not, ◌&&◌, List, [], ◌∷◌, take}
-use Rattle.clr_tables.specs.declared.table_name.TableName.{TableName}
-use Rattle.clr_tables.specs.declared.table_name.TableName.TheVariants.{Meta, Section, Point, Staff}
-use Rattle.clr_tables.specs.declared.table_name.TableName.TheVariants.{Clearance, Step, Hold}
-use Rattle.clr_tables.specs.declared.table_name.TableName.TheVariants.{NetworkPoint, Journal}
+use Rattle.clr_load.specs.declared.table_name.TableName.{TableName}
+use Rattle.clr_load.specs.declared.table_name.TableName.TheVariants.{Meta, Section, Point, Staff}
+use Rattle.clr_load.specs.declared.table_name.TableName.TheVariants.{Clearance, Step, Hold}
+use Rattle.clr_load.specs.declared.table_name.TableName.TheVariants.{NetworkPoint, Journal}
 pub use Rattle.clr_load.specs.declared.layout.Layout.{Layout}
 pub use Rattle.clr_load.specs.declared.layout.Layout.TheVariants.{OfOne, AsMade, AsMoved}
 pub use Rattle.clr_load.specs.declared.layout.Layout.TheVariants.{AsMadeLogged, AsMovedLogged}

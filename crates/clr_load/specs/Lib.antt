@@ -11,3 +11,10 @@ pub mod Contract
 pub mod Reading
 pub mod Filling
 pub mod Loads
+pub mod TableText
+pub mod Words
+pub mod Tables
+pub mod TableEdits
+pub mod RowsRead
+pub mod TableLaws
+pub mod TypedRows

@@ -4,9 +4,9 @@ use Rattle.std.specs.Prelude.{Ok, Result}
 use Rattle.sqlite.specs.Held.{Held, state}
 use Rattle.sqlite.specs.State.{HasCleanDisk, IsUnchanged, State, Survives}
 use Rattle.sqlite.specs.Store.{Ghosts}
-use Rattle.clr_result.specs.Results.{◌>>=◌}
-use Rattle.clr_tables.specs.Tables.{Tables}
-use Rattle.clr_tables.specs.declared.table_name.TableName.{TableName}
+use Rattle.clr_net.specs.Results.{◌>>=◌}
+use Rattle.clr_load.specs.Tables.{Tables}
+use Rattle.clr_load.specs.declared.table_name.TableName.{TableName}
 use Rattle.clr_load.specs.Cause.{SqlHasCause}
 use Rattle.clr_load.specs.Fault.{IsOfDatabase}
 use Rattle.clr_load.specs.Filling.{GivesInto}

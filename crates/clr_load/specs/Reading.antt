@@ -3,11 +3,11 @@ use Rattle.std.specs.Prelude.{◌≡◌, ℕ, Bool, true, false, if◌then◌els
 use Rattle.sqlite.specs.Order.{Row, column}
 use Rattle.sqlite.specs.declared.types.Value.{Value}
 use Rattle.sqlite.specs.declared.types.Value.TheVariants.{Null}
-use Rattle.clr_result.specs.Results.{◌>>=◌}
-use Rattle.clr_tables.specs.RowsRead.{PointRead as ReadPoint, read_placed, read_point}
-pub use Rattle.clr_tables.specs.RowsRead.{utf8_at}
-use Rattle.clr_tables.specs.declared.table_name.TableName.{TableName}
-use Rattle.clr_tables.specs.declared.table_name.TableName.TheVariants.{Point}
+use Rattle.clr_net.specs.Results.{◌>>=◌}
+use Rattle.clr_load.specs.RowsRead.{PointRead as ReadPoint, read_placed, read_point}
+pub use Rattle.clr_load.specs.RowsRead.{utf8_at}
+use Rattle.clr_load.specs.declared.table_name.TableName.{TableName}
+use Rattle.clr_load.specs.declared.table_name.TableName.TheVariants.{Point}
 use Rattle.clr_load.specs.declared.table_row.OldPoint.{OldPoint}
 use Rattle.clr_load.specs.declared.table_row.PointRead.{PointRead}
 

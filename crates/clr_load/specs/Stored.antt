@@ -17,12 +17,12 @@ use Rattle.sqlite_schema.specs.declared.schema.Column.{Column}
 use Rattle.sqlite_trees.specs.declared.store.Shape.TheVariants.{Table}
 use Rattle.clr_shelf.specs.Rows.{in_key_order}
 use Rattle.sqlite_schema.specs.Names.{table_named}
-use Rattle.clr_tables.specs.TableText.{table_text}
-use Rattle.clr_tables.specs.Tables.{Tables, version_row}
-use Rattle.clr_tables.specs.declared.table_name.TableName.{TableName}
-use Rattle.clr_tables.specs.declared.table_name.TableName.TheVariants.{Meta, Section, Point, Staff}
-use Rattle.clr_tables.specs.declared.table_name.TableName.TheVariants.{Clearance, Step, Hold}
-use Rattle.clr_tables.specs.declared.table_name.TableName.TheVariants.{NetworkPoint, Journal}
+use Rattle.clr_load.specs.TableText.{table_text}
+use Rattle.clr_load.specs.Tables.{Tables, version_row}
+use Rattle.clr_load.specs.declared.table_name.TableName.{TableName}
+use Rattle.clr_load.specs.declared.table_name.TableName.TheVariants.{Meta, Section, Point, Staff}
+use Rattle.clr_load.specs.declared.table_name.TableName.TheVariants.{Clearance, Step, Hold}
+use Rattle.clr_load.specs.declared.table_name.TableName.TheVariants.{NetworkPoint, Journal}
 use Rattle.clr_load.specs.Layout.{AsMade, AsMadeLogged, AsMoved, AsMovedLogged, Layout, OfOne}
 use Rattle.clr_load.specs.Layout.{has_rows, has_table, is_moved, is_two, tree_in, version_of}
 use Rattle.clr_load.specs.Schema.{behind_meta, columns_in, keys_in, schema_in}

@@ -3,7 +3,7 @@ ghost use Rattle.std.specs.Prelude.{◌≡◌, map};
 ghost use Rattle.clr_load.specs.Forms.{column_by};
 ghost use Rattle.clr_load.specs.Schema.{columns_in, first_columns, keys_in};
 
-use clr_tables::TableName;
+use crate::TableName;
 use sqlite_schema::schema::Kind;
 
 /// A column of a STRICT table without a default.

@@ -5,8 +5,8 @@ ghost use Rattle.std.specs.Prelude.{IsTrue, MatchResult, Ok, OnOk};
 ghost use Rattle.sqlite.specs.Held.{state};
 ghost use Rattle.sqlite.specs.Order.{Row as SqlRow};
 ghost use Rattle.sqlite.specs.State.{HasCleanDisk, IsLive, IsUnchanged, Shown, Survives};
-ghost use Rattle.clr_tables.specs.RowsRead.{read_version};
-ghost use Rattle.clr_tables.specs.declared.table_name.TableName.TheVariants.{Journal, Point};
+ghost use Rattle.clr_load.specs.RowsRead.{read_version};
+ghost use Rattle.clr_load.specs.declared.table_name.TableName.TheVariants.{Journal, Point};
 ghost use Rattle.clr_load.specs.Cause.{SqlHasCause};
 ghost use Rattle.clr_load.specs.Contract.{TellsVersion};
 ghost use Rattle.clr_load.specs.Fault.{IsOfDatabase, IsOfExpected, IsOfTables};
@@ -18,12 +18,12 @@ ghost use Rattle.clr_load.specs.Sql.{select_sql};
 ghost use Rattle.clr_load.specs.Stored.{HasMeta, HasVersion, IsLaidOut, IsPlaced, LacksMeta};
 ghost use Rattle.clr_load.specs.declared.fault.StoreFault.TheVariants.{OtherTables, Sql};
 
+use crate::TableName;
 use crate::fault::StoreFault;
 use crate::layout::Layout;
 use crate::listing::select_sql;
 use crate::looks::layout_in;
 use crate::version::{read_version, version_in};
-use clr_tables::TableName;
 use sqlite::{Alter, Connection, Row};
 
 /// All rows of a table, in the order of its key, outside a transaction.

@@ -1,9 +1,9 @@
 //! How the tables of a register lie in a database.
 ghost use Rattle.std.specs.Prelude.{◌≡◌, ◌<◌};
 ghost use Rattle.clr_load.specs.Layout.{has_table, is_moved, names_in, tree_in, version_of};
-ghost use Rattle.clr_tables.specs.declared.table_name.TableName.TheVariants.{Journal};
+ghost use Rattle.clr_load.specs.declared.table_name.TableName.TheVariants.{Journal};
 
-use clr_tables::TableName;
+use crate::TableName;
 
 /// A layout of the tables of a register: which there are, and in which order they were made.
 #[derive(Clone, Copy, Debug, PartialEq, Eq)]

@@ -10,8 +10,8 @@ ghost use Rattle.clr_load.specs.Layout.{has_rows};
 ghost use Rattle.clr_load.specs.Sql.{select_sql};
 ghost use Rattle.clr_load.specs.Stored.{HasMeta, rows_in};
 
+use crate::TableName;
 use crate::fault::StoreFault;
-use clr_tables::TableName;
 use sqlite::{Alter, Row, Transaction};
 
 /// Lists all rows of a table, in the order of the whole key.

@@ -2,9 +2,9 @@
 ghost use Rattle.std.specs.Prelude.{◌≡◌, ◌⊎◌, false, map, IsTrue, IfErr, IfOk, IsErrAnd, Ok};
 ghost use Rattle.sqlite.specs.Held.{state};
 ghost use Rattle.sqlite.specs.State.{HasCleanDisk, Survives};
-ghost use Rattle.clr_tables.specs.RowsRead.{all_read, rows_read};
-ghost use Rattle.clr_tables.specs.Tables.{Tables};
-ghost use Rattle.clr_tables.specs.declared.table_name.TableName.TheVariants.{Meta};
+ghost use Rattle.clr_load.specs.RowsRead.{all_read, rows_read};
+ghost use Rattle.clr_load.specs.Tables.{Tables};
+ghost use Rattle.clr_load.specs.declared.table_name.TableName.TheVariants.{Meta};
 ghost use Rattle.clr_load.specs.Cause.{SqlHasCause};
 ghost use Rattle.clr_load.specs.Contract.{GivesRows, IsSaved};
 ghost use Rattle.clr_load.specs.Fault.{IsOfDatabase};
@@ -13,6 +13,7 @@ ghost use Rattle.clr_load.specs.Layout.{has_rows, is_two};
 ghost use Rattle.clr_load.specs.Loads.{Loads, both_fit, both_read};
 ghost use Rattle.clr_load.specs.Stored.{HasTables, rows_in};
 
+use crate::TableName;
 use crate::fault::StoreFault;
 use crate::fill::Fill;
 use crate::listing::select_sql;
@@ -23,7 +24,6 @@ use crate::version::version_in;
 use clr_net::{PointRow, SectionRow};
 use clr_rules::{Hold, PointState, Record, StepRow};
 use clr_staff::StaffRow;
-use clr_tables::TableName;
 use sqlite::{Alter, Connection, Row};
 use std::alloc::{AllocError, Global};
 

@@ -6,9 +6,9 @@ ghost use Rattle.clr_load.specs.Forms.{column_by, index_at, index_in, index_text
 ghost use Rattle.clr_load.specs.Layout.{names_in};
 ghost use Rattle.clr_load.specs.Schema.{schema_in, table_at, table_in};
 
+use crate::TableName;
 use crate::column_forms::{ColumnForm, columns_of, key_of};
 use crate::layout::Layout;
-use clr_tables::TableName;
 use sqlite_items::Items;
 use sqlite_schema::code::Terms;
 use sqlite_schema::schema::{Column, Index, Schema, Stamps, Table};

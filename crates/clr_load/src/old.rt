@@ -2,17 +2,17 @@
 ghost use Rattle.std.specs.Prelude.{◌≡◌, ◌⊎◌, IfErr, IsErrAnd, IsTrue, is_ok, true};
 ghost use Rattle.sqlite.specs.Held.{state};
 ghost use Rattle.sqlite.specs.State.{HasCleanDisk};
-ghost use Rattle.clr_tables.specs.Tables.{Tables};
+ghost use Rattle.clr_load.specs.Tables.{Tables};
 ghost use Rattle.clr_load.specs.Contract.{RefusesPoints, old_points};
 ghost use Rattle.clr_load.specs.Fault.{IsOfDatabase, IsOfPoints};
 ghost use Rattle.clr_load.specs.Found.{Lists};
 ghost use Rattle.clr_load.specs.Layout.{is_one};
 ghost use Rattle.clr_load.specs.Stored.{HasOldTables};
 
+use crate::TableName;
 use crate::fault::StoreFault;
 use crate::listing::list_rows;
 use crate::table_row::{OldPoint, all_read};
-use clr_tables::TableName;
 use sqlite::{Alter, Transaction};
 
 /// Reads all rows of `point`, the table of version 1, and changes nothing.

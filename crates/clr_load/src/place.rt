@@ -3,8 +3,8 @@ ghost use Rattle.std.specs.Prelude.{◌≡◌, ◌∷◌, [], false, IfErr, IsTr
 ghost use Rattle.sqlite.specs.Held.{state};
 ghost use Rattle.sqlite.specs.Order.{Row as SqlRow};
 ghost use Rattle.sqlite.specs.State.{HasCleanDisk, Survives};
-ghost use Rattle.clr_tables.specs.RowsRead.{place_read, read_place};
-ghost use Rattle.clr_tables.specs.declared.table_name.TableName.TheVariants.{Journal};
+ghost use Rattle.clr_load.specs.RowsRead.{place_read, read_place};
+ghost use Rattle.clr_load.specs.declared.table_name.TableName.TheVariants.{Journal};
 ghost use Rattle.clr_load.specs.Cause.{SqlHasCause};
 ghost use Rattle.clr_load.specs.Contract.{Gives, IsSaved, Yields};
 ghost use Rattle.clr_load.specs.Layout.{Layout as AnyLayout, has_table};
@@ -12,19 +12,18 @@ ghost use Rattle.clr_load.specs.Loads.{Stays};
 ghost use Rattle.clr_load.specs.Schema.{schema_in};
 ghost use Rattle.clr_load.specs.Stored.{HasPlaceIn, IsPlaced};
 
+use crate::TableName;
 use crate::expected::list_table;
 use crate::fault::StoreFault;
 use crate::looks::layout_in;
 use crate::reading::{number_at, text_at};
-use clr_place::Place;
-use clr_rules::Text;
-use clr_tables::TableName;
+use clr_rules::{Place, Text};
 use sqlite::{Alter, Connection, Row};
 use sqlite_schema::schema::Schema;
 use std::alloc::Global;
 
 /// What the row of a place reads as.
-#[tactic(auto, unfolding(clr_tables::specs::RowsRead::read_place))]
+#[tactic(auto, unfolding(crate::specs::RowsRead::read_place))]
 fn place_in(alloc: Global, row: &Row) -> Result<Place, StoreFault>
     ensures { Yields (λ place. place) (read_place row.now) result }
 {

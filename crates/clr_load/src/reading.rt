@@ -2,18 +2,18 @@
 ghost use Rattle.std.specs.Prelude.{◌≡◌, ◌<◌};
 ghost use Rattle.clr_rules.specs.HoldKind.{hold_kind_named};
 ghost use Rattle.clr_rules.specs.Phase.{phase_named};
-ghost use Rattle.clr_tables.specs.RowsRead.{flag_at, hand_at, id_at, name_at, name_or_none_at};
-ghost use Rattle.clr_tables.specs.RowsRead.{number_at, number_within, position_at, word_at};
-ghost use Rattle.clr_tables.specs.Words.{action_named, role_worded, state_named};
-ghost use Rattle.clr_tables.specs.declared.table_name.TableName.TheVariants.{Clearance, Hold};
-ghost use Rattle.clr_tables.specs.declared.table_name.TableName.TheVariants.{Staff, Step};
+ghost use Rattle.clr_load.specs.RowsRead.{flag_at, hand_at, id_at, name_at, name_or_none_at};
+ghost use Rattle.clr_load.specs.RowsRead.{number_at, number_within, position_at, word_at};
+ghost use Rattle.clr_load.specs.Words.{action_named, role_worded, state_named};
+ghost use Rattle.clr_load.specs.declared.table_name.TableName.TheVariants.{Clearance, Hold};
+ghost use Rattle.clr_load.specs.declared.table_name.TableName.TheVariants.{Staff, Step};
 ghost use Rattle.clr_load.specs.Reading.{Reads, is_null_at, utf8_at};
 
+use crate::{TableName, action_named, role_worded, state_named};
 use clr_net::{Name, Position};
 use clr_order::{Action, StepState};
 use clr_rules::{ClearanceId, HoldKind, Phase};
 use clr_staff::Role;
-use clr_tables::{TableName, action_named, role_worded, state_named};
 use sqlite::Row;
 use sqlite::types::ValueRef;
 

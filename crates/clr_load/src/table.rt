@@ -1,15 +1,15 @@
 //! A table, read row by row.
 ghost use Rattle.std.specs.Prelude.{◌≡◌};
-ghost use Rattle.clr_tables.specs.RowsRead.{all_read};
+ghost use Rattle.clr_load.specs.RowsRead.{all_read};
 ghost use Rattle.clr_load.specs.Layout.{has_rows};
 ghost use Rattle.clr_load.specs.Loads.{Loads};
 ghost use Rattle.clr_load.specs.Stored.{rows_in};
 
+use crate::TableName;
 use crate::fault::StoreFault;
 use crate::fill::Fill;
 use crate::listing::select_sql;
 use crate::table_row::TableRow;
-use clr_tables::TableName;
 use sqlite::{Alter, Connection};
 use std::alloc::Global;
 

@@ -1,11 +1,12 @@
 //! The rows of a table: what each reads as, from the left, up to the first column that does not
 //! read.
 ghost use Rattle.std.specs.Prelude.{◌≡◌};
-ghost use Rattle.clr_tables.specs.RowsRead.{all_read, read_clearance, read_hold, read_section};
-ghost use Rattle.clr_tables.specs.RowsRead.{read_staff, read_step};
+ghost use Rattle.clr_load.specs.RowsRead.{all_read, read_clearance, read_hold, read_section};
+ghost use Rattle.clr_load.specs.RowsRead.{read_staff, read_step};
 ghost use Rattle.clr_load.specs.Contract.{Yields};
 ghost use Rattle.clr_load.specs.Reading.{old_values, placed_values, point_values};
 
+use crate::TableName;
 use crate::fault::StoreFault;
 use crate::reading::{
     action_at, flag_at, hand_at, id_at, kind_at, name_at, name_or_none_at, number_at,
@@ -15,7 +16,6 @@ use clr_net::{PointRow, SectionRow};
 use clr_order::Step;
 use clr_rules::{Hold, Moment, PointState, Record, StepRow};
 use clr_staff::StaffRow;
-use clr_tables::TableName;
 use sqlite::Row;
 use std::alloc::Global;
 
@@ -23,7 +23,7 @@ use std::alloc::Global;
 pub(crate) trait TableRow: Sized + Drop {
     ghost use Rattle.std.specs.Prelude.{Result};
     ghost use Rattle.sqlite.specs.Order.{Row};
-    ghost use Rattle.clr_tables.specs.declared.table_name.TableName.{TableName};
+    ghost use Rattle.clr_load.specs.declared.table_name.TableName.{TableName};
 
     /// What the values of a row read as.
     ghost values: { Row → Result Self TableName };
@@ -36,7 +36,7 @@ pub(crate) trait TableRow: Sized + Drop {
 impl TableRow for SectionRow {
     ghost values = { read_section };
 
-    #[tactic(auto, unfolding(clr_tables::specs::RowsRead::read_section))]
+    #[tactic(auto, unfolding(crate::specs::RowsRead::read_section))]
     fn read(row: &Row) -> Result<SectionRow, TableName> {
         let name = name_at(TableName::Section, 0, row)?;
         let source = flag_at(TableName::Section, 1, row)?;
@@ -52,7 +52,7 @@ pub(crate) struct PointRead {
 }
 
 /// Reads the columns of version 1, in a table of this name.
-#[tactic(auto, unfolding(clr_tables::specs::RowsRead::read_placed))]
+#[tactic(auto, unfolding(crate::specs::RowsRead::read_placed))]
 fn placed_at(table: TableName, row: &Row) -> Result<PointRead, TableName>
     ensures { result ≡ placed_values table row.now }
 {
@@ -84,7 +84,7 @@ fn placed_at(table: TableName, row: &Row) -> Result<PointRead, TableName>
 impl TableRow for PointRead {
     ghost values = { point_values };
 
-    #[tactic(auto, unfolding(clr_tables::specs::RowsRead::read_point))]
+    #[tactic(auto, unfolding(crate::specs::RowsRead::read_point))]
     fn read(row: &Row) -> Result<PointRead, TableName> {
         let mut read = placed_at(TableName::NetworkPoint, row)?;
         read.point.jumper = flag_at(TableName::NetworkPoint, 8, row)?;
@@ -110,7 +110,7 @@ impl TableRow for OldPoint {
 impl TableRow for StaffRow {
     ghost values = { read_staff };
 
-    #[tactic(auto, unfolding(clr_tables::specs::RowsRead::read_staff))]
+    #[tactic(auto, unfolding(crate::specs::RowsRead::read_staff))]
     fn read(row: &Row) -> Result<StaffRow, TableName> {
         let name = name_at(TableName::Staff, 0, row)?;
         let role = role_at(1, row)?;
@@ -126,7 +126,7 @@ impl TableRow for StaffRow {
 impl TableRow for Record {
     ghost values = { read_clearance };
 
-    #[tactic(auto, unfolding(clr_tables::specs::RowsRead::read_clearance))]
+    #[tactic(auto, unfolding(crate::specs::RowsRead::read_clearance))]
     fn read(row: &Row) -> Result<Record, TableName> {
         let id = id_at(TableName::Clearance, 0, row)?;
         let holder = name_at(TableName::Clearance, 2, row)?;
@@ -147,7 +147,7 @@ impl TableRow for Record {
 impl TableRow for StepRow {
     ghost values = { read_step };
 
-    #[tactic(auto, unfolding(clr_tables::specs::RowsRead::read_step))]
+    #[tactic(auto, unfolding(crate::specs::RowsRead::read_step))]
     fn read(row: &Row) -> Result<StepRow, TableName> {
         let id = id_at(TableName::Step, 0, row)?;
         let round = number_within(TableName::Step, 255, 2, row)?;
@@ -173,7 +173,7 @@ impl TableRow for StepRow {
 impl TableRow for Hold {
     ghost values = { read_hold };
 
-    #[tactic(auto, unfolding(clr_tables::specs::RowsRead::read_hold))]
+    #[tactic(auto, unfolding(crate::specs::RowsRead::read_hold))]
     fn read(row: &Row) -> Result<Hold, TableName> {
         let kind = kind_at(0, row)?;
         let place = name_at(TableName::Hold, 1, row)?;

@@ -4,7 +4,7 @@ use Rattle.std.proofs.lemmas.List.{append-nil, map-append}
 use Rattle.std.specs.Prelude.{not}
 use Rattle.serde_json.specs.Data.{Data}
 use Rattle.serde_json.specs.View.{view}
-use Rattle.clr_deeds.specs.Deeds.{Deed, commands_among, deed_of}
+use Rattle.clr_changes.specs.Deeds.{Deed, commands_among, deed_of}
 use Rattle.clr_rules.specs.Id.{Id}
 use Rattle.clr_journal.specs.Journals.{carried_out, onto_some, own_pair, withdraws}
 use Rattle.clr_journal.specs.Line.{Entry, carried, withdrawn, is_accepted}

@@ -6,7 +6,7 @@ use Rattle.std.specs.Prelude.{is_some}
 use Rattle.serde_json.specs.Data.{Data}
 use Rattle.serde_json.specs.View.{view}
 use Rattle.clr_order.specs.Step.{Task}
-use Rattle.clr_deeds.specs.Deeds.{Deed, archive, command, deed_of, update}
+use Rattle.clr_changes.specs.Deeds.{Deed, archive, command, deed_of, update}
 use Rattle.clr_rules.specs.Id.{Id, same_id_equiv}
 use Rattle.clr_rules.specs.declared.command.Command.{Command}
 use Rattle.clr_rules.specs.declared.command.Kind.{Kind}

@@ -2,7 +2,7 @@
 use Rattle.std.proofs.Common.{◌≡◌, ℕ, Bool, true, false, List, [], ◌∷◌, ◌++◌, Option, refl, ap, sym}
 use Rattle.std.proofs.lemmas.List.{append-nil}
 use Rattle.serde_json.specs.Data.{Data}
-use Rattle.clr_deeds.specs.Deeds.{Deed, archive, command, commands_among, onto_commands, update}
+use Rattle.clr_changes.specs.Deeds.{Deed, archive, command, commands_among, onto_commands, update}
 use Rattle.clr_rules.specs.Id.{Id}
 use Rattle.clr_rules.specs.declared.command.Command.{Command}
 use Rattle.clr_wayback.specs.Text.{command_line}

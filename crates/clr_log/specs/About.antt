@@ -5,7 +5,7 @@ use Rattle.std.specs.Prelude.{Bool, true, false, List, [], ◌∷◌, Option, No
 use Rattle.std.specs.Prelude.{option_and_then}
 use Rattle.serde_json.specs.Data.{Data}
 use Rattle.serde_json.specs.Find.{as_str, get}
-use Rattle.clr_deeds.specs.Deeds.{Deed, archive, command, update}
+use Rattle.clr_changes.specs.Deeds.{Deed, archive, command, update}
 use Rattle.clr_rules.specs.Command.{named_clearance}
 use Rattle.clr_rules.specs.Id.{Id, same_id}
 use Rattle.clr_rules.specs.IdText.{read_id}

@@ -2,7 +2,7 @@
 -- clearance, each on a line that `run` takes. Updates and archives are passed over.
 use Rattle.std.specs.Prelude.{ℕ, List, map, filter, flat_map, Option}
 use Rattle.serde_json.specs.Data.{Data}
-use Rattle.clr_deeds.specs.Deeds.{Deed, commands_among}
+use Rattle.clr_changes.specs.Deeds.{Deed, commands_among}
 use Rattle.clr_rules.specs.Id.{Id}
 use Rattle.clr_rules.specs.declared.command.Command.{Command}
 use Rattle.clr_wayback.specs.Text.{command_line}

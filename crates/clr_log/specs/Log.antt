@@ -11,7 +11,7 @@ use Rattle.serde_json.specs.Data.{Data}
 use Rattle.serde_json.specs.Find.{as_str, get}
 use Rattle.clr_print.specs.Moments.{moment_text}
 use Rattle.clr_changes.specs.Lines.{change_lines}
-use Rattle.clr_deeds.specs.Deeds.{archive, command, update}
+use Rattle.clr_changes.specs.Deeds.{archive, command, update}
 use Rattle.clr_rules.specs.Id.{Id, id_text}
 use Rattle.clr_rules.specs.Moment.{new_moment}
 use Rattle.clr_rules.specs.declared.command.Command.{Command}

@@ -3,7 +3,7 @@
 use Rattle.std.specs.Prelude.{ℕ, zero, suc, Bool, true, false, not, ◌&&◌, ◌||◌, ◌==◌, List, []}
 use Rattle.std.specs.Prelude.{◌∷◌, Option, None, Some, if◌then◌else◌, option_map, slice_get}
 use Rattle.serde_json.specs.Data.{Data}
-use Rattle.clr_deeds.specs.Deeds.{Deed, archive, command, update}
+use Rattle.clr_changes.specs.Deeds.{Deed, archive, command, update}
 use Rattle.clr_order.specs.Step.{Task}
 use Rattle.clr_order.specs.declared.action.Action.TheVariants.{Leave}
 use Rattle.clr_rules.specs.Id.{Id}

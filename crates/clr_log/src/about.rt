@@ -3,7 +3,7 @@ ghost use Rattle.std.specs.Prelude.{◌≡◌, map, option_and_then, reverse};
 ghost use Rattle.clr_rules.specs.IdText.{read_id};
 ghost use Rattle.serde_json.specs.Find.{as_str, get};
 ghost use Rattle.serde_json.specs.View.{view};
-ghost use Rattle.clr_deeds.specs.Deeds.{command as of_command, deed_of};
+ghost use Rattle.clr_changes.specs.Deeds.{command as of_command, deed_of};
 ghost use Rattle.clr_journal.specs.Line.{entry_of};
 ghost use Rattle.clr_log.specs.About.{card_clearance, clearance_of, is_wanted, last_clearance};
 ghost use Rattle.clr_log.specs.About.{line_clearance};

@@ -23,8 +23,8 @@ pub(crate) fn push_command(
     out.push('\n')
 }
 
-/// The lines of commands read as these commands, so `run` takes them; a `show` or `jumper` only where
-/// its moment is 0, as it is in each journal that was read. A law, with nothing to do.
+/// The lines of commands read as these commands, so `run` takes them; a `show` or `jumper` only
+/// where its moment is 0, as it is in each journal that was read. A law, with nothing to do.
 pub fn commands_read_back(commands: &[&Command])
     ensures { list_all has_its_moment (map (λ one. one.now) commands.now) ≡ true
         → commands_read (commands_text (map (λ one. one.now) commands.now))

@@ -2,7 +2,7 @@
 ghost use Rattle.std.specs.Prelude.{◌≡◌, ◌++◌, IfOk, OnOk, map, reverse, Some};
 ghost use Rattle.std.specs.Prelude.{string_bytes};
 ghost use Rattle.serde_json.specs.View.{view};
-ghost use Rattle.clr_deeds.specs.Deeds.{deed_of};
+ghost use Rattle.clr_changes.specs.Deeds.{deed_of};
 ghost use Rattle.clr_journal.specs.Line.{carried, entry_of};
 ghost use Rattle.clr_log.specs.Log.{archived_line, carried_line, entry_line, given_columns};
 ghost use Rattle.clr_log.specs.Log.{login_words, received_columns, received_text, reply_words};

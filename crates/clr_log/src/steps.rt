@@ -3,7 +3,7 @@ ghost use Rattle.std.specs.Prelude.{◌≡◌, map, option_map, reverse};
 ghost use Rattle.serde_json.specs.View.{view};
 ghost use Rattle.clr_order.specs.Step.{task};
 ghost use Rattle.clr_journal.specs.Line.{entry_of};
-ghost use Rattle.clr_deeds.specs.Deeds.{deed_of};
+ghost use Rattle.clr_changes.specs.Deeds.{deed_of};
 ghost use Rattle.clr_log.specs.Steps.{amended_by, deed_steps, given_by, is_amend, is_amend_deed};
 ghost use Rattle.clr_log.specs.Steps.{is_done_for};
 ghost use Rattle.clr_log.specs.Steps.{is_withdrawn, left_if, step_at, step_known, steps_ordered};

@@ -7,7 +7,7 @@ ghost use Rattle.clr_journal.specs.Journals.{carried_out};
 ghost use Rattle.clr_journal.specs.Line.{Entry, entry_of};
 ghost use Rattle.clr_chain.specs.Walking.{seen_step};
 ghost use Rattle.clr_log.specs.About.{clearance_of, is_wanted, line_clearance};
-ghost use Rattle.clr_deeds.specs.Deeds.{commands_among, deed_of};
+ghost use Rattle.clr_changes.specs.Deeds.{commands_among, deed_of};
 ghost use Rattle.clr_log.specs.Commands.{commands_text, wanted_of};
 ghost use Rattle.clr_log.specs.Log.{entry_line, if_wanted};
 ghost use Rattle.clr_log.specs.Walked.{Serve, bad_line, held_entries, idle_at_end, is_amending};
@@ -248,7 +248,7 @@ impl WalkedCommands {
     }
 
     /// Writes a command, if there is one that is wanted.
-    #[tactic(auto, unfolding(clr_deeds::specs::Deeds::commands_among))]
+    #[tactic(auto, unfolding(clr_changes::specs::Deeds::commands_among))]
     fn push(&self, alloc: Global, out: &mut String, done: Option<Carried>) -> Result<(), AllocError>
         ensures { OnOk result (string_bytes out.new ≡ string_bytes out.old
             ++ commands_text (wanted_of self.now.wanted (map pair_of (answered_of done)))) }
@@ -260,7 +260,7 @@ impl WalkedCommands {
     }
 
     /// Writes a command, if it is wanted. An update or an archive is passed over.
-    #[tactic(auto, unfolding(clr_deeds::specs::Deeds::commands_among))]
+    #[tactic(auto, unfolding(clr_changes::specs::Deeds::commands_among))]
     fn push_one(&self, alloc: Global, out: &mut String, one: &Carried) -> Result<(), AllocError>
         ensures { OnOk result (string_bytes out.new ≡ string_bytes out.old
             ++ if_wanted (is_wanted self.now.wanted

@@ -12,3 +12,4 @@ pub mod Search
 pub mod Ways
 pub mod Laws
 pub mod Prelude
+pub mod Results

@@ -22,9 +22,9 @@ pub enum OrderFault {
     /// elsewhere or inside.
     #[error("the point {0} does not stand on the border of the fence")]
     NotOnFence(Name),
-    /// The first point whose steps are not those that it has to have, otherwise the point of the first
-    /// step that is elsewhere; of a switch order the point of the first step that neither opens
-    /// nor closes.
+    /// The first point whose steps are not those that it has to have, otherwise the point of the
+    /// first step that is elsewhere; of a switch order the point of the first step that neither
+    /// opens nor closes.
     #[error("the steps at the point {0} are wrong")]
     StepsWrong(Name),
     /// The point of the first step whose point was not found, in a switch order alone.

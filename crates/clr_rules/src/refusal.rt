@@ -41,9 +41,9 @@ pub enum Refusal {
     /// The first of the points that is not on the border of the fence: it is unknown, elsewhere or
     /// inside.
     NotOnFence(Name),
-    /// The first point whose steps are not those that it has to have, otherwise the point of the first
-    /// step elsewhere; of a switch order the point of the first step that neither opens nor closes:
-    /// (m)(3)(ii), (iii), (xii), (xiii).
+    /// The first point whose steps are not those that it has to have, otherwise the point of the
+    /// first step elsewhere; of a switch order the point of the first step that neither opens nor
+    /// closes: (m)(3)(ii), (iii), (xii), (xiii).
     StepsWrong(Name),
     /// The point of the first step whose point the network lacks, in a switch order alone.
     UnknownPoint(Name),

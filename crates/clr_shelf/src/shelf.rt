@@ -42,8 +42,8 @@ pub trait Shelf<R: Row>: Drop {
         ensures { IfOk result (λ found. map (λ row. row.now) found.items
             ≡ filter (R.is_in group.now) (rows self.now)) };
 
-    /// Puts the rows of these groups after those that were found, group by group, and of each in key
-    /// order. It asks for memory where there is no room for them.
+    /// Puts the rows of these groups after those that were found, group by group, and of each in
+    /// key order. It asks for memory where there is no room for them.
     fn push_groups<'a>(
         &'a self,
         groups: &[R::Group],

@@ -111,8 +111,8 @@ impl<R: Row> SortedShelf<R> {
             .partition_point(|row| row.compare_group(group).is_le())
     }
 
-    // Where the rows of a group end, or would, if the row before a place is in it. Nothing is looked
-    // up where the row at the place is above the group.
+    // Where the rows of a group end, or would, if the row before a place is in it. Nothing is
+    // looked up where the row at the place is above the group.
     fn end_after(&self, group: &R::Group, place: usize) -> usize
         requires in_range { place ≤ length (items_of self.now.list) }
         requires before { (k : ℕ) (d : R) → k + 1 ≡ place

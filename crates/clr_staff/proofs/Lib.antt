@@ -1,1 +1,2 @@
 pub mod StaffFacts
+pub mod Texts

@@ -1,2 +1,4 @@
 pub mod Laws
 pub mod Staff
+pub mod Login
+pub mod Logins

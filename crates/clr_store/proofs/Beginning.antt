@@ -15,11 +15,11 @@ use Rattle.sqlite.proofs.Callers.{runs_as}
 use Rattle.sqlite_catalog.specs.Listing.{IsSound}
 use Rattle.sqlite_schema.specs.Names.{same_name, table_named}
 use Rattle.clr_shelf.specs.Rows.{in_key_order}
-use Rattle.clr_tables.specs.TableEdits.{tables_edited}
-use Rattle.clr_tables.specs.TableText.{table_text}
-use Rattle.clr_tables.specs.Tables.{Tables}
-use Rattle.clr_tables.specs.declared.table_name.TableName.{TableName}
-use Rattle.clr_tables.specs.declared.table_name.TableName.TheVariants.{Meta, Section, Point, Staff, Clearance, Step, Hold, NetworkPoint, Journal}
+use Rattle.clr_load.specs.TableEdits.{tables_edited}
+use Rattle.clr_load.specs.TableText.{table_text}
+use Rattle.clr_load.specs.Tables.{Tables}
+use Rattle.clr_load.specs.declared.table_name.TableName.{TableName}
+use Rattle.clr_load.specs.declared.table_name.TableName.TheVariants.{Meta, Section, Point, Staff, Clearance, Step, Hold, NetworkPoint, Journal}
 use Rattle.clr_load.specs.Fault.{IsOfDatabase}
 use Rattle.clr_load.specs.Layout.{has_rows, has_table, is_two, names_before, place_in, tree_in}
 use Rattle.clr_load.specs.Schema.{columns_in, keys_in, schema_in, schema_of, table_at, table_in}

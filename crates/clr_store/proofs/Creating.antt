@@ -37,9 +37,9 @@ use Rattle.clr_rules.proofs.good.Opening.{in_key_order-from_sorted}
 use Rattle.clr_rules.specs.Register.{first_state, opening}
 use Rattle.clr_rules.specs.States.{state_key, state_of}
 use Rattle.std.proofs.lemmas.Cmp.{nat_list_cmp_total}
-use Rattle.clr_tables.specs.Tables.{Tables, jumper_row, section_row, staff_row, state_at, tables_of}
-use Rattle.clr_tables.specs.declared.table_name.TableName.{TableName}
-use Rattle.clr_tables.specs.declared.table_name.TableName.TheVariants.{Meta, Section, Point, Staff, Clearance, Step, Hold, NetworkPoint, Journal}
+use Rattle.clr_load.specs.Tables.{Tables, jumper_row, section_row, staff_row, state_at, tables_of}
+use Rattle.clr_load.specs.declared.table_name.TableName.{TableName}
+use Rattle.clr_load.specs.declared.table_name.TableName.TheVariants.{Meta, Section, Point, Staff, Clearance, Step, Hold, NetworkPoint, Journal}
 use Rattle.clr_store.specs.Change.{Changes, ChangesPlace, Does, HasEmpty, Makes, Reaches, added, filled, opening_points, tables_with, with_rows}
 use Rattle.clr_load.specs.Layout.{has_table, is_two, names_before, names_in, place_in, tree_in}
 use Rattle.clr_load.specs.declared.layout.Layout.{Layout}

@@ -4,7 +4,7 @@ use Rattle.sqlite.specs.Values.{bound_value}
 use Rattle.clr_net.specs.declared.point.Position.{Position}
 use Rattle.clr_net.specs.declared.point.Position.TheVariants.{Opened, Closed}
 use Rattle.sqlite.specs.Kind.TheVariants.{Integer}
-use Rattle.clr_tables.specs.Tables.{flag_value, name_or_null, position_value}
+use Rattle.clr_load.specs.Tables.{flag_value, name_or_null, position_value}
 use Rattle.clr_load.specs.Stored.{is_of_kind}
 
 pub bound_position : (position : Position) → bound_value (position_value position) ≡ position_value position

@@ -27,9 +27,9 @@ use Rattle.sqlite_trees.specs.declared.error.StoreError.{StoreError}
 use Rattle.sqlite_trees.specs.declared.error.StoreError.TheVariants.{OutOfMemory, Io, Corrupt, Full, Broken, Unstorable}
 use Rattle.sqlite_trees.specs.declared.store.Shape.TheVariants.{Table}
 use Rattle.sqlite_value.specs.Keys.{first_key, plain}
-use Rattle.clr_tables.specs.TableEdits.{with_table_row, without_table_row}
-use Rattle.clr_tables.specs.Tables.{Tables}
-use Rattle.clr_tables.specs.declared.table_name.TableName.{TableName}
+use Rattle.clr_load.specs.TableEdits.{with_table_row, without_table_row}
+use Rattle.clr_load.specs.Tables.{Tables}
+use Rattle.clr_load.specs.declared.table_name.TableName.{TableName}
 use Rattle.clr_store.specs.Change.{Changes, Does, Inserts, after_insert, with_rows}
 use Rattle.clr_load.specs.Fault.{IsOfDatabase}
 use Rattle.clr_load.specs.Layout.{has_table, tree_in}
@@ -45,7 +45,7 @@ use Rattle.clr_load.proofs.Texts.{key_tests, tests_from}
 use Rattle.clr_store.proofs.Effects.{inserts, is_met, is_met_in, next_row}
 use Rattle.clr_store.proofs.Inside.{changed_to, in_any_order, put_again, put_in, runs_inside, taken_away, then_step}
 use Rattle.sqlite.specs.Effect.{Database}
-use Rattle.clr_tables.specs.declared.table_name.TableName.TheVariants.{Journal}
+use Rattle.clr_load.specs.declared.table_name.TableName.TheVariants.{Journal}
 use Rattle.clr_store.proofs.Layouts.{in_two, rows_in_two}
 use Rattle.clr_store.proofs.Replacing.{differ_is, tests_taken, unique_is}
 use Rattle.clr_store.proofs.RowLemmas.{put_fresh}

@@ -36,10 +36,10 @@ use Rattle.clr_shelf.specs.Rows.{in_key_order, with_row, without_row}
 use Rattle.sqlite_value.proofs.OrderLemmas.{row_cmp_total}
 use Rattle.clr_rules.specs.declared.change.Edit.{Edit}
 use Rattle.clr_rules.specs.declared.change.Edit.TheVariants.{SetPosition, SetHand, PutHold, TakeHold, PutRecord, PutStep, AddSection, AddPoint}
-use Rattle.clr_tables.specs.TableEdits.{added_point, changed_point, handed_row, placed_row, table_edited, tables_edited, with_table_row, without_table_row}
-use Rattle.clr_tables.specs.Tables.{Tables, clearance_row, hand_values, hold_row, position_value, section_row, step_row}
-use Rattle.clr_tables.specs.declared.table_name.TableName.{TableName}
-use Rattle.clr_tables.specs.declared.table_name.TableName.TheVariants.{Section, Clearance, Step, Hold, NetworkPoint, Journal}
+use Rattle.clr_load.specs.TableEdits.{added_point, changed_point, handed_row, placed_row, table_edited, tables_edited, with_table_row, without_table_row}
+use Rattle.clr_load.specs.Tables.{Tables, clearance_row, hand_values, hold_row, position_value, section_row, step_row}
+use Rattle.clr_load.specs.declared.table_name.TableName.{TableName}
+use Rattle.clr_load.specs.declared.table_name.TableName.TheVariants.{Section, Clearance, Step, Hold, NetworkPoint, Journal}
 use Rattle.clr_store.specs.Contract.{AreEdited}
 use Rattle.clr_store.specs.Change.{Changes, Does, Replaces, SamePlace, after_replace, with_rows}
 use Rattle.clr_load.specs.Cause.{fault_of}

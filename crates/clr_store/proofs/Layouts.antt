@@ -8,9 +8,9 @@ use Rattle.std.proofs.lemmas.Bool.{eq-eqb, eqb-true, true≢false}
 use Rattle.std.proofs.lemmas.Option.{same_Some, slice_get-map}
 use Rattle.sqlite.specs.Order.{Row}
 use Rattle.sqlite.specs.Tree.{Trees}
-use Rattle.clr_tables.specs.Tables.{Tables}
-use Rattle.clr_tables.specs.declared.table_name.TableName.{TableName}
-use Rattle.clr_tables.specs.declared.table_name.TableName.TheVariants.{Meta, Section, Point, Staff, Clearance, Step, Hold, NetworkPoint, Journal}
+use Rattle.clr_load.specs.Tables.{Tables}
+use Rattle.clr_load.specs.declared.table_name.TableName.{TableName}
+use Rattle.clr_load.specs.declared.table_name.TableName.TheVariants.{Meta, Section, Point, Staff, Clearance, Step, Hold, NetworkPoint, Journal}
 use Rattle.clr_load.specs.Layout.{has_rows, has_table, is_of_register, is_two, names_in, place_in, tree_in}
 use Rattle.clr_load.specs.declared.layout.Layout.{Layout}
 use Rattle.clr_load.specs.declared.layout.Layout.TheVariants.{AsMade, AsMadeLogged, AsMoved, AsMovedLogged, OfOne}

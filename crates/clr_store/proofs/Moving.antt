@@ -37,11 +37,11 @@ use Rattle.sqlite_trees.proofs.ListLemmas.{map-map}
 use Rattle.sqlite_value.proofs.OrderLemmas.{row_cmp_total}
 use Rattle.clr_shelf.proofs.KeyOrder.{in_key_order-with_row}
 use Rattle.clr_shelf.specs.Rows.{in_key_order}
-use Rattle.clr_tables.specs.RowsRead.{read_version}
-use Rattle.clr_tables.specs.TableEdits.{tables_moved, with_table_row}
-use Rattle.clr_tables.specs.Tables.{Tables, flag_value, version_row}
-use Rattle.clr_tables.specs.declared.table_name.TableName.{TableName}
-use Rattle.clr_tables.specs.declared.table_name.TableName.TheVariants.{Meta, Section, Point, Staff, Clearance, Step, Hold, NetworkPoint, Journal}
+use Rattle.clr_load.specs.RowsRead.{read_version}
+use Rattle.clr_load.specs.TableEdits.{tables_moved, with_table_row}
+use Rattle.clr_load.specs.Tables.{Tables, flag_value, version_row}
+use Rattle.clr_load.specs.declared.table_name.TableName.{TableName}
+use Rattle.clr_load.specs.declared.table_name.TableName.TheVariants.{Meta, Section, Point, Staff, Clearance, Step, Hold, NetworkPoint, Journal}
 use Rattle.clr_store.specs.Change.{Changes, Makes, is_same, with_rows}
 use Rattle.clr_store.specs.Moving.{AreMoved, IsMoving, LeavesMoved, Moves, MovesTables, moved_points, rows_moving}
 use Rattle.clr_load.specs.Cause.{SqlHasCause}

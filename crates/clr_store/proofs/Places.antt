@@ -12,11 +12,11 @@ use Rattle.sqlite.specs.Tree.{Trees}
 use Rattle.sqlite.specs.declared.transaction.Transaction.{Transaction}
 use Rattle.sqlite_schema.specs.Names.{same_name, table_named}
 use Rattle.clr_rules.specs.declared.change.Edit.{Edit}
-use Rattle.clr_tables.specs.TableEdits.{tables_edited}
-use Rattle.clr_tables.specs.TableText.{table_text}
-use Rattle.clr_tables.specs.Tables.{Tables}
-use Rattle.clr_tables.specs.declared.table_name.TableName.{TableName}
-use Rattle.clr_tables.specs.declared.table_name.TableName.TheVariants.{Meta, Section, Point, Staff, Clearance, Step, Hold, NetworkPoint, Journal}
+use Rattle.clr_load.specs.TableEdits.{tables_edited}
+use Rattle.clr_load.specs.TableText.{table_text}
+use Rattle.clr_load.specs.Tables.{Tables}
+use Rattle.clr_load.specs.declared.table_name.TableName.{TableName}
+use Rattle.clr_load.specs.declared.table_name.TableName.TheVariants.{Meta, Section, Point, Staff, Clearance, Step, Hold, NetworkPoint, Journal}
 use Rattle.clr_load.specs.Fault.{IsOfDatabase}
 use Rattle.clr_load.specs.Layout.{has_rows, has_table, is_of_register, is_two, tree_in}
 use Rattle.clr_load.specs.Schema.{columns_in, schema_in}

@@ -20,8 +20,8 @@ use Rattle.sqlite_trees.proofs.ListLemmas.{map-map}
 use Rattle.clr_net.specs.declared.point.Position.{Position}
 use Rattle.clr_rules.specs.declared.change.Edit.{Edit}
 use Rattle.clr_rules.specs.declared.change.Edit.TheVariants.{SetPosition, SetHand}
-use Rattle.clr_tables.specs.TableEdits.{changed_point, handed_row, placed_row, table_edited, tables_edited}
-use Rattle.clr_tables.specs.Tables.{position_value}
+use Rattle.clr_load.specs.TableEdits.{changed_point, handed_row, placed_row, table_edited, tables_edited}
+use Rattle.clr_load.specs.Tables.{position_value}
 use Rattle.clr_store.specs.Change.{Changes, Does}
 use Rattle.clr_load.specs.Layout.{is_two}
 use Rattle.clr_load.specs.declared.layout.Layout.{Layout}

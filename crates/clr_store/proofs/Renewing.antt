@@ -31,9 +31,9 @@ use Rattle.clr_shelf.proofs.Members.{row_of-member}
 use Rattle.clr_shelf.specs.Rows.{in_key_order}
 use Rattle.clr_staff.specs.Staff.{IsStaff}
 use Rattle.clr_staff.specs.declared.employee.StaffRow.{StaffRow}
-use Rattle.clr_tables.specs.Tables.{Tables, jumper_row, section_row, staff_row, state_at}
-use Rattle.clr_tables.specs.declared.table_name.TableName.{TableName}
-use Rattle.clr_tables.specs.declared.table_name.TableName.TheVariants.{Meta, Section, Point, Staff, Clearance, Step, Hold, NetworkPoint, Journal}
+use Rattle.clr_load.specs.Tables.{Tables, jumper_row, section_row, staff_row, state_at}
+use Rattle.clr_load.specs.declared.table_name.TableName.{TableName}
+use Rattle.clr_load.specs.declared.table_name.TableName.TheVariants.{Meta, Section, Point, Staff, Clearance, Step, Hold, NetworkPoint, Journal}
 use Rattle.clr_load.proofs.Texts.{IsRead, all_of, query_of}
 use Rattle.clr_load.specs.Layout.{has_table, is_two, place_in, tree_in}
 use Rattle.clr_load.specs.Schema.{columns_in, schema_in}

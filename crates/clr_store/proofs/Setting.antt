@@ -30,7 +30,7 @@ use Rattle.sqlite_rules.specs.Calls.{ids_of}
 use Rattle.sqlite_rules.specs.Edit.{id_in}
 use Rattle.sqlite_tied.specs.Compute.{everything}
 use Rattle.sqlite_trees.proofs.ListLemmas.{map-map}
-use Rattle.clr_tables.specs.declared.table_name.TableName.TheVariants.{Journal}
+use Rattle.clr_load.specs.declared.table_name.TableName.TheVariants.{Journal}
 use Rattle.clr_load.specs.Layout.{has_table, place_in, tree_in}
 use Rattle.clr_load.specs.Schema.{columns_in, schema_in, table_in}
 use Rattle.clr_load.specs.Stored.{HasRows, bodies, fits_columns}

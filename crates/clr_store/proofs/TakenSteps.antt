@@ -8,9 +8,9 @@ use Rattle.sqlite_value.proofs.OrderLemmas.{row_cmp_total}
 use Rattle.clr_shelf.proofs.KeyOrder.{in_key_order-without_row}
 use Rattle.clr_shelf.specs.Rows.{in_key_order}
 use Rattle.clr_rules.specs.declared.step_row.StepKey.{StepKey}
-use Rattle.clr_tables.specs.TableEdits.{without_table_row}
-use Rattle.clr_tables.specs.Tables.{Tables}
-use Rattle.clr_tables.specs.declared.table_name.TableName.TheVariants.{Step}
+use Rattle.clr_load.specs.TableEdits.{without_table_row}
+use Rattle.clr_load.specs.Tables.{Tables}
+use Rattle.clr_load.specs.declared.table_name.TableName.TheVariants.{Step}
 use Rattle.clr_load.specs.Layout.{is_two}
 use Rattle.clr_load.specs.Schema.{keys_in}
 use Rattle.clr_load.specs.Stored.{HasTables, Holds, IsInOrder, IsPlaced}

@@ -34,11 +34,11 @@ use Rattle.sqlite_value.proofs.OrderLemmas.{row_cmp_total, value_cmp_total}
 use Rattle.clr_shelf.specs.Rows.{in_key_order, without_row}
 use Rattle.clr_shelf.proofs.KeyOrder.{in_key_order-with_row}
 use Rattle.clr_shelf.proofs.Keys.{apart_back}
-use Rattle.clr_tables.specs.TableEdits.{with_table_row, without_table_row}
-use Rattle.clr_tables.specs.RowsRead.{integer_of, read_version, version_if_there}
-use Rattle.clr_tables.specs.Tables.{Tables, version_row}
-use Rattle.clr_tables.specs.declared.table_name.TableName.{TableName}
-use Rattle.clr_tables.specs.declared.table_name.TableName.TheVariants.{Meta, Section, Point, Staff, Clearance, Step, Hold, NetworkPoint, Journal}
+use Rattle.clr_load.specs.TableEdits.{with_table_row, without_table_row}
+use Rattle.clr_load.specs.RowsRead.{integer_of, read_version, version_if_there}
+use Rattle.clr_load.specs.Tables.{Tables, version_row}
+use Rattle.clr_load.specs.declared.table_name.TableName.{TableName}
+use Rattle.clr_load.specs.declared.table_name.TableName.TheVariants.{Meta, Section, Point, Staff, Clearance, Step, Hold, NetworkPoint, Journal}
 use Rattle.clr_load.specs.Layout.{has_rows, has_table, is_moved, tree_in}
 use Rattle.clr_load.specs.declared.layout.Layout.{Layout}
 use Rattle.clr_load.specs.declared.layout.Layout.TheVariants.{AsMade, AsMadeLogged, AsMoved, AsMovedLogged, OfOne}

@@ -7,8 +7,8 @@ use Rattle.sqlite.specs.Schema.{Schema}
 use Rattle.sqlite.specs.State.{HasCleanDisk, State, Survives}
 use Rattle.sqlite.specs.Store.{Ghosts}
 use Rattle.sqlite.specs.declared.transaction.Transaction.{Transaction}
-use Rattle.clr_place.specs.declared.place.Place.{Place}
-use Rattle.clr_tables.specs.Tables.{Tables, place_row}
+use Rattle.clr_rules.specs.declared.place.Place.{Place}
+use Rattle.clr_load.specs.Tables.{Tables, place_row}
 use Rattle.clr_load.specs.Fault.{IsOfDatabase}
 use Rattle.clr_load.specs.Layout.{is_two}
 use Rattle.clr_load.specs.Stored.{HasTables, HasTablesIn, Holds, IsInOrder, IsPlaced}

@@ -33,9 +33,9 @@ use Rattle.sqlite_trees.specs.declared.store.Shape.TheVariants as Shape
 use Rattle.clr_net.specs.declared.point.Position.{Position}
 use Rattle.clr_rules.specs.Id.{Id}
 use Rattle.clr_rules.specs.declared.change.Edit.TheVariants.{SetPosition, SetHand}
-use Rattle.clr_tables.specs.TableEdits.{changed_point, handed_row, placed_row, table_edited}
-use Rattle.clr_tables.specs.Tables.{position_value}
-use Rattle.clr_tables.specs.declared.table_name.TableName.TheVariants.{NetworkPoint}
+use Rattle.clr_load.specs.TableEdits.{changed_point, handed_row, placed_row, table_edited}
+use Rattle.clr_load.specs.Tables.{position_value}
+use Rattle.clr_load.specs.declared.table_name.TableName.TheVariants.{NetworkPoint}
 use Rattle.clr_store.specs.Change.{Changes, with_rows}
 use Rattle.clr_load.specs.Layout.{is_two, tree_in}
 use Rattle.clr_load.specs.declared.layout.Layout.{Layout}

@@ -1,8 +1,8 @@
 -- How a version that was read is refused.
 use Rattle.std.proofs.Common.{◌≡◌, ◌≤◌, ◌⊎◌, inl, inr, true, ℕ, zero, suc, arith, ℤ, pos, [], ◌∷◌, Err, IfErr, Ok, Result, refl, subst, sym}
-use Rattle.clr_tables.specs.RowsRead.{read_version}
-use Rattle.clr_tables.specs.Tables.{Tables, version_row}
-use Rattle.clr_tables.specs.declared.table_name.TableName.{TableName}
+use Rattle.clr_load.specs.RowsRead.{read_version}
+use Rattle.clr_load.specs.Tables.{Tables, version_row}
+use Rattle.clr_load.specs.declared.table_name.TableName.{TableName}
 use Rattle.sqlite.specs.Effect.{Database}
 use Rattle.sqlite.specs.declared.error.Error.{Error}
 use Rattle.clr_load.specs.Layout.{is_two, version_of}

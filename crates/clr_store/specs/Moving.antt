@@ -8,13 +8,13 @@ use Rattle.sqlite.specs.State.{KeepsCommit}
 use Rattle.sqlite.specs.Store.{Ghosts}
 use Rattle.sqlite.specs.Tree.{Trees}
 use Rattle.sqlite.specs.declared.transaction.Transaction.{Transaction}
-use Rattle.clr_tables.specs.RowsRead.{read_version}
-use Rattle.clr_tables.specs.TableEdits.{tables_moved}
-use Rattle.clr_tables.specs.Tables.{Tables, flag_value, version_row}
-use Rattle.clr_tables.specs.declared.table_name.TableName.{TableName}
-use Rattle.clr_tables.specs.declared.table_name.TableName.TheVariants.{Meta, Section, Point, Staff}
-use Rattle.clr_tables.specs.declared.table_name.TableName.TheVariants.{Clearance, Step, Hold}
-use Rattle.clr_tables.specs.declared.table_name.TableName.TheVariants.{NetworkPoint, Journal}
+use Rattle.clr_load.specs.RowsRead.{read_version}
+use Rattle.clr_load.specs.TableEdits.{tables_moved}
+use Rattle.clr_load.specs.Tables.{Tables, flag_value, version_row}
+use Rattle.clr_load.specs.declared.table_name.TableName.{TableName}
+use Rattle.clr_load.specs.declared.table_name.TableName.TheVariants.{Meta, Section, Point, Staff}
+use Rattle.clr_load.specs.declared.table_name.TableName.TheVariants.{Clearance, Step, Hold}
+use Rattle.clr_load.specs.declared.table_name.TableName.TheVariants.{NetworkPoint, Journal}
 use Rattle.clr_store.specs.Change.{Makes}
 use Rattle.clr_load.specs.Contract.{old_points}
 use Rattle.clr_load.specs.Inside.{RunsInside}

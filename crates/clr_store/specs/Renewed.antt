@@ -10,11 +10,11 @@ use Rattle.clr_rules.specs.Register.{unplaced_net}
 use Rattle.clr_rules.specs.States.{state_key}
 use Rattle.clr_rules.specs.declared.point_state.PointState.{PointState}
 use Rattle.clr_staff.specs.declared.employee.StaffRow.{StaffRow}
-use Rattle.clr_tables.specs.Tables.{Tables, jumper_row, section_row, staff_row, state_at}
-use Rattle.clr_tables.specs.declared.table_name.TableName.{TableName}
-use Rattle.clr_tables.specs.declared.table_name.TableName.TheVariants.{Meta, Section, Point, Staff}
-use Rattle.clr_tables.specs.declared.table_name.TableName.TheVariants.{Clearance, Step, Hold}
-use Rattle.clr_tables.specs.declared.table_name.TableName.TheVariants.{NetworkPoint, Journal}
+use Rattle.clr_load.specs.Tables.{Tables, jumper_row, section_row, staff_row, state_at}
+use Rattle.clr_load.specs.declared.table_name.TableName.{TableName}
+use Rattle.clr_load.specs.declared.table_name.TableName.TheVariants.{Meta, Section, Point, Staff}
+use Rattle.clr_load.specs.declared.table_name.TableName.TheVariants.{Clearance, Step, Hold}
+use Rattle.clr_load.specs.declared.table_name.TableName.TheVariants.{NetworkPoint, Journal}
 use Rattle.clr_load.specs.Stored.{ArePlaced, AreTables, HasTables}
 use Rattle.clr_store.specs.Change.{added, with_rows}
 use Rattle.clr_store.specs.Contract.{StaysPlaced}

@@ -4,8 +4,8 @@ use Rattle.sqlite.specs.Effect.{Database}
 use Rattle.sqlite.specs.Order.{Row}
 use Rattle.sqlite.specs.Tree.{Trees}
 use Rattle.clr_rules.specs.declared.step_row.StepKey.{StepKey}
-use Rattle.clr_tables.specs.TableEdits.{without_table_row}
-use Rattle.clr_tables.specs.Tables.{Tables, id_values, number_value}
+use Rattle.clr_load.specs.TableEdits.{without_table_row}
+use Rattle.clr_load.specs.Tables.{Tables, id_values, number_value}
 use Rattle.clr_load.specs.Stored.{ArePlaced, AreTables, HasTables}
 use Rattle.clr_store.specs.Contract.{StaysPlaced}
 

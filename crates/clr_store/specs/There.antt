@@ -10,7 +10,7 @@ use Rattle.sqlite_disk.specs.declared.Disk as disk
 use Rattle.sqlite_store.specs.declared.store.FileStore.{FileStore}
 use Rattle.sqlite_trees.specs.View.{IsShaped}
 use Rattle.sqlite_trees.specs.declared.store.Shape.TheVariants.{Table}
-use Rattle.clr_tables.specs.Tables.{Tables}
+use Rattle.clr_load.specs.Tables.{Tables}
 use Rattle.clr_load.specs.declared.layout.Layout.{Layout}
 use Rattle.clr_load.specs.Schema.{behind_meta, schema_in}
 use Rattle.clr_load.specs.Stored.{AreNumbered, HasMeta, HasTablesIn, HasWholeRows, IsLaidOut}

@@ -6,7 +6,7 @@ ghost use Rattle.sqlite.specs.Values.{bound};
 ghost use Rattle.clr_rules.specs.declared.change.Edit.TheVariants.{SetPosition, SetHand, PutHold};
 ghost use Rattle.clr_rules.specs.declared.change.Edit.TheVariants.{TakeHold, PutRecord, PutStep};
 ghost use Rattle.clr_rules.specs.declared.change.Edit.TheVariants.{AddSection, AddPoint};
-ghost use Rattle.clr_tables.specs.TableEdits.{table_edited, tables_edited, with_table_row};
+ghost use Rattle.clr_load.specs.TableEdits.{table_edited, tables_edited, with_table_row};
 ghost use Rattle.clr_store.specs.Change.{Does, with_rows};
 ghost use Rattle.clr_load.specs.Fault.{IsOfDatabase};
 ghost use Rattle.clr_load.specs.Layout.{has_table};
@@ -18,11 +18,10 @@ use crate::statements::{delete_row, insert_new, insert_row, replace_row};
 use crate::values::{
     flag_value, name_or_null, name_value, number_value, point_values, position_value, text_value,
 };
-use clr_load::StoreFault;
+use clr_load::{StoreFault, TableName, action_name, state_name};
 use clr_net::{Name, PointRow, Position, SectionRow};
 use clr_order::StepState;
 use clr_rules::{ClearanceId, Edit, Hold, Phase, Record, StepRow};
-use clr_tables::{TableName, action_name, state_name};
 use sqlite::types::ValueRef;
 use sqlite::{Alter, Transaction};
 

@@ -3,8 +3,8 @@ ghost use Rattle.std.specs.Prelude.{◌≡◌, ◌⊎◌, [], false, is_ok, IfEr
 ghost use Rattle.std.specs.Prelude.{OnOk};
 ghost use Rattle.sqlite.specs.Held.{state};
 ghost use Rattle.sqlite.specs.State.{HasCleanDisk, Survives};
-ghost use Rattle.clr_tables.specs.TableEdits.{tables_moved, with_table_row};
-ghost use Rattle.clr_tables.specs.Tables.{Tables, version_row};
+ghost use Rattle.clr_load.specs.TableEdits.{tables_moved, with_table_row};
+ghost use Rattle.clr_load.specs.Tables.{Tables, version_row};
 ghost use Rattle.clr_store.specs.Change.{Does, with_rows};
 ghost use Rattle.clr_store.specs.Moving.{AreMoved, IsMoving, Moves, MovesTables, moved_points};
 ghost use Rattle.clr_load.specs.Cause.{SqlHasCause};
@@ -16,8 +16,7 @@ ghost use Rattle.clr_load.specs.Stored.{HasOldTables, HasTables, Holds};
 use crate::edits::put_row;
 use crate::sql::create_sql;
 use crate::values::{number_value, text_value};
-use clr_load::{StoreFault, check_old_points};
-use clr_tables::TableName;
+use clr_load::{StoreFault, TableName, check_old_points};
 use sqlite::{Alter, Connection, Transaction};
 
 /// Makes the table of points of version 2, without a row.

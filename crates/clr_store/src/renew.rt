@@ -6,7 +6,7 @@ ghost use Rattle.sqlite.specs.State.{HasCleanDisk, Survives};
 ghost use Rattle.clr_net.specs.Name.{name_cmp};
 ghost use Rattle.clr_rules.specs.States.{state_key};
 ghost use Rattle.clr_shelf.specs.Rows.{in_key_order};
-ghost use Rattle.clr_tables.specs.Tables.{jumper_row, place_row, section_row, staff_row};
+ghost use Rattle.clr_load.specs.Tables.{jumper_row, place_row, section_row, staff_row};
 ghost use Rattle.clr_load.specs.Contract.{IsSaved};
 ghost use Rattle.clr_load.specs.Fault.{IsOfDatabase};
 ghost use Rattle.clr_load.specs.Layout.{has_table};
@@ -20,12 +20,10 @@ use crate::create::{add_sections, add_staff};
 use crate::place::{can_set, set_if_given};
 use crate::statements::{clear_table, insert_row};
 use crate::values::{handed_values, point_values};
-use clr_load::StoreFault;
+use clr_load::{StoreFault, TableName};
 use clr_net::{Network, PointRow, SectionRow};
-use clr_place::Place;
-use clr_rules::PointState;
+use clr_rules::{Place, PointState};
 use clr_staff::{Staff, StaffRow};
-use clr_tables::TableName;
 use sqlite::{Alter, Connection, Transaction};
 
 /// Replaces network, staff and states, and sets the place, if one is given, in one transaction, or

@@ -3,7 +3,7 @@ ghost use Rattle.std.specs.Prelude.{◌≡◌};
 ghost use Rattle.clr_load.specs.Sql.{create_sql, delete_sql, insert_sql, replace_sql};
 ghost use Rattle.clr_store.specs.Renewed.{clear_sql};
 
-use clr_tables::TableName;
+use clr_load::TableName;
 
 /// Makes a table.
 pub(crate) fn create_sql(table: TableName) -> &'static str

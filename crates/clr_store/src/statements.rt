@@ -3,7 +3,7 @@ ghost use Rattle.std.specs.Prelude.{◌≡◌, [], ◌∷◌, IfErr, true, take}
 ghost use Rattle.sqlite.specs.Held.{state};
 ghost use Rattle.sqlite.specs.State.{Survives};
 ghost use Rattle.sqlite.specs.Values.{bound};
-ghost use Rattle.clr_tables.specs.TableEdits.{without_table_row};
+ghost use Rattle.clr_load.specs.TableEdits.{without_table_row};
 ghost use Rattle.clr_store.specs.Change.{Does, Inserts, Replaces, with_rows};
 ghost use Rattle.clr_load.specs.Fault.{IsOfDatabase};
 ghost use Rattle.clr_load.specs.Layout.{has_table};
@@ -12,8 +12,7 @@ ghost use Rattle.clr_load.specs.Schema.{columns_in, keys_in};
 ghost use Rattle.clr_load.specs.Stored.{fits_columns, has_key};
 
 use crate::sql::{clear_sql, delete_sql, insert_sql, replace_sql};
-use clr_load::StoreFault;
-use clr_tables::TableName;
+use clr_load::{StoreFault, TableName};
 use sqlite::types::ValueRef;
 use sqlite::{Alter, Error, ErrorCode, Transaction};
 

@@ -5,7 +5,7 @@ ghost use Rattle.sqlite.specs.Held.{state};
 ghost use Rattle.sqlite.specs.State.{HasCleanDisk, Survives};
 ghost use Rattle.clr_load.specs.Contract.{IsSaved};
 ghost use Rattle.clr_load.specs.Fault.{IsOfDatabase};
-ghost use Rattle.clr_tables.specs.Tables.{place_row};
+ghost use Rattle.clr_load.specs.Tables.{place_row};
 ghost use Rattle.clr_store.specs.Change.{Does, DoesWith};
 ghost use Rattle.clr_store.specs.Contract.{AreTurned, TurnsInto};
 ghost use Rattle.clr_store.specs.StepsTaken.{without_step, without_steps};
@@ -13,10 +13,8 @@ ghost use Rattle.clr_store.specs.StepsTaken.{without_step, without_steps};
 use crate::place::{can_set, set_if_given};
 use crate::statements::delete_row;
 use crate::values::{name_value, number_value};
-use clr_load::StoreFault;
-use clr_place::Place;
-use clr_rules::StepKey;
-use clr_tables::TableName;
+use clr_load::{StoreFault, TableName};
+use clr_rules::{Place, StepKey};
 use sqlite::{Alter, Connection, Transaction};
 
 /// Takes the steps of these keys, and sets the place, if one is given, in one transaction, or

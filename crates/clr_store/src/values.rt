@@ -6,13 +6,13 @@ ghost use Rattle.sqlite_value.specs.Value.{owned};
 ghost use Rattle.clr_rules.specs.Register.{first_state};
 ghost use Rattle.clr_load.specs.Schema.{columns_in};
 ghost use Rattle.clr_load.specs.Stored.{fits_columns};
-ghost use Rattle.clr_tables.specs.Tables.{flag_value, jumper_row, name_or_null, number_value};
-ghost use Rattle.clr_tables.specs.Tables.{place_row, position_value};
-ghost use Rattle.clr_tables.specs.declared.table_name.TableName.TheVariants.{Journal};
-ghost use Rattle.clr_tables.specs.declared.table_name.TableName.TheVariants.{NetworkPoint};
+ghost use Rattle.clr_load.specs.Tables.{flag_value, jumper_row, name_or_null, number_value};
+ghost use Rattle.clr_load.specs.Tables.{place_row, position_value};
+ghost use Rattle.clr_load.specs.declared.table_name.TableName.TheVariants.{Journal};
+ghost use Rattle.clr_load.specs.declared.table_name.TableName.TheVariants.{NetworkPoint};
 
 use clr_net::{Name, PointRow, Position};
-use clr_place::Place;
+use clr_rules::Place;
 use sqlite::types::ValueRef;
 
 /// A text.

@@ -114,8 +114,8 @@ fn is_given_once(told: (Told, Told)) -> bool {
     )
 }
 
-/// Stops a file at each call until the request is answered, and returns how often it was answered by
-/// a 503. The command of a 503 may be carried out: then the next one gets the second number.
+/// Stops a file at each call until the request is answered, and returns how often it was answered
+/// by a 503. The command of a 503 may be carried out: then the next one gets the second number.
 fn unavailable_count<R: Abort>(
     rt: &R,
     alloc: Global,

@@ -1,9 +1,8 @@
 //! Tables that a database has and that are not opened.
 use crate::at_desk::{AtDesk, at_new_desk};
 use clr_desk::{Desk, DeskFault};
-use clr_load::StoreFault;
+use clr_load::{StoreFault, TableName};
 use clr_store::Store;
-use clr_tables::TableName;
 use clr_worked::network;
 use sqlite::{Alter, Connection};
 use std::alloc::Global;

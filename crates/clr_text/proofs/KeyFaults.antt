@@ -2,7 +2,7 @@
 use Rattle.std.proofs.Common.{◌≡◌, ℕ, Bool, true, false, not, List, [], ◌∷◌, Option, None, Some, Result, Ok, Err, is_ok, is_some, ok_or, refl, ◌∙◌, ap, cond, drop, filter, find, if◌then◌else◌}
 use Rattle.serde_json.specs.Data.{Data, Members}
 use Rattle.serde_json.specs.Find.{as_object}
-use Rattle.clr_result.specs.Results.{◌>>=◌}
+use Rattle.clr_net.specs.Results.{◌>>=◌}
 use Rattle.clr_text.specs.KeyLaws.{LeastBadValueIsNamed, LeastMissingIsNamed, fits, lacks}
 use Rattle.clr_text.specs.Kinds.{has_key, keys_of, kind_in, states_moment, word_named}
 use Rattle.clr_text.specs.Keys.{every_key}

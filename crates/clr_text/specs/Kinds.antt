@@ -3,7 +3,7 @@ use Rattle.std.specs.Prelude.{ℕ, Bool, true, false, List, [], ◌∷◌, codes
 use Rattle.std.specs.Prelude.{Result, Ok, bytes_eq}
 use Rattle.clr_rules.specs.Prelude.{list_any}
 use Rattle.serde_json.specs.Data.{Data}
-use Rattle.clr_result.specs.Results.{◌>>=◌}
+use Rattle.clr_net.specs.Results.{◌>>=◌}
 use Rattle.clr_text.specs.Keys.{ValueAt, every_key, key_text}
 use Rattle.clr_text.specs.Values.{said_at}
 use Rattle.clr_text.specs.declared.fault.TextFault.{TextFault}

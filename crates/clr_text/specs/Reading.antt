@@ -6,7 +6,7 @@ use Rattle.std.specs.Str.{bytes_eq, is_utf8}
 use Rattle.serde_json.specs.Data.{Data, Members, member, no_members}
 use Rattle.serde_json.specs.Find.{as_object, as_str}
 use Rattle.serde_json.specs.Read.{read}
-use Rattle.clr_result.specs.Results.{◌>>=◌}
+use Rattle.clr_net.specs.Results.{◌>>=◌}
 use Rattle.clr_text.specs.Keys.{every_key, key_text}
 use Rattle.clr_text.specs.Kinds.{has_key, keys_of, kind_in, states_moment, word_named}
 use Rattle.clr_text.specs.Values.{said_at, value_at}

@@ -7,9 +7,9 @@ use Rattle.serde_json.specs.Data.{Data, Members, array, boolean, depth, member, 
 use Rattle.serde_json.specs.Find.{as_bool, get, get_member}
 use Rattle.serde_json.specs.Read.{read}
 use Rattle.serde_json.proofs.Nesting.{depth-read}
-use Rattle.clr_result.specs.Results.{◌>>=◌}
-use Rattle.clr_deeds.specs.Deeds.{archive, command, update}
-use Rattle.clr_delta.specs.Delta.{changes_in}
+use Rattle.clr_net.specs.Results.{◌>>=◌}
+use Rattle.clr_changes.specs.Deeds.{archive, command, update}
+use Rattle.clr_journal.specs.Delta.{changes_in}
 use Rattle.clr_text.specs.Reading.{value_of}
 use Rattle.clr_text.specs.Values.{moment_in}
 use Rattle.clr_journal.specs.Journals.{JournalFault, bad_line, if_next, is_next, lines_read, next_line, next_place, onto_some, read_journal, turn_after, withdraws}

@@ -4,8 +4,8 @@ use Rattle.std.specs.declared.cmp.Ordering.{Ordering}
 use Rattle.sqlite.specs.Order.{Row}
 use Rattle.clr_net.specs.Grid.{Grid}
 use Rattle.clr_rules.specs.Register.{Register}
-use Rattle.clr_tables.proofs.SameTables.{same_tables_same_register}
-use Rattle.clr_tables.specs.Tables.{clearance_row, hold_row, jumper_row, section_row, staff_row, state_at, step_row, tables_of, version_row}
+use Rattle.clr_load.proofs.SameTables.{same_tables_same_register}
+use Rattle.clr_load.specs.Tables.{clearance_row, hold_row, jumper_row, section_row, staff_row, state_at, step_row, tables_of, version_row}
 use Rattle.clr_verify.specs.Differences.{AreApart, DiffersAt}
 use Rattle.clr_verify.specs.Laws.{DifferencesAreSeen}
 use Rattle.clr_verify.specs.Registers.{point_now, points_now}

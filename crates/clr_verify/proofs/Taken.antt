@@ -1,7 +1,7 @@
 -- The deeds that were carried out, line by line.
 use Rattle.std.proofs.Common.{◌≡◌, ◌∙◌, Bool, true, false, List, ◌∷◌, ◌++◌, Option, None, Some, IfSome, refl, ap}
 use Rattle.serde_json.specs.View.{view}
-use Rattle.clr_deeds.specs.Deeds.{deed_of}
+use Rattle.clr_changes.specs.Deeds.{deed_of}
 use Rattle.clr_journal.specs.Journals.{onto_some}
 use Rattle.clr_journal.specs.Line.{Entry, carried, withdrawn, is_accepted}
 use Rattle.clr_journal.specs.declared.line.Carried.{Carried}

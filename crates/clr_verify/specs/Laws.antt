@@ -2,8 +2,8 @@
 use Rattle.std.specs.Prelude.{◌≡◌, ◌≢◌, ◌≤◌, ℕ, All, List, Ok, Some, map}
 use Rattle.serde_json.specs.Data.{Data, depth}
 use Rattle.clr_rules.specs.Register.{Register}
-use Rattle.clr_tables.specs.TableLaws.{IsToldByTables}
-use Rattle.clr_tables.specs.Tables.{tables_of}
+use Rattle.clr_load.specs.TableLaws.{IsToldByTables}
+use Rattle.clr_load.specs.Tables.{tables_of}
 use Rattle.clr_journal.specs.Journals.{read_journal}
 use Rattle.clr_journal.specs.Line.{Entry}
 use Rattle.clr_verify.specs.Registers.{IsFirstDifference}

@@ -12,7 +12,7 @@ use Rattle.clr_rules.specs.Register.{Register}
 use Rattle.clr_rules.specs.StepKey.{step_key, step_key_cmp}
 use Rattle.clr_rules.specs.declared.hold.Hold.{Hold as HoldRow}
 use Rattle.clr_rules.specs.declared.record.Record.{Record}
-use Rattle.clr_tables.specs.Tables.{state_at, tables_of}
+use Rattle.clr_load.specs.Tables.{state_at, tables_of}
 use Rattle.clr_verify.specs.Differences.{DiffersAt}
 use Rattle.clr_verify.specs.declared.registers.Difference.{Difference}
 use Rattle.clr_verify.specs.declared.registers.Difference.TheVariants.{Section, Point, Staff}

@@ -5,7 +5,7 @@ ghost use Rattle.clr_net.specs.Name.{name_cmp};
 ghost use Rattle.clr_rules.specs.Hold.{hold_cmp};
 ghost use Rattle.clr_rules.specs.Id.{id_cmp};
 ghost use Rattle.clr_rules.specs.StepKey.{step_key, step_key_cmp};
-ghost use Rattle.clr_tables.specs.Tables.{state_at};
+ghost use Rattle.clr_load.specs.Tables.{state_at};
 ghost use Rattle.clr_verify.specs.Differences.{Differ};
 ghost use Rattle.clr_verify.specs.Registers.{IsFirstDifference, point_key, points_now};
 

@@ -40,7 +40,7 @@ use Rattle.clr_rules.specs.declared.record.Record.{Record}
 use Rattle.clr_rules.specs.declared.step_row.StepRow.{StepRow}
 use Rattle.clr_staff.specs.Staff.{IsStaffOf}
 use Rattle.clr_staff.specs.declared.employee.StaffRow.{StaffRow}
-use Rattle.clr_tables.specs.RowsRead.{with_its_position}
+use Rattle.clr_load.specs.RowsRead.{with_its_position}
 use Rattle.clr_wayback.proofs.Walking.{turns_end}
 use Rattle.clr_wayback.specs.Answer.{are_accepted, commands_or_no_way, tried, way_back_answer}
 use Rattle.clr_wayback.specs.Open.{LacksOnly, bare_register, is_over, over_in}

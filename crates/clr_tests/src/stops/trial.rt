@@ -64,8 +64,9 @@ fn unsound_place<T: Trial>(
     Ok(None)
 }
 
-/// Stops a file at each of its calls, and returns how many there are: the first work that leaves it a
-/// call is that of one call more. A stop that leaves all as the one before it is sound as that was.
+/// Stops a file at each of its calls, and returns how many there are: the first work that leaves it
+/// a call is that of one call more. A stop that leaves all as the one before it is sound as that
+/// was.
 pub fn stops<R: Abort, T: Trial>(
     rt: &R,
     alloc: Global,

@@ -1,6 +1,6 @@
 use Rattle.std.proofs.Common.{◌≡◌, length}
 use Rattle.std.specs.List.{list_any}
-use Rattle.clr_append.specs.Lines.{ended_lines}
+use Rattle.clr_journal.specs.Lines.{ended_lines}
 use Rattle.clr_chain.specs.Finding.{says_accepted}
 use Rattle.clr_chain.proofs.finding.any_accepted.Given as goal
 

@@ -1,6 +1,6 @@
 use Rattle.std.proofs.Common.{◌≡◌, ◌∙◌, ℕ, List, [], ap, sym, take, option_and_then}
 use Rattle.std.proofs.lemmas.Result.{IfOk-weaker}
-use Rattle.clr_append.specs.Lines.{ended_lines}
+use Rattle.clr_journal.specs.Lines.{ended_lines}
 use Rattle.clr_chain.specs.Finding.{first_of, first_text_of}
 use Rattle.clr_chain.specs.First.{read_first}
 use Rattle.clr_chain.proofs.first.first_of.Goals as goal

@@ -1,6 +1,6 @@
 use Rattle.std.proofs.Common.{◌≡◌, ◌∙◌, ℕ, List, [], ap, sym, take, option_and_then}
 use Rattle.std.proofs.lemmas.Result.{IfOk-weaker}
-use Rattle.clr_append.specs.Lines.{ended_lines}
+use Rattle.clr_journal.specs.Lines.{ended_lines}
 use Rattle.clr_chain.specs.Finding.{first_text_of, other_rules_of}
 use Rattle.clr_chain.specs.First.{other_rules_in}
 use Rattle.clr_chain.proofs.first.other_rules_of.Goals as goal

@@ -1,7 +1,7 @@
 use Rattle.std.proofs.Common.{◌≡◌, ◌∙◌, ℕ, List, Result, Ok, Err, ap, arith, drop, min, subst, sym, take}
 use Rattle.std.specs.Prelude.{IsErrAnd}
-use Rattle.clr_append.specs.declared.fault.OpenFault.{OpenFault}
-use Rattle.clr_append.specs.declared.fault.OpenFault.TheVariants.{NoMemory}
+use Rattle.clr_journal.specs.declared.fault.OpenFault.{OpenFault}
+use Rattle.clr_journal.specs.declared.fault.OpenFault.TheVariants.{NoMemory}
 use Rattle.clr_chain.specs.Finding.{first_of, other_rules_of}
 use Rattle.clr_chain.specs.OnDisk.{CountsFailed}
 use Rattle.clr_chain.proofs.Ending.{front_first, front_other}

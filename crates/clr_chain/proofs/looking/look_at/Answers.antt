@@ -1,5 +1,5 @@
 use Rattle.std.proofs.Common.{ℕ, IsTrue, List, arith, subst}
-use Rattle.clr_append.specs.Lines.{unfinished}
+use Rattle.clr_journal.specs.Lines.{unfinished}
 use Rattle.clr_chain.specs.Near.{found_near}
 use Rattle.clr_chain.specs.Reading.{IsFoundNear}
 use Rattle.clr_chain.proofs.Ending.{near_all}

@@ -4,7 +4,7 @@ use Rattle.std.proofs.lemmas.Str.{is_utf8-from_IsUtf8}
 use Rattle.std.specs.Str.{IsUtf8, is_utf8}
 use Rattle.serde_json.specs.View.{view}
 use Rattle.serde_json.specs.Written.{compact_text, has_float}
-use Rattle.clr_deeds.specs.Deeds.{archive}
+use Rattle.clr_changes.specs.Deeds.{archive}
 use Rattle.clr_rules.specs.Moment.{is_moment}
 use Rattle.clr_journal.specs.Laws.{can_be_written, is_done}
 use Rattle.clr_journal.specs.Line.{Entry, bare, carried, done}

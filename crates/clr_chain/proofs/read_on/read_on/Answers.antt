@@ -1,5 +1,5 @@
 use Rattle.std.proofs.Common.{◌≡◌, ◌∙◌, None, Option, Some, IfSome, ap, option_map, subst, sym}
-use Rattle.clr_append.specs.Lines.{ended_lines}
+use Rattle.clr_journal.specs.Lines.{ended_lines}
 use Rattle.clr_journal.specs.Line.{entry_of}
 use Rattle.clr_journal.specs.declared.line.Line.{Line}
 use Rattle.clr_chain.specs.Chain.{read_on}

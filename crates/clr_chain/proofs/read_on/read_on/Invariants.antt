@@ -1,5 +1,5 @@
 use Rattle.std.proofs.Common.{◌≡◌, length, map}
-use Rattle.clr_append.specs.Lines.{ended_lines, unfinished}
+use Rattle.clr_journal.specs.Lines.{ended_lines, unfinished}
 use Rattle.clr_journal.specs.Line.{entry_of}
 use Rattle.clr_chain.specs.Chain.{read_on}
 use Rattle.clr_chain.proofs.ReadingOn.{prepended}

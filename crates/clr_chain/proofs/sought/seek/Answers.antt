@@ -1,5 +1,5 @@
 use Rattle.std.proofs.Common.{◌≡◌, ◌∙◌, ℕ, List, Option, subst, sym}
-use Rattle.clr_append.specs.Lines.{unfinished}
+use Rattle.clr_journal.specs.Lines.{unfinished}
 use Rattle.clr_chain.specs.Reading.{EndsAlike, seen_sought}
 use Rattle.clr_chain.proofs.Seeking.{seeks_on}
 use Rattle.clr_chain.proofs.sought.seek.Goals as goal

@@ -1,5 +1,5 @@
 use Rattle.std.proofs.Common.{◌≡◌, length}
-use Rattle.clr_append.specs.Lines.{ended_lines, unfinished}
+use Rattle.clr_journal.specs.Lines.{ended_lines, unfinished}
 use Rattle.clr_chain.specs.Finding.{or_earlier, sought}
 use Rattle.clr_chain.specs.Reading.{EndsAlike, seen_sought}
 use Rattle.clr_chain.proofs.sought.seek.Given as goal

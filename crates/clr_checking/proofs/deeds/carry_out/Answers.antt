@@ -1,6 +1,6 @@
 use Rattle.std.proofs.Common.{subst, sym}
-use Rattle.clr_deeds.proofs.Deeds.{deed_keeps_good}
-use Rattle.clr_deeds.specs.Deeds.{archive, command, update}
+use Rattle.clr_changes.proofs.Deeds.{deed_keeps_good}
+use Rattle.clr_changes.specs.Deeds.{archive, command, update}
 use Rattle.clr_rules.specs.Good.{IsGood}
 use Rattle.clr_rules.specs.Register.{Register}
 use Rattle.clr_update.specs.Shown.{as_changes}

@@ -1,7 +1,7 @@
 use Rattle.std.proofs.Common.{IfOk, refl, subst, sym}
 use Rattle.serde_json.specs.View.{view}
-use Rattle.clr_deeds.specs.Deeds.{archive, deed_of, update}
-use Rattle.clr_deeds.specs.declared.deed.Deed.{Deed as SeenDeed}
+use Rattle.clr_changes.specs.Deeds.{archive, deed_of, update}
+use Rattle.clr_changes.specs.declared.deed.Deed.{Deed as SeenDeed}
 use Rattle.clr_checking.specs.Brief.{DecidesDeed}
 use Rattle.clr_checking.proofs.Due.{in_full, of_command}
 use Rattle.clr_checking.proofs.Results.{if_ok}

@@ -2,7 +2,7 @@ use Rattle.std.proofs.Common.{◌≡◌, IfErr, ap, inl, inr, refl, subst, sym}
 use Rattle.clr_book.specs.Book.{Shelved}
 use Rattle.clr_rules.specs.Register.{Register}
 use Rattle.clr_stream.specs.Streams.{WentOut}
-use Rattle.clr_deeds.specs.Deeds.{archive as of_archive}
+use Rattle.clr_changes.specs.Deeds.{archive as of_archive}
 use Rattle.clr_level.specs.Journaling.{FailsToo}
 use Rattle.clr_level.specs.declared.keeper.Keeper.{Keeper}
 use Rattle.clr_edge.specs.Visit.{Done}

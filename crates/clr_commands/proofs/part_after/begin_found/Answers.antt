@@ -1,6 +1,6 @@
 use Rattle.std.proofs.Common.{Err, refl, subst, sym}
 use Rattle.std.specs.Prelude.{Option}
-use Rattle.clr_place.specs.declared.place.Place.{Place}
+use Rattle.clr_rules.specs.declared.place.Place.{Place}
 use Rattle.clr_edge.specs.declared.fault.Fault.TheVariants.{Journal}
 use Rattle.clr_edge.specs.declared.fault.JournalFault.TheVariants.{OtherRegister}
 use Rattle.clr_keeping.specs.TakenUp.{logs}

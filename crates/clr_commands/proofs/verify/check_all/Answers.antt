@@ -4,15 +4,15 @@ use Rattle.std.proofs.lemmas.Option.{slice_get-get_or}
 use Rattle.std.proofs.lemmas.List.{drop_all, drop_more}
 use Rattle.clr_chain.specs.First.{read_first}
 use Rattle.clr_chain.specs.Walking.{part_of}
-use Rattle.clr_parts.specs.Journal.{all_known}
-use Rattle.clr_parts.specs.Parts.{left_in}
+use Rattle.clr_keeping.specs.Journal.{all_known}
+use Rattle.clr_keeping.specs.Parts.{left_in}
 use Rattle.clr_edge.specs.declared.fault.Fault.{Fault}
 use Rattle.clr_edge.specs.Paths.{at_paths}
 use Rattle.clr_commands.specs.Verify.{FailsFrom, IsRefusedBy}
 use Rattle.clr_commands.proofs.CheckedParts.{parts_more, parts_none, parts_said, passed_check}
-use Rattle.clr_parts.proofs.PartLines.{later-part, passed_on}
-use Rattle.clr_parts.proofs.PrintedParts.{fails_any}
-use Rattle.clr_parts.proofs.BrokenParts.{no_next}
+use Rattle.clr_keeping.proofs.PartLines.{later-part, passed_on}
+use Rattle.clr_keeping.proofs.PrintedParts.{fails_any}
+use Rattle.clr_keeping.proofs.BrokenParts.{no_next}
 use Rattle.clr_commands.proofs.RefusedParts.{check_any, first_by, if_err, next_refused, part_by, part_stops, said_any, said_refused}
 use Rattle.clr_commands.proofs.verify.check_all.Goals as goal
 

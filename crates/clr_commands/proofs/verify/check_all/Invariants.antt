@@ -1,7 +1,7 @@
 use Rattle.std.proofs.Common.{List, drop, map, ℕ}
 use Rattle.std.specs.Borrow.{Bor}
-use Rattle.clr_parts.specs.Journal.{all_known}
-use Rattle.clr_parts.specs.Parts.{left_in}
+use Rattle.clr_keeping.specs.Journal.{all_known}
+use Rattle.clr_keeping.specs.Parts.{left_in}
 use Rattle.clr_commands.proofs.CheckedParts.{CheckedParts}
 use Rattle.clr_commands.proofs.verify.check_all.Given as goal
 

@@ -1,9 +1,9 @@
 use Rattle.std.proofs.Common.{◌∙◌, ap, inl, inr, refl, ℕ, List, map, Err}
 use Rattle.std.specs.Borrow.{Bor}
-use Rattle.clr_parts.specs.Journal.{all_known}
+use Rattle.clr_keeping.specs.Journal.{all_known}
 use Rattle.clr_edge.specs.Paths.{at_paths}
 use Rattle.clr_commands.specs.Verify.{FailsSome}
-use Rattle.clr_parts.proofs.PartLines.{passed_on}
+use Rattle.clr_keeping.proofs.PartLines.{passed_on}
 use Rattle.clr_commands.proofs.CheckedParts.{passed_check}
 use Rattle.clr_commands.proofs.RefusedParts.{all_some, checks_first_from, checks_over_copy, checks_part_from, some_check}
 use Rattle.clr_commands.proofs.VerifiedFiles.{is_fault}

@@ -2,10 +2,10 @@ use Rattle.std.proofs.Common.{◌∙◌, ap, inl, inr, refl, ℕ, List, map, Err
 use Rattle.std.specs.Borrow.{Bor}
 use Rattle.clr_commands.specs.First.{files_of}
 use Rattle.clr_commands.specs.Import.{contents_of}
-use Rattle.clr_parts.specs.Journal.{all_known}
+use Rattle.clr_keeping.specs.Journal.{all_known}
 use Rattle.clr_edge.specs.Paths.{at_paths}
 use Rattle.clr_commands.specs.Verify.{FailsSome}
-use Rattle.clr_parts.proofs.PartLines.{passed_on}
+use Rattle.clr_keeping.proofs.PartLines.{passed_on}
 use Rattle.clr_commands.proofs.CheckedParts.{passed_check}
 use Rattle.clr_commands.proofs.RefusedParts.{all_some, checks_first, checks_others, checks_over, checks_part, some_check, some_others}
 use Rattle.clr_commands.proofs.VerifiedFiles.{is_fault}

@@ -8,9 +8,9 @@ use Rattle.clr_edge.specs.Lines.{ends_whole}
 use Rattle.clr_edge.specs.declared.fault.Fault.{Fault}
 use Rattle.clr_edge.specs.declared.fault.Fault.TheVariants.{Journal}
 use Rattle.clr_edge.specs.declared.fault.JournalFault.TheVariants.{TooLong}
-use Rattle.clr_parts.specs.Parts.{FailsLater, ReadsLine, left_in}
+use Rattle.clr_keeping.specs.Parts.{FailsLater, ReadsLine, left_in}
 use Rattle.clr_commands.specs.Verify.{IsRefusedIn}
-use Rattle.clr_parts.proofs.PartLines.{later_from, long-later, passed_on}
+use Rattle.clr_keeping.proofs.PartLines.{later_from, long-later, passed_on}
 use Rattle.clr_commands.proofs.RefusedParts.{check_read, half_refused, line_refused}
 use Rattle.clr_commands.proofs.CheckedParts.{lines_all, lines_none, lines_seen, passed_check}
 use Rattle.clr_commands.proofs.verify.check_part.Goals as goal

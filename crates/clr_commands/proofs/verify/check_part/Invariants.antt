@@ -1,5 +1,5 @@
 use Rattle.std.proofs.Common.{◌≡◌}
-use Rattle.clr_parts.specs.Parts.{left_in}
+use Rattle.clr_keeping.specs.Parts.{left_in}
 use Rattle.clr_commands.proofs.CheckedParts.{CheckedLines}
 use Rattle.clr_commands.proofs.verify.check_part.Given as goal
 

@@ -4,7 +4,7 @@ use Rattle.std.specs.Prelude.{IfErr}
 use Rattle.clr_rules.proofs.keeps.EveryKind.{reached_are_good}
 use Rattle.clr_commands.specs.First.{files_of}
 use Rattle.clr_commands.specs.Import.{contents_of}
-use Rattle.clr_parts.specs.Journal.{all_known}
+use Rattle.clr_keeping.specs.Journal.{all_known}
 use Rattle.clr_edge.specs.Paths.{at_paths}
 use Rattle.clr_commands.specs.Verify.{Checks, FailsSome, IsOfCheck, WhereKnown}
 use Rattle.clr_commands.proofs.Faults.{any_file_plain, check_plain, each_plain, passed, taking_up_plain}

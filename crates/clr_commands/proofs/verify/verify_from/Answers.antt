@@ -4,7 +4,7 @@ use Rattle.std.specs.Prelude.{IfErr}
 use Rattle.clr_book.specs.Book.{Shelved}
 use Rattle.clr_rules.specs.Good.{IsGood}
 use Rattle.clr_rules.specs.Register.{Register}
-use Rattle.clr_parts.specs.Journal.{all_known}
+use Rattle.clr_keeping.specs.Journal.{all_known}
 use Rattle.clr_edge.specs.Paths.{at_paths}
 use Rattle.clr_commands.specs.Verify.{ChecksFrom, FailsSome, IsOfCheck, WhereKnown}
 use Rattle.clr_commands.proofs.Faults.{check_plain, each_plain, passed, taking_up_plain}

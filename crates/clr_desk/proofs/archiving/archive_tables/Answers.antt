@@ -1,14 +1,14 @@
 use Rattle.std.proofs.Common.{◌≡◌, ◌∙◌, ap, arith, inl, map, refl, subst, List}
 use Rattle.sqlite.proofs.StateLemmas.{survives_weaker}
 use Rattle.sqlite.specs.Held.{state}
-use Rattle.clr_archive.specs.Archive.{steps_that_go}
+use Rattle.clr_changes.specs.Archive.{steps_that_go}
 use Rattle.clr_desk.proofs.Archived.{tables_archived}
 use Rattle.clr_desk.specs.Archiving.{AreArchived}
 use Rattle.clr_load.specs.Stored.{AreTables, HasTables}
 use Rattle.clr_rules.specs.StepKey.{step_key}
 use Rattle.clr_rules.specs.declared.step_row.StepKey.{StepKey}
 use Rattle.clr_store.specs.StepsTaken.{without_steps}
-use Rattle.clr_tables.specs.Tables.{tables_of}
+use Rattle.clr_load.specs.Tables.{tables_of}
 use Rattle.clr_desk.proofs.archiving.archive_tables.Goals as goal
 
 pub returns-clause-archived : goal.returns-clause-archived

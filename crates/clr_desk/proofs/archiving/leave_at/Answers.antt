@@ -1,11 +1,11 @@
 use Rattle.std.proofs.Common.{◌≡◌, ◌∙◌, Err, Ok, List, ap, sym}
 use Rattle.std.specs.Prelude.{⊤}
-use Rattle.clr_archive.specs.Archive.{archived}
+use Rattle.clr_changes.specs.Archive.{archived}
 use Rattle.clr_book.specs.Book.{Shelved}
 use Rattle.clr_rules.specs.Good.{IsGood}
 use Rattle.clr_rules.specs.declared.step_row.StepKey.{StepKey}
 use Rattle.clr_store.specs.StepsTaken.{without_steps}
-use Rattle.clr_tables.specs.Tables.{tables_of}
+use Rattle.clr_load.specs.Tables.{tables_of}
 use Rattle.clr_desk.proofs.Archived.{tables_archived, typed_archived}
 use Rattle.clr_desk.proofs.Renewed.{came_to, not_come, turned_from}
 use Rattle.clr_desk.proofs.archiving.leave_at.Goals as goal

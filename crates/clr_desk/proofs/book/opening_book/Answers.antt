@@ -1,5 +1,5 @@
 use Rattle.std.proofs.Common.{subst, sym}
-use Rattle.clr_tables.specs.TypedRows.{IsTyped}
+use Rattle.clr_load.specs.TypedRows.{IsTyped}
 use Rattle.clr_desk.proofs.TypedRegisters.{opening_typed}
 use Rattle.clr_desk.proofs.book.opening_book.Goals as goal
 

@@ -8,7 +8,7 @@ use Rattle.clr_rules.specs.Records.{record_key}
 use Rattle.clr_rules.specs.Register.{Register}
 use Rattle.clr_rules.specs.StepKey.{step_key, step_key_cmp}
 use Rattle.clr_desk.specs.Shelving.{shelved}
-use Rattle.clr_tables.specs.RowsRead.{with_its_position}
+use Rattle.clr_load.specs.RowsRead.{with_its_position}
 use Rattle.clr_desk.proofs.copy.rows_of.Goals as goal
 
 pub returns : goal.returns

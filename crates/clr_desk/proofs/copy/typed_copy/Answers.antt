@@ -1,4 +1,4 @@
-use Rattle.clr_tables.specs.RowsRead.{rows_of}
+use Rattle.clr_load.specs.RowsRead.{rows_of}
 use Rattle.clr_desk.proofs.Filled.{opens_again}
 use Rattle.clr_desk.proofs.copy.typed_copy.Goals as goal
 

@@ -1,5 +1,5 @@
 use Rattle.sqlite.specs.Held.{state}
-use Rattle.clr_tables.specs.RowsRead.{rows_read}
+use Rattle.clr_load.specs.RowsRead.{rows_read}
 use Rattle.clr_desk.specs.Loaded.{HasRows}
 use Rattle.clr_desk.proofs.RowsOpened.{fails_to_open, loaded, network_loaded, not_loaded, opened_cause}
 use Rattle.clr_desk.proofs.opening.book_in.Goals as goal

@@ -1,7 +1,7 @@
 use Rattle.std.proofs.Common.{◌∙◌, ap, subst, sym}
 use Rattle.clr_book.specs.Growth.{network_after_all}
 use Rattle.clr_rules.specs.Edits.{after_edits, fit}
-use Rattle.clr_tables.specs.TypedRows.{IsTyped}
+use Rattle.clr_load.specs.TypedRows.{IsTyped}
 use Rattle.clr_desk.proofs.Filling.{hands_keep, hands_taken}
 use Rattle.clr_desk.proofs.TypedRegisters.{handed_typed}
 use Rattle.clr_desk.proofs.opening.handed_book.Goals as goal

@@ -1,5 +1,5 @@
 use Rattle.std.proofs.Common.{subst, sym}
-use Rattle.clr_tables.specs.TypedRows.{IsTyped}
+use Rattle.clr_load.specs.TypedRows.{IsTyped}
 use Rattle.clr_desk.proofs.Archived.{typed_archived}
 use Rattle.clr_desk.proofs.renewing.book_archived.Goals as goal
 

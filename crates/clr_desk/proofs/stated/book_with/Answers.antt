@@ -4,7 +4,7 @@ use Rattle.clr_changes.specs.Renewed.{renewed}
 use Rattle.clr_rules.specs.declared.hold.Hold.{Hold}
 use Rattle.clr_rules.specs.declared.record.Record.{Record}
 use Rattle.clr_rules.specs.declared.step_row.StepRow.{StepRow}
-use Rattle.clr_tables.specs.TypedRows.{IsTyped, is_typed_hold, is_typed_record, is_typed_step}
+use Rattle.clr_load.specs.TypedRows.{IsTyped, is_typed_hold, is_typed_record, is_typed_step}
 use Rattle.clr_desk.proofs.stated.book_with.Goals as goal
 
 pub returns-clause-register : goal.returns-clause-register

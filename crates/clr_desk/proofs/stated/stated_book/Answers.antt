@@ -3,7 +3,7 @@ use Rattle.clr_book.specs.Growth.{network_after_all}
 use Rattle.clr_rules.specs.Edits.{after_edits, fit}
 use Rattle.clr_rules.specs.Register.{Register}
 use Rattle.clr_rules.specs.declared.change.Edit.{Edit}
-use Rattle.clr_tables.specs.TypedRows.{IsTyped}
+use Rattle.clr_load.specs.TypedRows.{IsTyped}
 use Rattle.clr_desk.specs.Filling.{hand_edit, position_edit}
 use Rattle.clr_desk.proofs.Filling.{hands_keep, hands_taken, positions_keep, positions_taken}
 use Rattle.clr_desk.proofs.InStates.{stated, stated_typed}

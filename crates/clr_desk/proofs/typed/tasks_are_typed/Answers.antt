@@ -2,7 +2,7 @@ use Rattle.std.proofs.Common.{◌∙◌, IsTrue, List, subst}
 use Rattle.std.specs.List.{list_all}
 use Rattle.std.proofs.lemmas.List.Folds.{list_all-map}
 use Rattle.clr_order.specs.Step.{Task, task}
-use Rattle.clr_tables.specs.TypedRows.{is_typed_task}
+use Rattle.clr_load.specs.TypedRows.{is_typed_task}
 use Rattle.clr_desk.proofs.typed.tasks_are_typed.Goals as goal
 
 pub returns : goal.returns

@@ -3,7 +3,7 @@ use Rattle.clr_store.specs.Renewed.{AreStatesOf, tables_renewed}
 use Rattle.clr_rules.specs.declared.point_state.PointState.{PointState}
 use Rattle.clr_net.specs.Grid.{Grid}
 use Rattle.std.specs.Prelude.{List}
-use Rattle.clr_tables.specs.Tables.{tables_of}
+use Rattle.clr_load.specs.Tables.{tables_of}
 use Rattle.clr_update.specs.Update.{in_the_way, updated}
 use Rattle.clr_desk.proofs.Renewed.{came_to, not_come, turned_from}
 use Rattle.clr_desk.proofs.updating.keep_at.Goals as goal

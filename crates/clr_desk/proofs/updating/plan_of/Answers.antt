@@ -8,7 +8,7 @@ use Rattle.clr_changes.specs.declared.outcome.Outcome.{Outcome}
 use Rattle.clr_rules.specs.Register.{Register}
 use Rattle.clr_rules.specs.declared.point_state.PointState.{PointState}
 use Rattle.clr_store.specs.Renewed.{AreStatesOf}
-use Rattle.clr_tables.specs.TypedRows.{IsTyped}
+use Rattle.clr_load.specs.TypedRows.{IsTyped}
 use Rattle.clr_update.specs.Changes.{Changes}
 use Rattle.clr_desk.proofs.Updated.{states_given}
 use Rattle.clr_desk.proofs.updating.plan_of.Goals as goal

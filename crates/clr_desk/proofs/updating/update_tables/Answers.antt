@@ -12,7 +12,7 @@ use Rattle.clr_rules.specs.Register.{Register}
 use Rattle.clr_store.specs.Renewed.{AreStatesOf, tables_renewed}
 use Rattle.clr_rules.specs.declared.point_state.PointState.{PointState}
 use Rattle.std.specs.Prelude.{List}
-use Rattle.clr_tables.specs.Tables.{tables_of}
+use Rattle.clr_load.specs.Tables.{tables_of}
 use Rattle.clr_desk.proofs.updating.update_tables.Goals as goal
 
 pub update-requires : goal.update-requires

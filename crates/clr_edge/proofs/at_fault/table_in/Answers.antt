@@ -1,7 +1,7 @@
 use Rattle.std.proofs.Common.{◌≡◌, ◌↔◌, ◌∙◌, None, Option, ap, subst, sym}
 use Rattle.std.specs.Prelude.{option_map}
 use Rattle.clr_rules.specs.Fit.{IsFit}
-use Rattle.clr_tables.specs.declared.table_name.TableName.{TableName}
+use Rattle.clr_load.specs.declared.table_name.TableName.{TableName}
 use Rattle.clr_edge.specs.AtFault.{table_of_list}
 use Rattle.clr_edge.proofs.AtFault.{none_told}
 use Rattle.clr_edge.proofs.at_fault.table_in.Goals as goal

@@ -8,7 +8,7 @@ use Rattle.clr_load.specs.Cause.{SqlHasCause}
 use Rattle.clr_load.specs.Stored.{HasTables}
 use Rattle.clr_load.proofs.Loading.{has_meta}
 use Rattle.clr_store.proofs.Moving.{opened_cause}
-use Rattle.clr_tables.specs.Tables.{tables_of}
+use Rattle.clr_load.specs.Tables.{tables_of}
 use Rattle.clr_edge.specs.Database.{IsOfLine, IsRefused}
 use Rattle.clr_edge.specs.Fault.{of_desk}
 use Rattle.clr_edge.proofs.Databases.{IsOfCommand-shut, IsOfLine-of_command, IsOfLine-of_version, IsOfLine-unfit}

@@ -2,7 +2,7 @@ use Rattle.std.proofs.Common.{◌∙◌, refl, subst, sym}
 use Rattle.sqlite.specs.Held.{Held, state}
 use Rattle.clr_load.proofs.Loading.{has_meta}
 use Rattle.clr_store.proofs.Versions.{two_has}
-use Rattle.clr_tables.specs.Tables.{tables_of}
+use Rattle.clr_load.specs.Tables.{tables_of}
 use Rattle.clr_edge.specs.Database.{IsMoved, IsOfLine}
 use Rattle.clr_edge.proofs.Databases.{IsAsBefore-settled, IsOfLine-of_move, IsSettled}
 use Rattle.clr_edge.proofs.database.register_moved.Goals as goal

@@ -1,6 +1,6 @@
 use Rattle.std.proofs.Common.{◌≡◌, ◌++◌, length, map}
 use Rattle.serde_json.specs.View.{view}
-use Rattle.clr_deeds.specs.Deeds.{deed_of}
+use Rattle.clr_changes.specs.Deeds.{deed_of}
 use Rattle.clr_journal.specs.Journals.{carried_out}
 use Rattle.clr_journal.specs.Line.{entry_of}
 use Rattle.clr_journal.proofs.deeds.carried_out.Given as goal

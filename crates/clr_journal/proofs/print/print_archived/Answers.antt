@@ -2,7 +2,7 @@ use Rattle.std.proofs.Common.{◌≡◌, ◌∙◌, ◌≤◌, Some, true, ap, a
 use Rattle.std.proofs.lemmas.Bool.{le-leb}
 use Rattle.serde_json.specs.Data.{depth}
 use Rattle.serde_json.specs.View.{view}
-use Rattle.clr_deeds.specs.Deeds.{archive}
+use Rattle.clr_changes.specs.Deeds.{archive}
 use Rattle.clr_rules.specs.Moment.{is_moment}
 use Rattle.clr_journal.specs.Line.{Entry, bare, carried, done}
 use Rattle.clr_journal.proofs.LinesRead.{archived_back, line_back}

@@ -4,7 +4,7 @@ use Rattle.serde_json.specs.View.{view}
 use Rattle.serde_json.specs.Written.{compact_text, has_float}
 use Rattle.clr_text.proofs.CommandsRead.{command_values_are_plain, command_values_read_back}
 use Rattle.clr_text.specs.Replies.{reply_data}
-use Rattle.clr_deeds.specs.Deeds.{command}
+use Rattle.clr_changes.specs.Deeds.{command}
 use Rattle.clr_journal.specs.Line.{Entry, carried}
 use Rattle.clr_journal.proofs.LinesRead.{carried_back, carried_has_none, carried_is_flat, line_back}
 use Rattle.clr_journal.proofs.RepliesFlat.{reply_is_flat}

@@ -2,8 +2,8 @@ use Rattle.std.proofs.Common.{◌≡◌, ◌∙◌, ◌≤◌, Some, false, ap, 
 use Rattle.serde_json.specs.Data.{depth}
 use Rattle.serde_json.specs.View.{view}
 use Rattle.serde_json.specs.Written.{compact_text, has_float}
-use Rattle.clr_deeds.specs.Deeds.{update}
-use Rattle.clr_delta.proofs.Back.{change_values_are_plain, changes_read_back}
+use Rattle.clr_changes.specs.Deeds.{update}
+use Rattle.clr_journal.proofs.Back.{change_values_are_plain, changes_read_back}
 use Rattle.clr_update.specs.Shown.{as_changes}
 use Rattle.clr_journal.specs.Line.{Entry, bare, carried, done}
 use Rattle.clr_journal.proofs.LinesRead.{line_back, updated_back, updated_has_none}

@@ -3,7 +3,7 @@ use Rattle.sqlite.specs.Held.{state}
 use Rattle.sqlite.specs.State.{HasCleanDisk, Survives}
 use Rattle.clr_rules.specs.declared.change.Edit.{Edit}
 use Rattle.clr_store.specs.Contract.{AreEditedAt, MakesEditsAt}
-use Rattle.clr_tables.specs.Tables.{place_row}
+use Rattle.clr_load.specs.Tables.{place_row}
 use Rattle.clr_keeping.specs.Beginning.{IsPlacedOrNot}
 use Rattle.clr_edge.specs.Database.{IsOfLine}
 use Rattle.clr_keeping.proofs.Begun.{IsOfLine-of_database, placed-level}

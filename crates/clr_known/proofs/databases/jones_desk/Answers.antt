@@ -5,8 +5,8 @@ use Rattle.clr_examples.specs.Worked.{worked_opening}
 use Rattle.clr_rules.proofs.edits.Runs.{reached_go_on}
 use Rattle.clr_rules.specs.Good.{IsGood}
 use Rattle.clr_rules.specs.Register.{Register}
-use Rattle.clr_tables.specs.Tables.{tables_of}
-use Rattle.clr_tables.specs.TypedRows.{IsTyped}
+use Rattle.clr_load.specs.Tables.{tables_of}
+use Rattle.clr_load.specs.TypedRows.{IsTyped}
 use Rattle.clr_text.specs.Lines.{commands_in}
 use Rattle.clr_known.specs.Known.{jones_lines, jones_register}
 use Rattle.clr_known.proofs.JonesRegister.{left_by_run, when_none}

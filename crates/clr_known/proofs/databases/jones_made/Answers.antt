@@ -3,7 +3,7 @@ use Rattle.sqlite.specs.Held.{Held, state}
 use Rattle.sqlite.specs.State.{HasCleanDisk}
 use Rattle.clr_load.specs.Stored.{HasTables}
 use Rattle.clr_rules.proofs.staffed.EveryKind.{reached_are_staffed}
-use Rattle.clr_tables.specs.Tables.{tables_of}
+use Rattle.clr_load.specs.Tables.{tables_of}
 use Rattle.clr_known.specs.Known.{jones_register}
 use Rattle.clr_known.proofs.databases.jones_made.Goals as goal
 

@@ -8,7 +8,7 @@ use Rattle.clr_rules.proofs.good.Opening.{opening_is_good}
 use Rattle.clr_rules.specs.Register.{Register, opening}
 use Rattle.clr_rules.specs.Run.{IsReached}
 use Rattle.clr_examples.specs.Worked.{worked_net, worked_opening, worked_staff}
-use Rattle.clr_tables.specs.Tables.{tables_of}
+use Rattle.clr_load.specs.Tables.{tables_of}
 use Rattle.clr_known.proofs.databases.opening_desk.Goals as goal
 
 pub returns-in-Ok-clause-good : goal.returns-in-Ok-clause-good

@@ -4,7 +4,7 @@ use Rattle.clr_known.proofs.files_alone.of_files.Goals as goal
 pub returns-clause-text : goal.returns-clause-text
 returns-clause-text g c known = record {
   fence_is = c.fence_of_l2-fenced.ensures;
-  regrets_are = c.regrets_of_files-checked.ensures;
+  warnings_are = c.warnings_of_files-checked.ensures;
   counts_are = c.counts_of_files-counted.ensures.text;
   reply_is = c.reply_over_files-replied.ensures.text known;
 }

@@ -1,6 +1,6 @@
 use Rattle.std.proofs.Common.{subst, sym}
-use Rattle.clr_deeds.specs.Deeds.{deed_of}
-use Rattle.clr_deeds.specs.declared.deed.Deed.{Deed as SeenDeed}
+use Rattle.clr_changes.specs.Deeds.{deed_of}
+use Rattle.clr_changes.specs.declared.deed.Deed.{Deed as SeenDeed}
 use Rattle.clr_level.specs.Carrying.{CarriesDeed}
 use Rattle.clr_level.proofs.Deeds.{archive_done}
 use Rattle.clr_level.proofs.deed.carry_deed.Goals as goal

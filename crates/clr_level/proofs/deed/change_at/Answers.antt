@@ -2,7 +2,7 @@ use Rattle.std.proofs.Common.{Option, Some, subst}
 use Rattle.clr_book.specs.Book.{Shelved}
 use Rattle.clr_changes.specs.Made.{IsUpdateOf}
 use Rattle.clr_changes.specs.declared.update.Update.{Update as Files}
-use Rattle.clr_deeds.specs.Deeds.{update}
+use Rattle.clr_changes.specs.Deeds.{update}
 use Rattle.clr_update.specs.Shown.{as_changes}
 use Rattle.clr_level.proofs.Deeds.{not_begun}
 use Rattle.clr_level.proofs.deed.change_at.Goals as goal

@@ -1,8 +1,8 @@
 use Rattle.std.proofs.Common.{◌≡◌, None, Some, subst, sym}
 use Rattle.sqlite.proofs.StateLemmas.{survives_weaker}
-use Rattle.clr_deeds.specs.Deeds.{after_deed, deed_of}
+use Rattle.clr_changes.specs.Deeds.{after_deed, deed_of}
 use Rattle.clr_desk.specs.Faults.{IsOfKeeper}
-use Rattle.clr_place.specs.declared.place.Place.{Place}
+use Rattle.clr_rules.specs.declared.place.Place.{Place}
 use Rattle.clr_level.specs.Carrying.{AreDoneAt}
 use Rattle.clr_level.specs.Crash.{AreFurther, KeepsTables}
 use Rattle.clr_level.specs.Forward.{HasCome}

@@ -1,6 +1,6 @@
 use Rattle.std.proofs.Common.{◌∙◌, ap, subst}
-use Rattle.clr_deeds.specs.Deeds.{deed_of}
-use Rattle.clr_place.specs.declared.place.Place.{Place}
+use Rattle.clr_changes.specs.Deeds.{deed_of}
+use Rattle.clr_rules.specs.declared.place.Place.{Place}
 use Rattle.clr_level.specs.Carrying.{CarriesDeed}
 use Rattle.clr_level.specs.Renewing.{last_after}
 use Rattle.clr_level.specs.declared.keeper.Keeper.{Keeper}

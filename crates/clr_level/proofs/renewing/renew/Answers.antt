@@ -1,5 +1,5 @@
 use Rattle.std.proofs.Common.{◌≡◌, ◌∙◌, Err}
-use Rattle.clr_deeds.specs.Deeds.{deed_of}
+use Rattle.clr_changes.specs.Deeds.{deed_of}
 use Rattle.clr_level.specs.Journaling.{IsDeedNoted, IsDeedUnwritten, IsDurable, IsOfJournal}
 use Rattle.clr_level.specs.declared.last.Last.TheVariants.{Settled}
 use Rattle.clr_level.proofs.Forwarding.{if_err, on_ok}

@@ -2,7 +2,7 @@ use Rattle.std.proofs.Common.{◌≡◌, Bool, Option, false, rules, subst, true
 use Rattle.serde_json.specs.View.{view}
 use Rattle.clr_changes.specs.Made.{IsMade}
 use Rattle.clr_changes.specs.declared.outcome.After.{After}
-use Rattle.clr_deeds.specs.Deeds.{update}
+use Rattle.clr_changes.specs.Deeds.{update}
 use Rattle.clr_journal.specs.Answered.{deed_reply}
 use Rattle.clr_update.specs.Shown.{as_changes}
 use Rattle.clr_verify.specs.Replies.{DecidesReply}

@@ -1,5 +1,5 @@
 use Rattle.std.proofs.Common.{map, refl, rules}
-use Rattle.clr_deeds.specs.Deeds.{after_deed, deed_of}
+use Rattle.clr_changes.specs.Deeds.{after_deed, deed_of}
 use Rattle.clr_journal.specs.Line.{entry_of}
 use Rattle.clr_level.proofs.Tried.{differs_at, tried_all, tried_none, tried_one}
 use Rattle.clr_level.proofs.trying.first_differing.Goals as goal

@@ -1,6 +1,6 @@
 use Rattle.std.proofs.Common.{◌≡◌, ◌∙◌, length, refl, rules, sym, true}
 use Rattle.sqlite.specs.Held.{state}
-use Rattle.clr_tables.specs.declared.table_name.TableName.TheVariants.{Journal}
+use Rattle.clr_load.specs.declared.table_name.TableName.TheVariants.{Journal}
 use Rattle.clr_load.specs.Layout.{has_table}
 use Rattle.clr_load.proofs.Loading.{as_many_listed}
 use Rattle.clr_load.proofs.Staying.{unchanged_stays}

@@ -3,11 +3,11 @@ use Rattle.std.specs.Prelude.{IfErr, IsTrue}
 use Rattle.sqlite.specs.Effect.{Database}
 use Rattle.sqlite.specs.Held.{state}
 use Rattle.sqlite.specs.State.{HasCleanDisk}
-use Rattle.clr_tables.specs.RowsRead.{read_version}
+use Rattle.clr_load.specs.RowsRead.{read_version}
 use Rattle.clr_load.specs.Cause.{SqlHasCause}
 use Rattle.clr_load.specs.Contract.{TellsVersion}
 use Rattle.clr_load.specs.Fault.{IsOfExpected}
-use Rattle.clr_tables.specs.declared.table_name.TableName.TheVariants.{Journal, Point}
+use Rattle.clr_load.specs.declared.table_name.TableName.TheVariants.{Journal, Point}
 use Rattle.clr_load.specs.Layout.{tree_in, version_of}
 use Rattle.clr_load.specs.Schema.{schema_in}
 use Rattle.clr_load.specs.Stored.{HasMeta, HasVersion, IsPlaced}

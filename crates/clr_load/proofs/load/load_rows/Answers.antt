@@ -2,7 +2,7 @@ use Rattle.std.proofs.Common.{◌≡◌, ◌∙◌, Err, FitsSigned, Global, Ok,
 use Rattle.clr_rules.specs.declared.hold.Hold.{Hold}
 use Rattle.clr_rules.specs.declared.record.Record.{Record}
 use Rattle.clr_rules.specs.declared.step_row.StepRow.{StepRow}
-use Rattle.clr_tables.specs.RowsRead.{rows_read}
+use Rattle.clr_load.specs.RowsRead.{rows_read}
 use Rattle.clr_load.specs.Filling.{IsLoaded}
 use Rattle.clr_load.proofs.AllGiven.{gives_rows}
 use Rattle.clr_load.proofs.load.load_rows.Goals as goal

@@ -1,6 +1,6 @@
 use Rattle.std.proofs.Common.{◌≡◌, Err, Ok, inl, refl, rules, subst, sym}
 use Rattle.sqlite.specs.Held.{state}
-use Rattle.clr_tables.specs.declared.table_name.TableName.TheVariants.{Meta}
+use Rattle.clr_load.specs.declared.table_name.TableName.TheVariants.{Meta}
 use Rattle.clr_load.specs.Cause.{fault_of}
 use Rattle.clr_load.specs.Layout.{has_rows}
 use Rattle.clr_load.specs.Loads.{Loads}

@@ -1,5 +1,5 @@
 use Rattle.std.proofs.Common.{◌≡◌, ◌∙◌, Err, FitsSigned, Ok, ap, map, refl, rules, sym, to_z-of_z, w64}
-use Rattle.clr_tables.specs.RowsRead.{read_version}
+use Rattle.clr_load.specs.RowsRead.{read_version}
 use Rattle.clr_load.specs.declared.fault.StoreFault.TheVariants.{BadRow}
 use Rattle.clr_load.specs.declared.table_row.PointRead.{PointRead}
 use Rattle.clr_load.proofs.AllGiven.{all_told}

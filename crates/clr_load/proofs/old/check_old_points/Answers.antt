@@ -1,8 +1,8 @@
 use Rattle.std.proofs.Common.{◌≡◌, ◌∙◌, Err, ap, inl, rules, subst, sym}
 use Rattle.std.specs.Prelude.{is_ok, true}
 use Rattle.sqlite.specs.Held.{state}
-use Rattle.clr_tables.specs.RowsRead.{all_read}
-use Rattle.clr_tables.specs.declared.table_name.TableName.TheVariants.{Point}
+use Rattle.clr_load.specs.RowsRead.{all_read}
+use Rattle.clr_load.specs.declared.table_name.TableName.TheVariants.{Point}
 use Rattle.clr_load.specs.Contract.{RefusesPoints, old_points}
 use Rattle.clr_load.specs.Fault.{IsOfDatabase, IsOfPoints}
 use Rattle.clr_load.specs.Found.{Lists}

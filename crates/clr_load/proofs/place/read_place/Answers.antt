@@ -1,9 +1,9 @@
 use Rattle.std.proofs.Common.{◌≡◌, ◌∙◌, Err, ap, false, rules, sym, subst, true}
 use Rattle.std.specs.Prelude.{IfErr, Option}
 use Rattle.sqlite.specs.Held.{state}
-use Rattle.clr_place.specs.declared.place.Place.{Place}
-use Rattle.clr_tables.specs.RowsRead.{place_read}
-use Rattle.clr_tables.specs.declared.table_name.TableName.TheVariants.{Journal}
+use Rattle.clr_rules.specs.declared.place.Place.{Place}
+use Rattle.clr_load.specs.RowsRead.{place_read}
+use Rattle.clr_load.specs.declared.table_name.TableName.TheVariants.{Journal}
 use Rattle.clr_load.specs.Cause.{SqlHasCause}
 use Rattle.clr_load.specs.Contract.{Gives}
 use Rattle.clr_load.specs.Layout.{has_table}

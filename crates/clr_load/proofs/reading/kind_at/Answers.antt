@@ -1,7 +1,7 @@
 use Rattle.std.proofs.Common.{rules}
 use Rattle.std.specs.Prelude.{ok_or}
 use Rattle.clr_rules.specs.HoldKind.{hold_kind_named}
-use Rattle.clr_tables.specs.declared.table_name.TableName.TheVariants.{Hold}
+use Rattle.clr_load.specs.declared.table_name.TableName.TheVariants.{Hold}
 use Rattle.clr_load.proofs.TextsRead.{kind_by_text, then_fails, then_gives}
 use Rattle.clr_load.proofs.reading.kind_at.Goals as goal
 

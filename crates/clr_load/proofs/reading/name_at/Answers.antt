@@ -1,6 +1,6 @@
 use Rattle.std.proofs.Common.{rules}
 use Rattle.clr_net.specs.NameText.{read_name}
-use Rattle.clr_tables.specs.RowsRead.{name_if_read}
+use Rattle.clr_load.specs.RowsRead.{name_if_read}
 use Rattle.clr_load.proofs.TextsRead.{name_by_text, then_fails}
 use Rattle.clr_load.proofs.reading.name_at.Goals as goal
 

@@ -1,7 +1,7 @@
 use Rattle.std.proofs.Common.{rules}
 use Rattle.std.specs.Prelude.{ok_or}
-use Rattle.clr_tables.specs.Words.{role_worded}
-use Rattle.clr_tables.specs.declared.table_name.TableName.TheVariants.{Staff}
+use Rattle.clr_load.specs.Words.{role_worded}
+use Rattle.clr_load.specs.declared.table_name.TableName.TheVariants.{Staff}
 use Rattle.clr_load.proofs.TextsRead.{role_by_text, then_fails, then_gives}
 use Rattle.clr_load.proofs.reading.role_at.Goals as goal
 

@@ -1,5 +1,5 @@
 use Rattle.std.proofs.Common.{◌≡◌, take, Ok}
-use Rattle.clr_tables.specs.RowsRead.{all_read}
+use Rattle.clr_load.specs.RowsRead.{all_read}
 use Rattle.clr_load.proofs.table_row.all_read.Given as goal
 
 -- the rows before this one are read

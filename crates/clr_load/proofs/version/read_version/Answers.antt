@@ -1,7 +1,7 @@
 use Rattle.std.proofs.Common.{◌≡◌, ◌∙◌, Err, ap, sym, refl, arith, rules}
 use Rattle.sqlite.specs.Held.{state}
 use Rattle.sqlite.specs.State.{HasCleanDisk}
-use Rattle.clr_tables.specs.RowsRead.{read_version}
+use Rattle.clr_load.specs.RowsRead.{read_version}
 use Rattle.clr_load.specs.declared.fault.StoreFault.TheVariants.{BadRow}
 use Rattle.clr_load.specs.Cause.{SqlHasCause}
 use Rattle.clr_load.proofs.Causes.{begun_cause, cause_later}

@@ -1,5 +1,5 @@
 use Rattle.std.proofs.Common.{◌∙◌, ap}
-use Rattle.clr_tables.specs.RowsRead.{read_version, version_if_there}
+use Rattle.clr_load.specs.RowsRead.{read_version, version_if_there}
 use Rattle.clr_load.proofs.version.version_in.Goals as goal
 
 pub returns-in-Some : goal.returns-in-Some

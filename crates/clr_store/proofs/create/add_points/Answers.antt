@@ -1,7 +1,7 @@
 use Rattle.std.proofs.Common.{arith, refl}
-use Rattle.clr_tables.specs.declared.table_name.TableName.TheVariants.{NetworkPoint}
+use Rattle.clr_load.specs.declared.table_name.TableName.TheVariants.{NetworkPoint}
 use Rattle.clr_rules.specs.Register.{first_state}
-use Rattle.clr_tables.specs.Tables.{jumper_row}
+use Rattle.clr_load.specs.Tables.{jumper_row}
 use Rattle.clr_store.proofs.Creating.{adds_all, adds_more, adds_none}
 use Rattle.clr_store.proofs.create.add_points.Goals as goal
 

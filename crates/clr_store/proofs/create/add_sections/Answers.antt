@@ -1,6 +1,6 @@
 use Rattle.std.proofs.Common.{arith, refl}
-use Rattle.clr_tables.specs.declared.table_name.TableName.TheVariants.{Section}
-use Rattle.clr_tables.specs.Tables.{section_row}
+use Rattle.clr_load.specs.declared.table_name.TableName.TheVariants.{Section}
+use Rattle.clr_load.specs.Tables.{section_row}
 use Rattle.clr_store.proofs.Creating.{adds_all, adds_more, adds_none}
 use Rattle.clr_store.proofs.create.add_sections.Goals as goal
 

@@ -1,6 +1,6 @@
 use Rattle.std.proofs.Common.{Ok, map, take}
-use Rattle.clr_tables.specs.declared.table_name.TableName.TheVariants.{Section}
-use Rattle.clr_tables.specs.Tables.{section_row}
+use Rattle.clr_load.specs.declared.table_name.TableName.TheVariants.{Section}
+use Rattle.clr_load.specs.Tables.{section_row}
 use Rattle.clr_store.specs.Change.{Does, added, with_rows}
 use Rattle.clr_store.proofs.create.add_sections.Given as goal
 

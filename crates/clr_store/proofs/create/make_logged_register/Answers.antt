@@ -3,7 +3,7 @@ use Rattle.sqlite.specs.Effect.{Database}
 use Rattle.sqlite.specs.Held.{state}
 use Rattle.sqlite.specs.State.{HasCleanDisk, Survives}
 use Rattle.clr_rules.specs.Register.{opening}
-use Rattle.clr_tables.specs.Tables.{place_row, tables_of}
+use Rattle.clr_load.specs.Tables.{place_row, tables_of}
 use Rattle.clr_load.specs.Schema.{no_schema}
 use Rattle.clr_load.specs.Stored.{ArePlaced, HasTables}
 use Rattle.clr_load.proofs.Inside.{both_survive}

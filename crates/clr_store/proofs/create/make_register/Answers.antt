@@ -5,7 +5,7 @@ use Rattle.sqlite.specs.State.{HasCleanDisk, Survives}
 use Rattle.sqlite.specs.Tree.{Trees}
 use Rattle.sqlite.proofs.StateLemmas.{survives_then}
 use Rattle.clr_rules.specs.Register.{opening}
-use Rattle.clr_tables.specs.Tables.{tables_of}
+use Rattle.clr_load.specs.Tables.{tables_of}
 use Rattle.clr_load.specs.Schema.{no_schema}
 use Rattle.clr_load.specs.Stored.{AreTables, HasTables}
 use Rattle.clr_load.proofs.Reopened.{left_of}

@@ -1,5 +1,5 @@
 use Rattle.std.proofs.Common.{Ok, take}
-use Rattle.clr_tables.specs.TableEdits.{tables_edited}
+use Rattle.clr_load.specs.TableEdits.{tables_edited}
 use Rattle.clr_store.specs.Change.{Does}
 use Rattle.clr_store.proofs.edits.make_each.Given as goal
 

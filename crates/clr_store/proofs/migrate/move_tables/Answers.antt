@@ -2,7 +2,7 @@ use Rattle.std.proofs.Common.{◌≡◌, IsTrue, arith, inl, rules, refl, subst,
 use Rattle.sqlite.specs.Effect.{Database}
 use Rattle.sqlite.specs.Held.{state}
 use Rattle.sqlite.specs.State.{HasCleanDisk, Survives}
-use Rattle.clr_tables.specs.TableEdits.{tables_moved}
+use Rattle.clr_load.specs.TableEdits.{tables_moved}
 use Rattle.clr_store.specs.Moving.{AreMoved}
 use Rattle.clr_load.specs.Cause.{SqlHasCause}
 use Rattle.clr_load.specs.Contract.{RefusesPoints, old_points}

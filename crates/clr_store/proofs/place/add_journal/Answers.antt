@@ -1,5 +1,5 @@
 use Rattle.std.proofs.Common.{[], ◌∷◌}
-use Rattle.clr_tables.specs.Tables.{place_row}
+use Rattle.clr_load.specs.Tables.{place_row}
 use Rattle.clr_store.proofs.Beginning.{then_puts}
 use Rattle.clr_store.proofs.place.add_journal.Goals as goal
 

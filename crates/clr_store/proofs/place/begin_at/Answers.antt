@@ -4,9 +4,9 @@ use Rattle.sqlite.specs.Held.{state}
 use Rattle.sqlite.specs.Schema.{Schema}
 use Rattle.sqlite.specs.State.{HasCleanDisk, Survives}
 use Rattle.sqlite_schema.specs.Names.{table_named}
-use Rattle.clr_tables.specs.TableText.{table_text}
-use Rattle.clr_tables.specs.Tables.{place_row}
-use Rattle.clr_tables.specs.declared.table_name.TableName.TheVariants.{Journal}
+use Rattle.clr_load.specs.TableText.{table_text}
+use Rattle.clr_load.specs.Tables.{place_row}
+use Rattle.clr_load.specs.declared.table_name.TableName.TheVariants.{Journal}
 use Rattle.clr_store.specs.Contract.{AreEditedAt, MakesEditsAt}
 use Rattle.clr_store.proofs.Beginning.{begin_crash_at, begun_at, is_none}
 use Rattle.clr_load.proofs.Causes.{told_of_database}

@@ -3,10 +3,10 @@ use Rattle.sqlite.specs.Effect.{Database}
 use Rattle.sqlite.specs.Held.{state}
 use Rattle.sqlite.specs.State.{HasCleanDisk, Survives}
 use Rattle.sqlite_schema.specs.Names.{table_named}
-use Rattle.clr_tables.specs.TableEdits.{tables_edited}
-use Rattle.clr_tables.specs.TableText.{table_text}
-use Rattle.clr_tables.specs.Tables.{place_row}
-use Rattle.clr_tables.specs.declared.table_name.TableName.TheVariants.{Journal}
+use Rattle.clr_load.specs.TableEdits.{tables_edited}
+use Rattle.clr_load.specs.TableText.{table_text}
+use Rattle.clr_load.specs.Tables.{place_row}
+use Rattle.clr_load.specs.declared.table_name.TableName.TheVariants.{Journal}
 use Rattle.clr_store.specs.Contract.{AreEditedAt, MakesEditsAt}
 use Rattle.clr_store.proofs.Places.{commit_crash_at, made_at}
 use Rattle.clr_load.proofs.Causes.{told_of_database}

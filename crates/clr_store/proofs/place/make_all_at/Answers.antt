@@ -1,5 +1,5 @@
-use Rattle.clr_tables.specs.TableEdits.{tables_edited}
-use Rattle.clr_tables.specs.Tables.{place_row}
+use Rattle.clr_load.specs.TableEdits.{tables_edited}
+use Rattle.clr_load.specs.Tables.{place_row}
 use Rattle.clr_store.proofs.Places.{then_at}
 use Rattle.clr_store.proofs.place.make_all_at.Goals as goal
 

@@ -1,6 +1,6 @@
 use Rattle.std.proofs.Common.{◌≡◌, Err, refl, rules}
 use Rattle.sqlite.specs.Held.{state}
-use Rattle.clr_tables.specs.declared.table_name.TableName.TheVariants.{Journal}
+use Rattle.clr_load.specs.declared.table_name.TableName.TheVariants.{Journal}
 use Rattle.clr_load.specs.declared.layout.Layout.TheVariants.{AsMadeLogged}
 use Rattle.clr_load.specs.Cause.{fault_of}
 use Rattle.clr_store.proofs.Beginning.{adds_table}

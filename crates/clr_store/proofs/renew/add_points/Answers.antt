@@ -2,8 +2,8 @@ use Rattle.std.proofs.Common.{Ok, ◌∷◌, arith, refl, subst, sym}
 use Rattle.clr_net.specs.Grid.{unplaced}
 use Rattle.clr_net.specs.declared.point.PointRow.{PointRow}
 use Rattle.clr_rules.specs.declared.point_state.PointState.{PointState}
-use Rattle.clr_tables.specs.declared.table_name.TableName.TheVariants.{NetworkPoint}
-use Rattle.clr_tables.specs.Tables.{jumper_row, state_at}
+use Rattle.clr_load.specs.declared.table_name.TableName.TheVariants.{NetworkPoint}
+use Rattle.clr_load.specs.Tables.{jumper_row, state_at}
 use Rattle.clr_store.proofs.Creating.{adds_all, adds_more, adds_none}
 use Rattle.clr_store.proofs.Renewing.{state_there}
 use Rattle.clr_store.specs.Change.{Does, with_rows}

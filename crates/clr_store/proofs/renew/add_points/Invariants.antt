@@ -1,5 +1,5 @@
 use Rattle.std.proofs.Common.{Ok, take}
-use Rattle.clr_tables.specs.declared.table_name.TableName.TheVariants.{NetworkPoint}
+use Rattle.clr_load.specs.declared.table_name.TableName.TheVariants.{NetworkPoint}
 use Rattle.clr_store.specs.Change.{Does, added, with_rows}
 use Rattle.clr_store.specs.Renewed.{rows_in_state}
 use Rattle.clr_store.proofs.renew.add_points.Given as goal

@@ -2,7 +2,7 @@ use Rattle.std.proofs.Common.{◌≡◌, arith, option_copied, option_map, rules
 use Rattle.sqlite.specs.Effect.{Database}
 use Rattle.sqlite.specs.Held.{state}
 use Rattle.sqlite.specs.State.{HasCleanDisk, Survives}
-use Rattle.clr_tables.specs.Tables.{place_row}
+use Rattle.clr_load.specs.Tables.{place_row}
 use Rattle.clr_store.specs.Change.{CanSet}
 use Rattle.clr_store.specs.Contract.{AreTurned, TurnsInto}
 use Rattle.clr_store.specs.Renewed.{rows_renewed, tables_renewed}

@@ -1,5 +1,5 @@
 use Rattle.std.proofs.Common.{option_copied, option_map}
-use Rattle.clr_tables.specs.Tables.{place_row}
+use Rattle.clr_load.specs.Tables.{place_row}
 use Rattle.clr_store.specs.StepsTaken.{without_steps}
 use Rattle.clr_store.proofs.Turned.{then_with}
 use Rattle.clr_store.proofs.steps.take_all.Goals as goal

@@ -2,7 +2,7 @@ use Rattle.std.proofs.Common.{◌≡◌, arith, rules, refl, subst, sym, true}
 use Rattle.sqlite.specs.Effect.{Database}
 use Rattle.sqlite.specs.Held.{state}
 use Rattle.sqlite.specs.State.{HasCleanDisk, Survives}
-use Rattle.clr_tables.specs.TableEdits.{tables_edited}
+use Rattle.clr_load.specs.TableEdits.{tables_edited}
 use Rattle.clr_store.specs.Contract.{AreEdited, KeepsPlace}
 use Rattle.clr_store.proofs.Places.{keeps_place}
 use Rattle.clr_load.specs.Stored.{HasTables}

@@ -1,7 +1,7 @@
 use Rattle.std.proofs.Common.{◌≡◌, ◌∙◌, ap, map, rules, sym}
 use Rattle.clr_net.proofs.ListFacts.{map-map}
 use Rattle.clr_net.specs.Grid.{unplaced}
-use Rattle.clr_tables.specs.RowsRead.{with_its_position}
+use Rattle.clr_load.specs.RowsRead.{with_its_position}
 use Rattle.clr_wayback.proofs.OpenPart.{network_is}
 use Rattle.clr_wayback.proofs.open.network_now.Goals as goal
 

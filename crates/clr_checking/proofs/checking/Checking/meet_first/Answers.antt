@@ -1,5 +1,5 @@
 use Rattle.std.proofs.Common.{◌≡◌, ◌∙◌, [], ap, false, rules, sym, true}
-use Rattle.clr_place.specs.declared.place.Place.{Place}
+use Rattle.clr_rules.specs.declared.place.Place.{Place}
 use Rattle.clr_checking.proofs.Results.{if_err, on_both, on_ok}
 use Rattle.clr_checking.specs.declared.checking.Checking.{Checking}
 use Rattle.clr_checking.proofs.Checked.{at_first, begun_checked, begun_checked_from}

@@ -1,6 +1,6 @@
 use Rattle.std.proofs.Common.{subst}
 use Rattle.serde_json.specs.View.{view}
-use Rattle.clr_deeds.specs.Deeds.{deed_of}
+use Rattle.clr_changes.specs.Deeds.{deed_of}
 use Rattle.clr_checking.specs.Brief.{DecidesDeed}
 use Rattle.clr_checking.proofs.checking.Checking.refuse.Goals as goal
 

@@ -1,10 +1,10 @@
 use Rattle.std.proofs.Common.{OnOk, subst}
 use Rattle.sqlite.specs.Held.{state}
 use Rattle.sqlite.specs.State.{HasCleanDisk}
-use Rattle.clr_archive.specs.Archive.{archived}
+use Rattle.clr_changes.specs.Archive.{archived}
 use Rattle.clr_book.specs.Book.{Shelved}
 use Rattle.clr_load.specs.Stored.{HasTables}
-use Rattle.clr_tables.specs.Tables.{tables_of}
+use Rattle.clr_load.specs.Tables.{tables_of}
 use Rattle.clr_desk.proofs.archiving.Desk+Store+S.archive.Goals as goal
 
 pub returns-clause-archived : goal.returns-clause-archived

@@ -5,8 +5,8 @@ use Rattle.clr_rules.specs.Register.{Register, opening}
 use Rattle.clr_rules.specs.Run.{IsReached}
 use Rattle.clr_load.specs.Contract.{IsSaved}
 use Rattle.clr_load.specs.Stored.{AreTables, HasTables}
-use Rattle.clr_tables.specs.Tables.{tables_of}
-use Rattle.clr_tables.specs.TypedRows.{IsTyped}
+use Rattle.clr_load.specs.Tables.{tables_of}
+use Rattle.clr_load.specs.TypedRows.{IsTyped}
 use Rattle.clr_book.specs.Book.{Shelved}
 use Rattle.clr_desk.proofs.OneCommand.{of_command}
 use Rattle.clr_desk.proofs.desk.Desk+Store+S.create.Goals as goal

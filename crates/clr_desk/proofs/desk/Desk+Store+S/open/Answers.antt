@@ -2,8 +2,8 @@ use Rattle.std.proofs.Common.{rules, ◌∙◌, ap, refl, subst, sym, Ok}
 use Rattle.sqlite.specs.Held.{state}
 use Rattle.sqlite.specs.State.{HasCleanDisk}
 use Rattle.clr_book.specs.Book.{Shelved}
-use Rattle.clr_tables.specs.RowsRead.{rows_read}
-use Rattle.clr_tables.specs.Tables.{tables_of}
+use Rattle.clr_load.specs.RowsRead.{rows_read}
+use Rattle.clr_load.specs.Tables.{tables_of}
 use Rattle.clr_desk.specs.Opening.{HasNetworkOf, OpensAs}
 use Rattle.clr_desk.proofs.RowsOpened.{fails_by_database, opened_again}
 use Rattle.clr_desk.proofs.OneCommand.{of_command}

@@ -1,6 +1,6 @@
 use Rattle.std.proofs.Common.{◌≡◌, ◌∙◌, subst}
 use Rattle.std.specs.Prelude.{⊤}
-use Rattle.clr_archive.specs.Archive.{archived}
+use Rattle.clr_changes.specs.Archive.{archived}
 use Rattle.clr_desk.specs.Renewing.{ComesTo}
 use Rattle.clr_desk.specs.declared.desk.Desk.{Desk}
 use Rattle.clr_desk.proofs.Renewed.{one_desk}

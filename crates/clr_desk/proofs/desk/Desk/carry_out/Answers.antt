@@ -4,7 +4,7 @@ use Rattle.clr_rules.specs.Answer.{Answer}
 use Rattle.clr_rules.specs.Edits.{after_edits}
 use Rattle.clr_rules.specs.Register.{Register}
 use Rattle.clr_load.specs.Stored.{HasTables}
-use Rattle.clr_tables.specs.Tables.{Tables, tables_of}
+use Rattle.clr_load.specs.Tables.{Tables, tables_of}
 use Rattle.clr_answer.specs.Decision.{is_accepted}
 use Rattle.clr_book.specs.Growth.{network_after_all}
 use Rattle.clr_desk.specs.Commit.{Stays}

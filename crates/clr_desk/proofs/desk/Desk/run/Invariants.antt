@@ -10,7 +10,7 @@ use Rattle.clr_rules.specs.Good.{IsGood}
 use Rattle.clr_rules.specs.RunHeadline.{IsRun}
 use Rattle.clr_load.specs.Contract.{IsSaved}
 use Rattle.clr_load.specs.Stored.{HasTables}
-use Rattle.clr_tables.specs.Tables.{tables_of}
+use Rattle.clr_load.specs.Tables.{tables_of}
 use Rattle.clr_desk.proofs.desk.Desk.run.Given as goal
 
 -- each command before the place has its reply, and left the register and the network that the run has by now, and its tables

@@ -4,7 +4,7 @@ use Rattle.sqlite.specs.State.{HasCleanDisk}
 use Rattle.clr_book.specs.Book.{Shelved}
 use Rattle.clr_changes.specs.Shown.{as_update}
 use Rattle.clr_load.specs.Stored.{HasTables}
-use Rattle.clr_tables.specs.Tables.{tables_of}
+use Rattle.clr_load.specs.Tables.{tables_of}
 use Rattle.clr_update.specs.Update.{after_update}
 use Rattle.clr_desk.proofs.updating.Desk+Store+S.update.Goals as goal
 

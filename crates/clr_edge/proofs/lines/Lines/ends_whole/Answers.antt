@@ -1,8 +1,8 @@
 use Rattle.std.proofs.Common.{◌≡◌, ◌∙◌, ◌-◌, ap, drop, length, sym, take, true, List, ℕ}
 use Rattle.std.specs.Option.{option_map_or}
 use Rattle.std.specs.Prelude.{Option, slice_get}
-use Rattle.clr_append.specs.Lines.{is_line_feed}
-use Rattle.clr_append.proofs.Pieces.{rest_of_slice}
+use Rattle.clr_journal.specs.Lines.{is_line_feed}
+use Rattle.clr_journal.proofs.Pieces.{rest_of_slice}
 use Rattle.clr_edge.specs.Lines.{held_of}
 use Rattle.clr_edge.proofs.LineFeeds.{ends-last}
 use Rattle.clr_edge.proofs.lines.Lines.ends_whole.Goals as goal

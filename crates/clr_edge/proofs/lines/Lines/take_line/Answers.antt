@@ -1,8 +1,8 @@
 use Rattle.std.proofs.Common.{◌≡◌, ◌∙◌, ◌-◌, ap, drop, length, refl, subst, sym, take, List, ℕ}
 use Rattle.std.specs.List.{list_any}
 use Rattle.std.specs.Prelude.{false}
-use Rattle.clr_append.specs.Lines.{ended_lines, is_line_feed}
-use Rattle.clr_append.proofs.Pieces.{not_found, rest_of_slice}
+use Rattle.clr_journal.specs.Lines.{ended_lines, is_line_feed}
+use Rattle.clr_journal.proofs.Pieces.{not_found, rest_of_slice}
 use Rattle.clr_edge.proofs.LineFeeds.{held-line, split}
 use Rattle.clr_edge.proofs.lines.Lines.take_line.Goals as goal
 

@@ -1,7 +1,7 @@
 use Rattle.std.proofs.Common.{◌≡◌, [], OnOk, rules, subst}
 use Rattle.sqlite.specs.Held.{state}
 use Rattle.sqlite.specs.State.{HasCleanDisk}
-use Rattle.clr_tables.specs.Tables.{place_row}
+use Rattle.clr_load.specs.Tables.{place_row}
 use Rattle.clr_store.specs.Contract.{MakesEditsAt}
 use Rattle.clr_store.proofs.store.Store.begin_at.Goals as goal
 

@@ -2,8 +2,8 @@ use Rattle.std.proofs.Common.{◌≡◌, ◌⊎◌, IsTrue, false, rules, subst}
 use Rattle.std.specs.Prelude.{IfErr, IsErrAnd}
 use Rattle.sqlite.specs.Held.{state}
 use Rattle.sqlite.specs.State.{HasCleanDisk}
-use Rattle.clr_tables.specs.RowsRead.{rows_read}
-use Rattle.clr_tables.specs.Tables.{Tables}
+use Rattle.clr_load.specs.RowsRead.{rows_read}
+use Rattle.clr_load.specs.Tables.{Tables}
 use Rattle.clr_load.specs.Cause.{SqlHasCause}
 use Rattle.clr_load.specs.Fault.{IsOfDatabase}
 use Rattle.clr_load.specs.Filling.{GivesInto, IsLoaded}

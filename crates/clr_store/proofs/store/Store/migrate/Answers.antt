@@ -2,9 +2,9 @@ use Rattle.std.proofs.Common.{◌≡◌, ◌∙◌, IsTrue, Ok, arith, inl, inr,
 use Rattle.sqlite.specs.Effect.{Database}
 use Rattle.sqlite.specs.Held.{state}
 use Rattle.sqlite.specs.State.{HasCleanDisk}
-use Rattle.clr_tables.proofs.Moved.{tables_are_moved}
-use Rattle.clr_tables.specs.RowsRead.{read_version}
-use Rattle.clr_tables.specs.Tables.{tables_by, version_one}
+use Rattle.clr_load.proofs.Moved.{tables_are_moved}
+use Rattle.clr_load.specs.RowsRead.{read_version}
+use Rattle.clr_load.specs.Tables.{tables_by, version_one}
 use Rattle.clr_load.specs.declared.layout.Layout.TheVariants.{OfOne}
 use Rattle.clr_load.specs.Stored.{HasOldTables, HasTables}
 use Rattle.clr_load.proofs.Loading.{has_meta}

@@ -1,6 +1,6 @@
 use Rattle.std.proofs.Common.{◌≡◌, Ok, arith, pos, rules}
 use Rattle.sqlite.specs.Held.{state}
-use Rattle.clr_tables.specs.RowsRead.{read_version}
+use Rattle.clr_load.specs.RowsRead.{read_version}
 use Rattle.clr_load.proofs.Loading.{has_meta}
 use Rattle.clr_store.proofs.There.{version_there}
 use Rattle.clr_store.proofs.Versions.{of_opening, refuses, refuses_opening, two_has}

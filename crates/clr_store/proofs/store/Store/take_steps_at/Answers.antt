@@ -2,7 +2,7 @@ use Rattle.std.proofs.Common.{◌≡◌, OnOk, rules, subst}
 use Rattle.sqlite.specs.Held.{state}
 use Rattle.sqlite.specs.State.{HasCleanDisk, Survives}
 use Rattle.sqlite.proofs.StateLemmas.{survives_then}
-use Rattle.clr_tables.specs.Tables.{place_row}
+use Rattle.clr_load.specs.Tables.{place_row}
 use Rattle.clr_store.specs.StepsTaken.{AreWithoutStepsAt, TakesStepsAt}
 use Rattle.clr_store.proofs.store.Store.take_steps_at.Goals as goal
 

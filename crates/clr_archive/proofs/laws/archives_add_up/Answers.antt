@@ -1,5 +1,0 @@
-use Rattle.clr_archive.proofs.Agreeing.{archives_add_up}
-use Rattle.clr_archive.proofs.laws.archives_add_up.Goals as goal
-
-pub returns : goal.returns
-returns c = archives_add_up

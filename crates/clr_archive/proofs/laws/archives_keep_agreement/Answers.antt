@@ -1,5 +1,0 @@
-use Rattle.clr_archive.proofs.Agreeing.{archives_keep_agreement}
-use Rattle.clr_archive.proofs.laws.archives_keep_agreement.Goals as goal
-
-pub returns : goal.returns
-returns c = archives_keep_agreement

@@ -1,5 +1,0 @@
-use Rattle.clr_archive.proofs.Acting.{only_shows_differ}
-use Rattle.clr_archive.proofs.laws.only_shows_differ.Goals as goal
-
-pub returns : goal.returns
-returns c = only_shows_differ

@@ -1,3 +1,0 @@
-pub mod Archive
-pub mod Acts
-pub mod Laws

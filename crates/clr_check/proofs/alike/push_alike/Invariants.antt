@@ -1,7 +1,0 @@
-use Rattle.std.proofs.Common.{◌≡◌, ◌++◌, drop}
-use Rattle.clr_check.specs.Regrets.{alike}
-use Rattle.clr_check.proofs.alike.push_alike.Given as goal
-
--- the pairs so far, and those that are left, are all
-abbrev pub invariant-loop-place : goal.invariant-loop-place
-invariant-loop-place l = l.regrets.items ++ alike l.of (drop l.place l.names) ≡ l.initial.regrets.items ++ alike l.of l.names

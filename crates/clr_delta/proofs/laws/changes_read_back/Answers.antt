@@ -1,8 +1,0 @@
-use Rattle.clr_delta.proofs.Back.{change_values_are_plain, changes_read_back}
-use Rattle.clr_delta.proofs.laws.changes_read_back.Goals as goal
-
-pub returns-clause-reads : goal.returns-clause-reads
-returns-clause-reads c = changes_read_back
-
-pub returns-clause-plain : goal.returns-clause-plain
-returns-clause-plain c = change_values_are_plain

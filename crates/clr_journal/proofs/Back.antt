@@ -1,0 +1,296 @@
+-- Changes that can be said are read from their value, and that is plain.
+use Rattle.std.proofs.Common.{◌≡◌, ◌∙◌, ◌≤◌, ℕ, Bool, true, ◌&&◌, List, [], ◌∷◌, Option, None, Some, length, Ok, refl, ap, sym, arith, map, option_map, option_and_then, le-ltb, ne_eqb}
+use Rattle.std.proofs.lemmas.Bool.{and_from, and_parts, false≢true}
+use Rattle.std.proofs.lemmas.Str.{is_utf8-from_IsUtf8}
+use Rattle.std.specs.List.{list_all}
+use Rattle.std.specs.Prelude.{codes}
+use Rattle.json.proofs.Printed.Utf8.{IsUtf8-are_ascii, are_ascii}
+use Rattle.serde_json.specs.Data.{Data, Members, boolean, depth, items_depth, member, no_members, string}
+use Rattle.serde_json.specs.View.{items_of}
+use Rattle.clr_net.proofs.Names.{name_has_none, name_is_text, name_parts}
+use Rattle.clr_net.specs.Name.{is_name}
+use Rattle.clr_net.specs.NameText.{read_name}
+use Rattle.clr_net.specs.declared.point.PointRow.{PointRow}
+use Rattle.clr_net.specs.declared.point.Position.{Position}
+use Rattle.clr_net.specs.declared.point.Position.TheVariants.{Closed, Opened}
+use Rattle.clr_net.specs.declared.section.SectionRow.{SectionRow}
+use Rattle.clr_staff.specs.declared.employee.Role.{Role}
+use Rattle.clr_staff.specs.declared.employee.Role.TheVariants.{Charge, Field, Operator}
+use Rattle.clr_staff.specs.declared.employee.StaffRow.{StaffRow}
+use Rattle.clr_text.specs.CommandLaws.{is_before, is_plain, items_are_plain, members_are_plain}
+use Rattle.clr_text.specs.Json.{list_data, name_data, optional_data, position_text, role_text}
+use Rattle.clr_text.specs.Values.{all_read, name_in}
+use Rattle.clr_update.specs.Changes.{Changes}
+use Rattle.clr_journal.specs.Delta.{both_data, can_be_said, changes_data, changes_in, list_in}
+use Rattle.clr_journal.specs.DeltaLaws.{ChangesReadBack, ChangeValuesArePlain}
+use Rattle.clr_journal.specs.DeltaRows.{employee_data, employee_in, gone_data, gone_in, is_name_or_none, is_open, is_said_employee, is_said_gone, is_said_point, is_said_section, point_data, point_in}
+use Rattle.clr_journal.specs.DeltaRows.{position_in, role_in, section_data, section_in, supervisor_in}
+
+-- ---- columns
+
+name_reads : (s : List ℕ) → is_name s ≡ true → read_name s ≡ Ok s
+name_reads s h =
+    let parts = name_parts s h in
+    let some = ne_eqb (length s) 0 (λ e. omega arith) in
+    let few = le-ltb 24 (length s) parts.1 in
+    rw (some, few, name_has_none s h) refl
+
+name_back : (s : List ℕ) → is_name s ≡ true → name_in (name_data s) ≡ Some s
+name_back s h = rw (name_reads s h) refl
+
+position_back : (position : Position) → position_in (string (position_text position)) ≡ Some position
+position_back Opened = refl
+position_back Closed = refl
+
+role_back : (role : Role) → role_in (string (role_text role)) ≡ Some role
+role_back Operator = refl
+role_back Field = refl
+role_back Charge = refl
+
+supervisor_back : (supervisor : Option (List ℕ)) → is_name_or_none supervisor ≡ true → supervisor_in (optional_data name_data supervisor) ≡ Some supervisor
+supervisor_back None h = refl
+supervisor_back (Some name) h = ap (option_map Some) (name_back name h)
+
+-- ---- rows
+
+section_back : (row : SectionRow) → is_said_section row ≡ true → section_in (section_data row) ≡ Some row
+section_back row h =
+    let made : Option (List ℕ) → Option SectionRow = λ name. option_and_then (λ n. Some (record { name = n; source = row.source })) name in
+    ap made (name_back row.name h)
+
+module _ (p : PointRow) (h : is_said_point p ≡ true) where
+  abbrev made : Option (List ℕ) → Option (List ℕ) → Option (List ℕ) → Option PointRow
+  made name from to = option_and_then (λ n. option_and_then (λ f. option_and_then (λ t. Some (record {
+    name = n;
+    from_end = f;
+    to_end = t;
+    lockable = p.lockable;
+    remote = p.remote;
+    position = Opened;
+    jumper = p.jumper;
+  })) to) from) name
+
+  ends : (is_name p.name ≡ true) × (is_name p.from_end ≡ true) × (is_name p.to_end ≡ true)
+  ends = let a = and_parts (is_name p.name) (is_name p.from_end && is_name p.to_end) h in let b = and_parts (is_name p.from_end) (is_name p.to_end) a.1 in (a.0, b.0, b.1)
+
+  made_back : made (name_in (name_data p.name)) (name_in (name_data p.from_end)) (name_in (name_data p.to_end)) ≡ Some (record p { position = Opened })
+  made_back =
+      let name = name_back p.name ends.0 in
+      let from = name_back p.from_end ends.1 in
+      let to = name_back p.to_end ends.2 in
+      λ i. made (name i) (from i) (to i)
+
+  pub columns_back : gone_in (gone_data p) ≡ Some (record p { position = Opened })
+  columns_back = made_back
+
+  pub point_back : point_in (point_data p) ≡ Some p
+  point_back =
+      let position = position_back p.position in
+      (λ i. option_and_then (λ q. option_map (λ (at : Position). record q { position = at }) (position i)) (made_back i))
+
+opened : (position : Position) → is_open position ≡ true → position ≡ Opened
+opened Opened h = refl
+opened Closed h = absurd (false≢true h)
+
+gone_back : (p : PointRow) → is_said_gone p ≡ true → gone_in (gone_data p) ≡ Some p
+gone_back p h =
+    let a = and_parts (is_said_point p) (is_open p.position) h in
+    let position = opened p.position a.1 in
+    columns_back p a.0 ∙ (λ i. Some (record p { position = sym position i }))
+
+employee_back : (row : StaffRow) → is_said_employee row ≡ true → employee_in (employee_data row) ≡ Some row
+employee_back row h =
+    let a = and_parts (is_name row.name) (is_name_or_none row.supervisor) h in
+    let name = name_back row.name a.0 in
+    let role = role_back row.role in
+    let supervisor = supervisor_back row.supervisor a.1 in
+    let made : Option (List ℕ) → Option Role → Option (Option (List ℕ)) → Option StaffRow =
+    λ n r s. option_and_then (λ name. option_and_then (λ role. option_map (λ supervisor. record { name = name; role = role; supervisor = supervisor }) s) r) n in
+    λ i. made (name i) (role i) (supervisor i)
+
+-- ---- lists
+
+module _ {A : Type 0} (seen : A → Data) (reading : Data → Option A) (said : A → Bool) (back : (x : A) → said x ≡ true → reading (seen x) ≡ Some x) where
+  all_back : (list : List A) → list_all said list ≡ true → all_read reading (items_of (map seen list)) ≡ Some list
+  all_back [] h = refl
+  all_back (x ∷ list) h =
+      let parts = and_parts (said x) (list_all said list) h in
+      rw (back x parts.0, all_back list parts.1) refl
+
+  list_back : (list : List A) → list_all said list ≡ true → list_in reading (list_data seen list) ≡ Some list
+  list_back list h = all_back list h
+
+-- ---- the changes
+
+-- what it means that they can be said
+record AreSaid (of : Changes) : Type 0 where
+  sections_go : list_all is_said_section of.sections_go ≡ true
+  sections_come : list_all is_said_section of.sections_come ≡ true
+  points_go : list_all is_said_gone of.points_go ≡ true
+  points_come : list_all is_said_point of.points_come ≡ true
+  staff_goes : list_all is_said_employee of.staff_goes ≡ true
+  staff_comes : list_all is_said_employee of.staff_comes ≡ true
+
+are_said : (of : Changes) → can_be_said of ≡ true → AreSaid of
+are_said of h =
+    let (sections, rest) = and_parts _ _ h in
+    let (points, staff) = and_parts _ _ rest in
+    let (sections_go, sections_come) = and_parts _ _ sections in
+    let (points_go, points_come) = and_parts _ _ points in
+    let (staff_goes, staff_comes) = and_parts _ _ staff in
+    record { sections_go = sections_go; sections_come = sections_come; points_go = points_go; points_come = points_come; staff_goes = staff_goes; staff_comes = staff_comes }
+
+abbrev both : {A B : Type 0} → Option (List A) → Option (List B) → Option (List A × List B)
+both come go = option_and_then (λ c. option_map (λ g. (c, g)) go) come
+
+abbrev all_of : Option (List PointRow × List PointRow) → Option (List SectionRow × List SectionRow) → Option (List StaffRow × List StaffRow) → Option Changes
+all_of points sections staff = option_and_then (λ p. option_and_then (λ s. option_map (λ e. record {
+  sections_go = s.1;
+  sections_come = s.0;
+  points_go = p.1;
+  points_come = p.0;
+  staff_goes = e.1;
+  staff_comes = e.0;
+}) staff) sections) points
+
+pub changes_read_back : ChangesReadBack
+unfolding changes_data changes_in
+changes_read_back of h =
+    let said = are_said of h in
+    let points_come = list_back point_data point_in is_said_point point_back of.points_come said.points_come in
+    let points_go = list_back gone_data gone_in is_said_gone gone_back of.points_go said.points_go in
+    let sections_come = list_back section_data section_in is_said_section section_back of.sections_come said.sections_come in
+    let sections_go = list_back section_data section_in is_said_section section_back of.sections_go said.sections_go in
+    let staff_comes = list_back employee_data employee_in is_said_employee employee_back of.staff_comes said.staff_comes in
+    let staff_goes = list_back employee_data employee_in is_said_employee employee_back of.staff_goes said.staff_goes in
+    λ i. all_of (both (points_come i) (points_go i)) (both (sections_come i) (sections_go i)) (both (staff_comes i) (staff_goes i))
+
+-- points of which none has a position can be said to go
+pub gone_said : (rows : List PointRow) → list_all is_said_point rows ≡ true → list_all (λ p. is_open p.position) rows ≡ true → list_all is_said_gone rows ≡ true
+gone_said [] named open_all = refl
+gone_said (p ∷ rows) named open_all =
+    let a = and_parts (is_said_point p) (list_all is_said_point rows) named in
+    let b = and_parts (is_open p.position) (list_all (λ q. is_open q.position) rows) open_all in
+    and_from _ _ (and_from (is_said_point p) (is_open p.position) a.0 b.0) (gone_said rows a.1 b.1)
+
+-- ---- plain
+
+one_member : (key : List ℕ) (d : Data) (others : Members) → are_ascii key ≡ true → is_before key others ≡ true → is_plain d ≡ true → members_are_plain others ≡ true
+    → members_are_plain (member key d others) ≡ true
+one_member key d others ascii before plain more =
+    and_from _ _ (is_utf8-from_IsUtf8 key (IsUtf8-are_ascii key ascii)) (and_from _ _ before (and_from _ _ plain more))
+
+name_plain : (s : List ℕ) → is_name s ≡ true → is_plain (name_data s) ≡ true
+name_plain s h = is_utf8-from_IsUtf8 s (name_is_text s h)
+
+position_plain : (position : Position) → is_plain (string (position_text position)) ≡ true
+position_plain Opened = is_utf8-from_IsUtf8 (position_text Opened) (IsUtf8-are_ascii (position_text Opened) refl)
+position_plain Closed = is_utf8-from_IsUtf8 (position_text Closed) (IsUtf8-are_ascii (position_text Closed) refl)
+
+role_plain : (role : Role) → is_plain (string (role_text role)) ≡ true
+role_plain Operator = is_utf8-from_IsUtf8 (role_text Operator) (IsUtf8-are_ascii (role_text Operator) refl)
+role_plain Field = is_utf8-from_IsUtf8 (role_text Field) (IsUtf8-are_ascii (role_text Field) refl)
+role_plain Charge = is_utf8-from_IsUtf8 (role_text Charge) (IsUtf8-are_ascii (role_text Charge) refl)
+
+supervisor_plain : (supervisor : Option (List ℕ)) → is_name_or_none supervisor ≡ true → is_plain (optional_data name_data supervisor) ≡ true
+supervisor_plain None h = refl
+supervisor_plain (Some name) h = name_plain name h
+
+section_plain : (row : SectionRow) → is_said_section row ≡ true → is_plain (section_data row) ≡ true
+section_plain row h = one_member (codes "name") (name_data row.name) (member (codes "source") (boolean row.source) no_members) refl refl (name_plain row.name h)
+    (one_member (codes "source") (boolean row.source) no_members refl refl refl refl)
+
+module _ (p : PointRow) (h : is_said_point p ≡ true) where
+  abbrev to_end : Members
+  to_end = member (codes "to") (name_data p.to_end) no_members
+
+  abbrev remote : Members
+  remote = member (codes "remote") (boolean p.remote) to_end
+
+  abbrev position : Members
+  position = member (codes "position") (string (position_text p.position)) remote
+
+  rest_plain : members_are_plain remote ≡ true
+  rest_plain = one_member (codes "remote") (boolean p.remote) to_end refl refl refl (one_member (codes "to") (name_data p.to_end) no_members refl refl (name_plain p.to_end (ends p h).2) refl)
+
+  front_plain : (rest : Members) → is_before (codes "name") rest ≡ true → members_are_plain rest ≡ true
+      → members_are_plain (member (codes "from") (name_data p.from_end) (member (codes "jumper") (boolean p.jumper) (member (codes "lockable") (boolean p.lockable) (member (codes "name") (name_data p.name) rest)))) ≡ true
+  front_plain rest before plain =
+      one_member (codes "from") (name_data p.from_end) (member (codes "jumper") (boolean p.jumper) (member (codes "lockable") (boolean p.lockable) (member (codes "name") (name_data p.name) rest)))
+      refl refl (name_plain p.from_end (ends p h).1)
+      (one_member (codes "jumper") (boolean p.jumper) (member (codes "lockable") (boolean p.lockable) (member (codes "name") (name_data p.name) rest)) refl refl refl
+      (one_member (codes "lockable") (boolean p.lockable) (member (codes "name") (name_data p.name) rest) refl refl refl
+      (one_member (codes "name") (name_data p.name) rest refl before (name_plain p.name (ends p h).0) plain)))
+
+  point_plain : is_plain (point_data p) ≡ true
+  point_plain = front_plain position refl (one_member (codes "position") (string (position_text p.position)) remote refl refl (position_plain p.position) rest_plain)
+
+  columns_plain : is_plain (gone_data p) ≡ true
+  columns_plain = front_plain remote refl rest_plain
+
+gone_plain : (p : PointRow) → is_said_gone p ≡ true → is_plain (gone_data p) ≡ true
+gone_plain p h = columns_plain p (and_parts (is_said_point p) (is_open p.position) h).0
+
+employee_plain : (row : StaffRow) → is_said_employee row ≡ true → is_plain (employee_data row) ≡ true
+employee_plain row h =
+    let a = and_parts (is_name row.name) (is_name_or_none row.supervisor) h in
+    one_member (codes "name") (name_data row.name) (member (codes "role") (string (role_text row.role)) (member (codes "supervisor") (optional_data name_data row.supervisor) no_members))
+    refl refl (name_plain row.name a.0)
+    (one_member (codes "role") (string (role_text row.role)) (member (codes "supervisor") (optional_data name_data row.supervisor) no_members) refl refl (role_plain row.role)
+    (one_member (codes "supervisor") (optional_data name_data row.supervisor) no_members refl refl (supervisor_plain row.supervisor a.1) refl))
+
+module _ {A : Type 0} (seen : A → Data) (said : A → Bool) (plain : (x : A) → said x ≡ true → is_plain (seen x) ≡ true) where
+  list_plain : (list : List A) → list_all said list ≡ true → items_are_plain (items_of (map seen list)) ≡ true
+  list_plain [] h = refl
+  list_plain (x ∷ list) h =
+      let parts = and_parts (said x) (list_all said list) h in
+      and_from _ _ (plain x parts.0) (list_plain list parts.1)
+
+both_plain : (come go : Data) → is_plain come ≡ true → is_plain go ≡ true → is_plain (both_data come go) ≡ true
+both_plain come go come_plain go_plain = one_member (codes "come") come (member (codes "go") go no_members) refl refl come_plain (one_member (codes "go") go no_members refl refl go_plain refl)
+
+are_plain : (of : Changes) → can_be_said of ≡ true → is_plain (changes_data of) ≡ true
+unfolding changes_data
+are_plain of h =
+    let said = are_said of h in
+    let points = both_plain (list_data point_data of.points_come) (list_data gone_data of.points_go)
+    (list_plain point_data is_said_point point_plain of.points_come said.points_come) (list_plain gone_data is_said_gone gone_plain of.points_go said.points_go) in
+    let sections = both_plain (list_data section_data of.sections_come) (list_data section_data of.sections_go)
+    (list_plain section_data is_said_section section_plain of.sections_come said.sections_come) (list_plain section_data is_said_section section_plain of.sections_go said.sections_go) in
+    let staff = both_plain (list_data employee_data of.staff_comes) (list_data employee_data of.staff_goes)
+    (list_plain employee_data is_said_employee employee_plain of.staff_comes said.staff_comes) (list_plain employee_data is_said_employee employee_plain of.staff_goes said.staff_goes) in
+    let staff_value : Data = both_data (list_data employee_data of.staff_comes) (list_data employee_data of.staff_goes) in
+    let sections_value : Data = both_data (list_data section_data of.sections_come) (list_data section_data of.sections_go) in
+    let points_value : Data = both_data (list_data point_data of.points_come) (list_data gone_data of.points_go) in
+    let last : Members = member (codes "staff") staff_value no_members in
+    let middle : Members = member (codes "sections") sections_value last in
+    one_member (codes "points") points_value middle refl refl points
+    (one_member (codes "sections") sections_value last refl refl sections (one_member (codes "staff") staff_value no_members refl refl staff refl))
+
+-- ---- flat
+
+supervisor_flat : (supervisor : Option (List ℕ)) → depth (optional_data name_data supervisor) ≤ 0
+supervisor_flat None = omega arith
+supervisor_flat (Some name) = omega arith
+
+employee_flat : (row : StaffRow) → depth (employee_data row) ≤ 1
+employee_flat row = let supervisor = supervisor_flat row.supervisor in omega (arith, supervisor)
+
+module _ {A : Type 0} (seen : A → Data) (flat : (x : A) → depth (seen x) ≤ 1) where
+  list_flat : (list : List A) → items_depth (items_of (map seen list)) ≤ 1
+  list_flat [] = omega arith
+  list_flat (x ∷ list) = let first = flat x in let rest = list_flat list in omega (arith, first, rest)
+
+are_flat : (of : Changes) → depth (changes_data of) ≤ 4
+unfolding changes_data
+are_flat of =
+    let points_come = list_flat point_data (λ p. omega arith) of.points_come in
+    let points_go = list_flat gone_data (λ p. omega arith) of.points_go in
+    let sections_come = list_flat section_data (λ row. omega arith) of.sections_come in
+    let sections_go = list_flat section_data (λ row. omega arith) of.sections_go in
+    let staff_comes = list_flat employee_data employee_flat of.staff_comes in
+    let staff_goes = list_flat employee_data employee_flat of.staff_goes in
+    omega (arith, points_come, points_go, sections_come, sections_go, staff_comes, staff_goes)
+
+pub change_values_are_plain : ChangeValuesArePlain
+change_values_are_plain of h = (are_plain of h, are_flat of)

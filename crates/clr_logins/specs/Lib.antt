@@ -1,2 +1,0 @@
-pub mod Login
-pub mod Logins

@@ -1,4 +1,0 @@
-pub mod Enough
-pub mod OwnRows
-pub mod Picked
-pub mod Replies

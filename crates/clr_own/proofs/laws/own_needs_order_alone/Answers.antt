@@ -1,5 +1,0 @@
-use Rattle.clr_own.proofs.Enough.{own_rows_in_order}
-use Rattle.clr_own.proofs.laws.own_needs_order_alone.Goals as goal
-
-pub returns : goal.returns
-returns c = own_rows_in_order

@@ -1,3 +1,0 @@
-pub mod Journal
-pub mod Parts
-pub mod Printing

@@ -1,2 +1,0 @@
-//! How the result of a call follows from its definition.
-#![tactic(auto)]

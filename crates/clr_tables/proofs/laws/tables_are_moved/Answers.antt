@@ -1,5 +1,0 @@
-use Rattle.clr_tables.proofs.Moved.{tables_are_moved}
-use Rattle.clr_tables.proofs.laws.tables_are_moved.Goals as goal
-
-pub returns : goal.returns
-returns c = tables_are_moved
