@@ -6,7 +6,7 @@ use Rattle.clr_desk.specs.Given.{LeadsTo}
 use Rattle.clr_desk.specs.Placing.{Placing}
 use Rattle.clr_desk.specs.Taking.{Taking}
 use Rattle.clr_desk.specs.declared.desk.Desk.{Desk}
-use Rattle.clr_level.specs.Journaling.{HearsLogin, Journals}
+use Rattle.clr_level.specs.Journaling.{Journals}
 use Rattle.clr_level.specs.Levelling.{LevelIsKept, SoundIsKept}
 use Rattle.clr_level.specs.Restarting.{SafeIsKept}
 use Rattle.clr_level.specs.declared.keeper.Keeper.{Keeper}
@@ -17,7 +17,7 @@ pub level_stays : {K J C : Type 0} (takes : Taking K) (kept : K → State) (has_
     → SoundIsKept K J C takes kept has_place shows log.text log.found log.may_leave log.is_usable
     → SafeIsKept K J C takes kept has_place shows log.text log.found log.may_leave log.is_usable
     → (keeps : Keeper K J C → State) (old new : Desk (Keeper K J C))
-    → LeadsTo keeps (Journals takes kept has_place shows log.text log.found log.may_leave log.is_usable) HearsLogin old new
+    → LeadsTo keeps (Journals takes kept has_place shows log.text log.found log.may_leave log.is_usable) old new
     → StaysOne kept has_place log old new
 level_stays takes kept has_place shows log level sound safe keeps old new led = (
   λ first start good holds. level first old.book.register new.book.register start old.store new.store led.given good holds led.are_given,

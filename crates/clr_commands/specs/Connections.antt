@@ -74,7 +74,7 @@ abbrev pub Serves : {D R W : Type 0} → registrar.Ghosts D → Seen R W → Ser
 Serves by seen service number d d' c c' errors errors' = (served : Result Served HttpFault)
     × IsAnsweredAt service (by.keeper d) (by.keeper d') (seen.source c.reader)
     (seen.source c'.reader) (seen.stream c.writer) (seen.stream c'.writer) served
-    × PutsAt by.hears by.takes service (seen.source c.reader).remaining served d d'
+    × PutsAt by.takes service (seen.source c.reader).remaining served d d'
     × ReportsConnection number served errors errors'
 
 module _ {D M L R W : Type 0} (by : registrar.Ghosts D) (net : loopback.Ghosts M L R W)

@@ -130,7 +130,7 @@ pub record RunsDesk {K : Type 0} (keeper : commit.Ghosts K) (input : Option (Lis
     (result : Result Printed Fault) (old new : Desk K) : Type 0 where
   pub answer : RunsOnDesk keeper.fails keeper.kept keeper.takes old new input result
   pub none : OnErr result (new ≡ old)
-  pub led : LeadsTo keeper.kept keeper.takes keeper.hears old new
+  pub led : LeadsTo keeper.kept keeper.takes old new
 
 -- the same, with no step of the machine
 abbrev pub RunsAlone : {M : Type 0} → Option (List ℕ) → (K : Type 0) → commit.Ghosts K

@@ -78,7 +78,7 @@ module _ {M L R W : Type 0} (net : loopback.Ghosts M L R W) (seen : Seen R W) (a
         (terms_of args taken.book.register.staff logins) taken left served old new
     pub goes_on : IsGood taken.book.register
         → ComesWithin args.count taken.book.register left.book.register
-    pub led : LeadsTo keeper.kept keeper.takes keeper.hears taken left
+    pub led : LeadsTo keeper.kept keeper.takes taken left
     pub unserved : IfErr served (λ fault. is_early fault ≡ false → left ≡ taken)
 
   -- what is done over the database at a path, with a journal or without one; where that was not

@@ -155,7 +155,7 @@ pub fn run_over<K: Commit, I: CountedRead>(
     ensures answer { RunsOnDesk K.fails K.kept K.takes desk.old desk.new (I.remaining input.old)
         result }
     ensures none { OnErr result (desk.new ≡ desk.old) }
-    ensures led { LeadsTo K.kept K.takes K.hears desk.old desk.new }
+    ensures led { LeadsTo K.kept K.takes desk.old desk.new }
     ensures cause { IsErrOf result (Fault.Input InputFault.ReadFailed)
         → Rose (I.failure_count input.old) (I.failure_count input.new) }
 {

@@ -5,25 +5,24 @@ use Rattle.clr_rules.specs.Register.{Register}
 use Rattle.clr_rules.specs.declared.command.Command.{Command}
 use Rattle.clr_rules.specs.declared.reply.Reply.{Reply}
 use Rattle.clr_desk.specs.Carrying.{CarriesOut}
-use Rattle.clr_desk.specs.Commit.{Stays}
-use Rattle.clr_desk.specs.Given.{AreGiven, Given, LeadsTo, command, login}
+use Rattle.clr_desk.specs.Given.{AreGiven, Given, LeadsTo}
 use Rattle.clr_desk.specs.Kept.{Keeps}
-use Rattle.clr_desk.specs.Taking.{Hearing, Taking, TakesOne}
+use Rattle.clr_desk.specs.Taking.{Taking, TakesOne}
 use Rattle.clr_desk.specs.declared.desk.Desk.{Desk}
 use Rattle.clr_desk.specs.declared.desk_fault.DeskFault.{DeskFault}
-use Rattle.clr_desk.proofs.Keeping.{keeps_itself, keeps_on, one_keeps, stays_keeps}
+use Rattle.clr_desk.proofs.Keeping.{keeps_itself, keeps_on, one_keeps}
 
-module _ {K : Type 0} (kept : K → State) (takes : Taking K) (hears : Hearing K) where
-  given_on : (R X S : Register) (k m l : K) (first later : List Given) → AreGiven takes hears R k first X m
-      → AreGiven takes hears X m later S l → AreGiven takes hears R k (first ++ later) S l
+module _ {K : Type 0} (kept : K → State) (takes : Taking K) where
+  given_on : (R X S : Register) (k m l : K) (first later : List Given) → AreGiven takes R k first X m
+      → AreGiven takes X m later S l → AreGiven takes R k (first ++ later) S l
   unfolding AreGiven
   given_on R X S k m l [] later (register, keeper) rest =
-      subst (λ (r : Register). AreGiven takes hears r k later S l) register
-      (subst (λ (x : K). AreGiven takes hears X x later S l) keeper rest)
+      subst (λ (r : Register). AreGiven takes r k later S l) register
+      (subst (λ (x : K). AreGiven takes X x later S l) keeper rest)
   given_on R X S k m l (it ∷ first) later (between, middle, one, others) rest =
       (between, middle, one, given_on between X S middle m l first later others rest)
 
-  pub leads_itself : (d : Desk K) → LeadsTo kept takes hears d d
+  pub leads_itself : (d : Desk K) → LeadsTo kept takes d d
   unfolding AreGiven
   leads_itself d = record {
     keeps = keeps_itself (kept d.store) d.book.register;
@@ -32,7 +31,7 @@ module _ {K : Type 0} (kept : K → State) (takes : Taking K) (hears : Hearing K
   }
 
   -- one whose count of faults alone differs
-  pub leads_unchanged : (old new : Desk K) → new.book.register ≡ old.book.register → new.store ≡ old.store → LeadsTo kept takes hears old new
+  pub leads_unchanged : (old new : Desk K) → new.book.register ≡ old.book.register → new.store ≡ old.store → LeadsTo kept takes old new
   unfolding AreGiven
   leads_unchanged old new register store = record {
     keeps = subst (λ (k : K). Keeps (kept old.store) old.book.register (kept k) new.book.register) (sym store)
@@ -42,8 +41,8 @@ module _ {K : Type 0} (kept : K → State) (takes : Taking K) (hears : Hearing K
     are_given = (register, store);
   }
 
-  pub leads_on : (before between after : Desk K) → LeadsTo kept takes hears before between
-      → LeadsTo kept takes hears between after → LeadsTo kept takes hears before after
+  pub leads_on : (before between after : Desk K) → LeadsTo kept takes before between
+      → LeadsTo kept takes between after → LeadsTo kept takes before after
   leads_on before between after first later = record {
     keeps = keeps_on (kept before.store) (kept between.store) (kept after.store) before.book.register between.book.register after.book.register
         first.keeps later.keeps;
@@ -52,12 +51,12 @@ module _ {K : Type 0} (kept : K → State) (takes : Taking K) (hears : Hearing K
         first.are_given later.are_given;
   }
 
-  pub one_leads : (fails : DeskFault → Type 0) (old new : Desk K) (q : Command) (result : Result Reply DeskFault)
-      → CarriesOut kept fails old new q result → TakesOne takes old.book.register old.store q result new.store → LeadsTo kept takes hears old new
+  pub one_leads : (fails : DeskFault → Type 0) (old new : Desk K) (login : Option (List ℕ)) (q : Command) (result : Result Reply DeskFault)
+      → CarriesOut kept fails old new q result → TakesOne takes old.book.register old.store login q result new.store → LeadsTo kept takes old new
   unfolding AreGiven
-  one_leads fails old new q result carried taken = record {
+  one_leads fails old new login q result carried taken = record {
     keeps = one_keeps kept fails old new q result carried;
-    given = command q result ∷ [];
+    given = record { login = login; command = q; result = result } ∷ [];
     are_given = (
       new.book.register,
       new.store,
@@ -69,13 +68,4 @@ module _ {K : Type 0} (kept : K → State) (takes : Taking K) (hears : Hearing K
       },
       (refl, refl),
     );
-  }
-
-  pub login_leads : (old new : Desk K) (it : Option (List ℕ)) → new.book.register ≡ old.book.register
-      → Stays (kept old.store) (kept new.store) → hears old.store it new.store → LeadsTo kept takes hears old new
-  unfolding AreGiven
-  login_leads old new it same stays heard = record {
-    keeps = stays_keeps (kept old.store) (kept new.store) old.book.register new.book.register same stays;
-    given = login it ∷ [];
-    are_given = (new.book.register, new.store, (same, heard), (refl, refl));
   }

@@ -12,11 +12,9 @@ use Rattle.clr_load.specs.Tables.{tables_of}
 use Rattle.clr_load.specs.TypedRows.{IsTyped}
 use Rattle.clr_load.proofs.TypedEdits.{commands_keep_typed}
 use Rattle.clr_desk.specs.Carrying.{CarriesOut}
-use Rattle.clr_desk.specs.Commit.{Stays}
 use Rattle.clr_desk.specs.Kept.{Keeps}
 use Rattle.clr_desk.specs.declared.desk.Desk.{Desk}
 use Rattle.clr_desk.specs.declared.desk_fault.DeskFault.{DeskFault}
-use Rattle.clr_desk.proofs.Staying.{stays_open, stays_saved}
 
 pub keeps_itself : (s : State) (R : Register) → Keeps s R s R
 keeps_itself s R = record {
@@ -45,19 +43,6 @@ keeps_on s t u R S T first later = record {
       (λ between. ⊎_elim (λ after. inl after) (λ more. inr (omega (arith, first.counts, more))) (later.closes clean between))
       (λ more. inr (omega (arith, later.counts, more))) (first.closes (later.clean clean) before);
 }
-
--- what stays as it is
-pub stays_keeps : (s t : State) (R S : Register) → S ≡ R → Stays s t → Keeps s R t S
-stays_keeps s t R S same stays = subst (λ (X : Register). Keeps s R t X) (sym same) (record {
-  good = λ good. good;
-  typed = λ good typed. typed;
-  clean = λ clean. omega (arith, stays.crash.clean);
-  was_open = λ clean shown. stays_open s t stays shown;
-  tables = λ clean shown good has. subst (λ (db : Database). HasTables db (tables_of R)) (sym stays.now) has;
-  saved = λ clean shown saved. stays_saved s t stays saved;
-  counts = stays.crash.counts;
-  closes = stays.crash.closes;
-})
 
 -- one command, whose fault leaves what the open store shows
 pub one_keeps : {K : Type 0} (kept : K → State) (fails : DeskFault → Type 0) (old new : Desk K) (q : Command) (result : Result Reply DeskFault) → CarriesOut kept fails old new q result

@@ -1,7 +1,7 @@
 -- HOW A KEEPER IS CALLED: once for each command that is accepted or refused, with the command and
--- the very reply that is given, and not at all for one that only asks. A keeper has a relation of
--- its own, `takes`, between its states: a call with this command and this reply led from the one to
--- the other, and this came of it.
+-- the login at which it is given and the very reply, and not at all for one that only asks. A keeper
+-- has a relation of its own, `takes`, between its states: a call with this login, this command and
+-- this reply led from the one to the other, and this came of it.
 use Rattle.std.specs.Prelude.{◌≡◌, ◌⊎◌, ℕ, Bool, true, false, List, [], ◌∷◌, Option, None, Some}
 use Rattle.std.specs.Prelude.{Result, Ok, Err, length, drop}
 use Rattle.clr_rules.specs.Answer.{Answer}
@@ -19,11 +19,7 @@ Came = Result (Unit {0}) DeskFault
 
 -- the relation of a keeper
 abbrev pub Taking : Type 0 → Type 1
-Taking K = K → Command → Reply → Came → K → Type 0
-
--- its relation for the login of the next command
-abbrev pub Hearing : Type 0 → Type 1
-Hearing K = K → Option (List ℕ) → K → Type 0
+Taking K = K → Option (List ℕ) → Command → Reply → Came → K → Type 0
 
 -- the reply says that the command was refused
 abbrev pub is_refused : Reply → Bool
@@ -35,31 +31,32 @@ is_refused (Added point) = false
 -- ---- what a desk does
 
 -- a command with this reply: one call, but for a command that only asks
-abbrev pub Takes : {K : Type 0} → Taking K → K → Command → Reply → Came → K → Type 0
-Takes takes old q (Shown view) came new = (new ≡ old) × (came ≡ Ok tt)
-Takes takes old q reply came new = takes old q reply came new
+abbrev pub Takes : {K : Type 0} → Taking K → K → Option (List ℕ) → Command → Reply → Came → K
+    → Type 0
+Takes takes old login q (Shown view) came new = (new ≡ old) × (came ≡ Ok tt)
+Takes takes old login q reply came new = takes old login q reply came new
 
 -- A COMMAND AT A REGISTER, and what came of it: a reply, with which the keeper was called; or a
 -- fault, for which memory ran out before the call, or which the call met, with the reply due
-abbrev pub TakesOne : {K : Type 0} → Taking K → Register → K → Command → Result Reply DeskFault
-    → K → Type 0
-TakesOne takes R old q (Ok reply) new = Takes takes old q reply (Ok tt) new
-TakesOne takes R old q (Err fault) new = ((fault ≡ NoMemory) × (new ≡ old))
-    ⊎ Takes takes old q (Answer.reply (asked_answer R q)) (Err fault) new
+abbrev pub TakesOne : {K : Type 0} → Taking K → Register → K → Option (List ℕ) → Command
+    → Result Reply DeskFault → K → Type 0
+TakesOne takes R old login q (Ok reply) new = Takes takes old login q reply (Ok tt) new
+TakesOne takes R old login q (Err fault) new = ((fault ≡ NoMemory) × (new ≡ old))
+    ⊎ Takes takes old login q (Answer.reply (asked_answer R q)) (Err fault) new
 
--- the first commands of a list, one after the other, with these replies
+-- the first commands of a list, one after the other, with these replies, at no login
 unfoldable pub TakesAll : {K : Type 0} → Taking K → K → List Command → List Reply → K → Type 0
 TakesAll takes old commands [] new = new ≡ old
 TakesAll takes old [] (reply ∷ replies) new = ⊥
 TakesAll takes old (q ∷ commands) (reply ∷ replies) new = (between : _)
-    × Takes takes old q reply (Ok tt) between × TakesAll takes between commands replies new
+    × Takes takes old None q reply (Ok tt) between × TakesAll takes between commands replies new
 
 -- the end of a run, before these commands: the first of them met the fault, if there is one
 abbrev pub Stops : {K : Type 0} → Taking K → Register → K → List Command → Option DeskFault → K
     → Type 0
 Stops takes R old commands None new = new ≡ old
 Stops takes R old [] (Some fault) new = ⊥
-Stops takes R old (q ∷ commands) (Some fault) new = TakesOne takes R old q (Err fault) new
+Stops takes R old (q ∷ commands) (Some fault) new = TakesOne takes R old None q (Err fault) new
 
 -- A RUN that leaves this register: its commands with a reply, then the one that met the fault
 abbrev pub TakesRun : {K : Type 0} → Taking K → Register → K → List Command → List Reply
@@ -71,14 +68,10 @@ TakesRun {K} takes R old commands replies fault new = (before : K)
 -- ---- what a keeper does
 
 -- it passes over a refused command
-abbrev pub PassesOver : {K : Type 0} → K → Command → Reply → Came → K → Type 0
-PassesOver old q (Refused refusal) came new = (new ≡ old) × (came ≡ Ok tt)
-PassesOver old q reply came new = Unit {0}
-
--- it does not hear a login
-abbrev pub HearsNothing : {K : Type 0} → K → Option (List ℕ) → K → Type 0
-HearsNothing old login new = new ≡ old
+abbrev pub PassesOver : {K : Type 0} → K → Option (List ℕ) → Command → Reply → Came → K → Type 0
+PassesOver old login q (Refused refusal) came new = (new ≡ old) × (came ≡ Ok tt)
+PassesOver old login q reply came new = Unit {0}
 
 -- it fails at nothing, and stays as it is
-abbrev pub NeverFails : {K : Type 0} → K → Command → Reply → Came → K → Type 0
-NeverFails old q reply came new = (new ≡ old) × (came ≡ Ok tt)
+abbrev pub NeverFails : {K : Type 0} → K → Option (List ℕ) → Command → Reply → Came → K → Type 0
+NeverFails old login q reply came new = (new ≡ old) × (came ≡ Ok tt)

@@ -8,7 +8,7 @@ ghost use Rattle.clr_rules.specs.declared.reply.Reply.{Reply};
 ghost use Rattle.clr_answer.specs.Decision.{is_accepted};
 ghost use Rattle.clr_desk.specs.Commit.{Commits, Stays, nothing};
 ghost use Rattle.clr_desk.specs.Faults.{FailsAsStore, IsOfKeeper};
-ghost use Rattle.clr_desk.specs.Taking.{HearsNothing, NeverFails, PassesOver, is_refused};
+ghost use Rattle.clr_desk.specs.Taking.{NeverFails, PassesOver, is_refused};
 ghost use Rattle.clr_desk.specs.declared.desk_fault.DeskFault.{DeskFault};
 
 use crate::desk_fault::DeskFault;
@@ -25,13 +25,10 @@ pub trait Commit: Drop {
     /// Which faults it answers, beside want of memory.
     ghost fails: { DeskFault → Type 0 };
 
-    /// Which state a call with a command and its reply leads to, by what came of the call. Only the
-    /// calls of `commit` and `note_refused` are of this relation.
-    ghost takes: { Self → Command → Reply → Result (Unit {0}) DeskFault → Self → Type 0 };
-
-    /// Which state the login of the next command leads to. Only the calls of `hear` are of this
-    /// relation.
-    ghost hears: { Self → Option (List ℕ) → Self → Type 0 };
+    /// Which state a call with a login, a command and its reply leads to, by what came of the call.
+    /// Only the calls of `commit` and `note_refused` are of this relation.
+    ghost takes: { Self → Option (List ℕ) → Command → Reply → Result (Unit {0}) DeskFault → Self
+        → Type 0 };
 
     /// Whether it is not known if the last change was kept.
     ghost doubts: { Self → Bool };
@@ -41,26 +38,33 @@ pub trait Commit: Drop {
     fn is_in_doubt(&self) -> bool
         ensures { result ≡ doubts self.now };
 
-    /// Hears at which login the next command is given, if at one. What is kept stays as it is.
-    fn hear(&mut self, login: Option<Text>)
-        ensures stays { Stays (kept self.old) (kept self.new) }
-        ensures heard { hears self.old login self.new };
-
-    /// Keeps the change of a command that is accepted with a reply.
+    /// Keeps the change of a command that is accepted with a reply. It is given at a login, or at
+    /// none.
     ///
     /// On a fault nothing of it is kept.
-    fn commit(&mut self, command: &Command, reply: &Reply, change: &Change) -> Result<(), DeskFault>
+    fn commit(
+        &mut self,
+        login: Option<Text>,
+        command: &Command,
+        reply: &Reply,
+        change: &Change,
+    ) -> Result<(), DeskFault>
         requires accepted { is_accepted reply.now ≡ true }
         ensures commits { Commits (kept self.old) (kept self.new) change.now.edits.items result }
         ensures fault { IfErr result (IsOfKeeper fails) }
-        ensures taken { takes self.old command.now reply.now result self.new };
+        ensures taken { takes self.old login command.now reply.now result self.new };
 
-    /// Notes a command that is refused with a reply. What is kept stays as it is.
-    fn note_refused(&mut self, command: &Command, reply: &Reply) -> Result<(), DeskFault>
+    /// Notes a command that is refused with a reply, and its login. What is kept stays as it is.
+    fn note_refused(
+        &mut self,
+        login: Option<Text>,
+        command: &Command,
+        reply: &Reply,
+    ) -> Result<(), DeskFault>
         requires refused { is_refused reply.now ≡ true }
         ensures stays { Stays (kept self.old) (kept self.new) }
         ensures fault { IfErr result (IsOfKeeper fails) }
-        ensures taken { takes self.old command.now reply.now result self.new };
+        ensures taken { takes self.old login command.now reply.now result self.new };
 
     /// Between calls a crash leaves the last commit.
     ghost settled: { (keeper : Self) (trees : Trees) → IsTrue (kept keeper).is_open
@@ -75,8 +79,6 @@ impl<S: Alter + Drop> Commit for Store<S> {
 
     ghost takes = { PassesOver };
 
-    ghost hears = { HearsNothing };
-
     ghost doubts = { λ _. false };
 
     ghost settled = { λ store trees here left. S.Store.settled store.store trees here left };
@@ -85,10 +87,9 @@ impl<S: Alter + Drop> Commit for Store<S> {
         false
     }
 
-    fn hear(&mut self, login: Option<Text>) {}
-
     fn commit(
         &mut self,
+        login: Option<Text>,
         command: &Command,
         reply: &Reply,
         change: &Change,
@@ -97,7 +98,12 @@ impl<S: Alter + Drop> Commit for Store<S> {
         Ok(())
     }
 
-    fn note_refused(&mut self, command: &Command, reply: &Reply) -> Result<(), DeskFault> {
+    fn note_refused(
+        &mut self,
+        login: Option<Text>,
+        command: &Command,
+        reply: &Reply,
+    ) -> Result<(), DeskFault> {
         Ok(())
     }
 }
@@ -113,8 +119,6 @@ impl Commit for Unkept {
 
     ghost takes = { NeverFails };
 
-    ghost hears = { HearsNothing };
-
     ghost doubts = { λ _. false };
 
     ghost settled = { λ _ trees here left. left };
@@ -123,10 +127,9 @@ impl Commit for Unkept {
         false
     }
 
-    fn hear(&mut self, login: Option<Text>) {}
-
     fn commit(
         &mut self,
+        login: Option<Text>,
         command: &Command,
         reply: &Reply,
         change: &Change,
@@ -134,7 +137,12 @@ impl Commit for Unkept {
         Ok(())
     }
 
-    fn note_refused(&mut self, command: &Command, reply: &Reply) -> Result<(), DeskFault> {
+    fn note_refused(
+        &mut self,
+        login: Option<Text>,
+        command: &Command,
+        reply: &Reply,
+    ) -> Result<(), DeskFault> {
         Ok(())
     }
 }

@@ -1,5 +1,5 @@
 //! What keeps a place with the changes of a desk.
-ghost use Rattle.std.specs.Prelude.{◌≡◌, [], IfErr, Option, option_map, true};
+ghost use Rattle.std.specs.Prelude.{◌≡◌, [], IfErr, None, Option, option_map, true};
 ghost use Rattle.sqlite.specs.Tree.{Trees};
 ghost use Rattle.clr_answer.specs.Decision.{is_accepted};
 ghost use Rattle.clr_rules.specs.declared.place.Place.{Place};
@@ -26,7 +26,7 @@ pub trait CommitAt: Commit {
     ghost has_place: { Trees → Option Place → Type 0 };
 
     /// Keeps the change of a command that is accepted with a reply, and the place after it: both,
-    /// or neither.
+    /// or neither. The login at which it is given is not kept.
     fn commit_at(
         &mut self,
         command: &Command,
@@ -38,7 +38,7 @@ pub trait CommitAt: Commit {
         ensures commits { CommitsAt has_place (Self.kept self.old) (Self.kept self.new)
             change.now.edits.items place.now result }
         ensures fault { IfErr result (IsOfKeeper Self.fails) }
-        ensures taken { Self.takes self.old command.now reply.now result self.new };
+        ensures taken { Self.takes self.old None command.now reply.now result self.new };
 
     /// Keeps a place, where no command changes anything. Where it is not kept, all stays as it is.
     fn move_to(&mut self, alloc: Global, place: &Place) -> Result<(), DeskFault>

@@ -1,6 +1,6 @@
 //! The desk: a book, and what keeps its changes.
 ghost use Rattle.std.specs.Prelude.{◌≡◌, ◌⊎◌, ◌<◌, false, [], ◌∷◌, length, IfErr, IfOk, IfNone};
-ghost use Rattle.std.specs.Prelude.{IfSome, IsErr, IsTrue, MatchResult, Ok, Err, true};
+ghost use Rattle.std.specs.Prelude.{IfSome, IsErr, IsTrue, MatchResult, None, Ok, Err, true};
 ghost use Rattle.std.specs.List.{list_all, list_any};
 ghost use Rattle.clr_rules.specs.CrewSafety.{CrewsWorkSafely};
 ghost use Rattle.clr_rules.specs.RunHeadline.{IsRun, OthersChangeNoReply, OthersTakeNothing};
@@ -234,45 +234,34 @@ impl<K: Commit> Desk<K> {
         self.store.is_in_doubt()
     }
 
-    /// Says at which login the next command is given, if at one.
-    pub fn hear(&mut self, login: Option<Text>)
-        ensures book { self.new.book ≡ self.old.book }
-        ensures faults { self.new.faults ≡ self.old.faults }
-        ensures stays { Stays (K.kept self.old.store) (K.kept self.new.store) }
-        ensures heard { K.hears self.old.store login self.new.store }
-        ensures led { LeadsTo K.kept K.takes K.hears self.old self.new }
-    {
-        self.store.hear(login);
-    }
-
     /// Carries out one command, but for the count of faults: answer, room, commit, change. A
     /// command that is refused is passed on instead.
-    fn carry_out(&mut self, command: &Command) -> Result<Reply, DeskFault>
+    fn carry_out(&mut self, login: Option<Text>, command: &Command) -> Result<Reply, DeskFault>
         ensures carried { CarriesOut K.kept K.fails self.old self.new command.now result }
-        ensures taken { TakesOne K.takes self.old.book.register self.old.store command.now result
-            self.new.store }
+        ensures taken { TakesOne K.takes self.old.book.register self.old.store login command.now
+            result self.new.store }
         ensures faults { self.new.faults ≡ self.old.faults }
     {
         command.typed();
         let decision = prepare(&mut self.book, command)?;
         let Decision { reply, change } = decision;
         if !is_accepted(&reply) {
-            pass_on(&mut self.store, command, &reply)?;
+            pass_on(&mut self.store, login, command, &reply)?;
             return Ok(reply);
         }
-        self.store.commit(command, &reply, &change)?;
+        self.store.commit(login, command, &reply, &change)?;
         apply(&mut self.book, change);
         Ok(reply)
     }
 
     /// Carries out one command, and counts the fault, if it met one.
-    fn answer(&mut self, command: &Command) -> Result<Reply, DeskFault>
+    fn answer(&mut self, login: Option<Text>, command: &Command) -> Result<Reply, DeskFault>
         ensures carried { CarriesOut K.kept K.fails self.old self.new command.now result }
-        ensures taken { TakesOne K.takes self.old.book.register self.old.store command.now result
-            self.new.store }
+        ensures taken { TakesOne K.takes self.old.book.register self.old.store login command.now
+            result self.new.store }
         ensures faults { self.new.faults ≡ count_after (fault_of result) self.old.faults }
     {
-        match self.carry_out(command) {
+        match self.carry_out(login, command) {
             Ok(reply) => Ok(reply),
             Err(fault) => {
                 self.faults = self.faults.saturating_add(1);
@@ -290,9 +279,9 @@ impl<K: Commit> Desk<K> {
     /// fault leaves the register as it was, and is counted.
     pub fn one(&mut self, command: Command) -> Result<Reply, DeskFault>
         ensures carried { CarriesOut K.kept K.fails self.old self.new command result }
-        ensures taken { TakesOne K.takes self.old.book.register self.old.store command result
+        ensures taken { TakesOne K.takes self.old.book.register self.old.store None command result
             self.new.store }
-        ensures led { LeadsTo K.kept K.takes K.hears self.old self.new }
+        ensures led { LeadsTo K.kept K.takes self.old self.new }
         ensures ran { IsGood self.old.book.register
             → IsRun self.old.book.register
             (with_reply (command ∷ []) (replies_of result)) (replies_of result)
@@ -314,7 +303,19 @@ impl<K: Commit> Desk<K> {
             (K.kept self.new.store) self.old.book.register (command ∷ [])
             (length (replies_of result)) }
     {
-        self.answer(&command)
+        self.one_from(None, command)
+    }
+
+    /// Carries out a command as `one` does, given at a login, or at none. What keeps the changes
+    /// may note the login.
+    pub fn one_from(&mut self, login: Option<Text>, command: Command) -> Result<Reply, DeskFault>
+        ensures carried { CarriesOut K.kept K.fails self.old self.new command result }
+        ensures taken { TakesOne K.takes self.old.book.register self.old.store login command result
+            self.new.store }
+        ensures led { LeadsTo K.kept K.takes self.old self.new }
+        ensures faults { self.new.faults ≡ count_after (fault_of result) self.old.faults }
+    {
+        self.answer(login, &command)
     }
 
     /// Carries out commands one after the other, up to the first fault; the replies before it stay.
@@ -349,7 +350,7 @@ impl<K: Commit> Desk<K> {
         ensures cause { IfSome result.fault (IsOfKeeper K.fails) }
         ensures taken { TakesRun K.takes self.new.book.register self.old.store commands.items
             result.replies.items result.fault self.new.store }
-        ensures led { LeadsTo K.kept K.takes K.hears self.old self.new }
+        ensures led { LeadsTo K.kept K.takes self.old self.new }
         ensures unwritten { list_any is_accepted result.replies.items ≡ false
             → HasCleanDisk (K.kept self.new.store)
             → IsTrue (K.kept self.new.store).is_open
@@ -374,7 +375,7 @@ impl<K: Commit> Desk<K> {
             };
         }
         for command in commands.as_slice() {
-            match self.answer(command) {
+            match self.answer(None, command) {
                 Ok(reply) => {
                     let Ok(()) = replies.push(reply) else {
                         unreachable!()
@@ -396,14 +397,19 @@ impl<K: Commit> Desk<K> {
 }
 
 /// Passes a command that is refused on to what keeps the changes, and one that is shown to nobody.
-fn pass_on<K: Commit>(keeper: &mut K, command: &Command, reply: &Reply) -> Result<(), DeskFault>
+fn pass_on<K: Commit>(
+    keeper: &mut K,
+    login: Option<Text>,
+    command: &Command,
+    reply: &Reply,
+) -> Result<(), DeskFault>
     requires { is_accepted reply.now ≡ false }
     ensures stays { Stays (K.kept keeper.old) (K.kept keeper.new) }
     ensures fault { IfErr result (IsOfKeeper K.fails) }
-    ensures taken { Takes K.takes keeper.old command.now reply.now result keeper.new }
+    ensures taken { Takes K.takes keeper.old login command.now reply.now result keeper.new }
 {
     if let Reply::Refused(_) = reply {
-        keeper.note_refused(command, reply)?;
+        keeper.note_refused(login, command, reply)?;
     }
     Ok(())
 }

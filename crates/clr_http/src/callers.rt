@@ -27,8 +27,8 @@ pub(crate) fn login_of(buffer: &[u8], headers: &[HeaderSpan]) -> Option<Login>
 pub(crate) struct Speaker<'s> {
     pub logins: &'s Option<Logins>,
     pub login: Option<Login>,
-    /// The register hears the login.
-    pub heard: bool,
+    /// The register notes the login.
+    pub noted: bool,
 }
 
 impl Speaker<'_> {
@@ -42,13 +42,13 @@ impl Speaker<'_> {
         }
     }
 
-    /// The login that the register hears, if it hears one.
-    pub(crate) fn heard_login(&self, alloc: Global) -> Result<Option<Text>, AllocError>
+    /// The login at which the register is given a command, if it notes one.
+    pub(crate) fn noted_login(&self, alloc: Global) -> Result<Option<Text>, AllocError>
         ensures { IfOk result (λ text.
-            text ≡ (if self.now.heard then self.now.login else None)) }
+            text ≡ (if self.now.noted then self.now.login else None)) }
     {
         match self.login {
-            Some(login) if self.heard => {
+            Some(login) if self.noted => {
                 let text = String::from_str(alloc, login.as_str())?;
                 Ok(Some(Text::new(text)))
             }

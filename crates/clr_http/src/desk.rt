@@ -2,7 +2,7 @@
 ghost use Rattle.std.specs.Prelude.{◌≡◌};
 ghost use Rattle.clr_desk.specs.Given.{LeadsTo};
 ghost use Rattle.clr_desk.proofs.Givings.{leads_itself, leads_on};
-ghost use Rattle.clr_http.specs.Desks.{DeskHears, DeskTakes};
+ghost use Rattle.clr_http.specs.Desks.{DeskTakes};
 
 use crate::registrar::Registrar;
 use clr_desk::{Commit, Desk};
@@ -15,17 +15,15 @@ use std::alloc::{AllocError, Global};
 impl<K: Commit> Registrar for Desk<K> {
     ghost keeper = { λ d. record { register = d.book.register; faults = d.faults } };
 
-    ghost leads_to = { λ before behind. LeadsTo K.kept K.takes K.hears before behind };
+    ghost leads_to = { λ before behind. LeadsTo K.kept K.takes before behind };
 
-    ghost hears = { DeskHears K.takes K.hears };
-
-    ghost takes = { DeskTakes K.takes K.hears };
+    ghost takes = { DeskTakes K.takes };
 
     ghost doubts = { λ d. K.doubts d.store };
 
-    ghost stays = { λ one. leads_itself K.kept K.takes K.hears one };
+    ghost stays = { λ one. leads_itself K.kept K.takes one };
 
-    ghost goes_on = { λ before between behind. leads_on K.kept K.takes K.hears before between behind };
+    ghost goes_on = { λ before between behind. leads_on K.kept K.takes before between behind };
 
     fn faults(&self) -> u64 {
         self.faults()
@@ -35,12 +33,8 @@ impl<K: Commit> Registrar for Desk<K> {
         self.is_in_doubt()
     }
 
-    fn hear(&mut self, login: Option<Text>) {
-        self.hear(login);
-    }
-
-    fn answer(&mut self, command: Command) -> Option<Reply> {
-        self.one(command).ok()
+    fn answer(&mut self, login: Option<Text>, command: Command) -> Option<Reply> {
+        self.one_from(login, command).ok()
     }
 
     fn order(

@@ -27,11 +27,9 @@ pub trait Registrar {
     /// what is kept.
     ghost leads_to: { Self → Self → Type 0 };
 
-    /// What it is to hear at which login the next command is given.
-    ghost hears: { Self → Option (List ℕ) → Self → Type 0 };
-
-    /// What it is to take a command, with its reply, if it got one.
-    ghost takes: { Self → Command → Option Reply → Self → Type 0 };
+    /// What it is to take a command that is given at a login, or at none, with its reply, if it got
+    /// one.
+    ghost takes: { Self → Option (List ℕ) → Command → Option Reply → Self → Type 0 };
 
     /// Whether it is not known if the change of the last command was kept.
     ghost doubts: { Self → Bool };
@@ -46,15 +44,9 @@ pub trait Registrar {
     fn faults(&self) -> u64
         ensures { result ≡ (keeper self.now).faults };
 
-    /// Says at which login the next command is given, if at one.
-    fn hear(&mut self, login: Option<Text>)
-        ensures same { keeper self.new ≡ keeper self.old }
-        ensures heard { hears self.old login self.new }
-        ensures led { leads_to self.old self.new };
-
-    /// Answers a command and makes its change. `None`, and one more in `faults`, where the store or
-    /// memory refused.
-    fn answer(&mut self, command: Command) -> Option<Reply>
+    /// Answers a command that is given at a login, or at none, and makes its change. `None`, and one
+    /// more in `faults`, where the store or memory refused.
+    fn answer(&mut self, login: Option<Text>, command: Command) -> Option<Reply>
         ensures reply { IsGood (keeper self.old).register → IfSome result (λ reply.
             reply ≡ Answer.reply (answer (keeper self.old).register command)) }
         ensures left { IsGood (keeper self.old).register → OnSome result
@@ -62,7 +54,7 @@ pub trait Registrar {
         ensures refused { result ≡ None → (keeper self.new).register ≡ (keeper self.old).register }
         ensures faults { (keeper self.new).faults
             ≡ faults_after result (keeper self.old).faults }
-        ensures taken { takes self.old command result self.new }
+        ensures taken { takes self.old login command result self.new }
         ensures led { leads_to self.old self.new };
 
     /// A round of an order as it is printed, by a clock at offset 0. `None` where it is not there.

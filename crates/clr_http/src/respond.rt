@@ -34,7 +34,7 @@ pub(crate) fn response_to<D: Registrar>(
         (checked_outcome s.logins.now s.login (D.keeper desk.old).register asked body.now)
         (D.keeper desk.old) (D.keeper desk.new) result }
     ensures accounts { AccountsFor (D.keeper desk.old) (D.keeper desk.new) result }
-    ensures put { PutsSpoken D.hears D.takes speaker.now (target_asks asked body.now)
+    ensures put { PutsSpoken D.takes speaker.now (target_asks asked body.now)
         (IsErr result) desk.old desk.new }
     ensures led { D.leads_to desk.old desk.new }
 {
@@ -65,7 +65,7 @@ fn body_response<D: Registrar>(
         (checked_outcome s.logins.now s.login (D.keeper desk.old).register asked_for.Command
         body.now) (D.keeper desk.old) (D.keeper desk.new) result }
     ensures accounts { AccountsFor (D.keeper desk.old) (D.keeper desk.new) result }
-    ensures put { PutsSpoken D.hears D.takes speaker.now
+    ensures put { PutsSpoken D.takes speaker.now
         (target_asks asked_for.Command body.now) (IsErr result) desk.old desk.new }
     ensures led { D.leads_to desk.old desk.new }
 {
@@ -91,7 +91,7 @@ fn view_response<D: Registrar>(
         (checked_outcome s.logins.now s.login (D.keeper desk.old).register (Clearance viewing) body)
         (D.keeper desk.old) (D.keeper desk.new) result }
     ensures accounts { AccountsFor (D.keeper desk.old) (D.keeper desk.new) result }
-    ensures put { (body : List ℕ) → PutsSpoken D.hears D.takes speaker.now
+    ensures put { (body : List ℕ) → PutsSpoken D.takes speaker.now
         (target_asks (Clearance viewing) body) (IsErr result) desk.old desk.new }
     ensures led { D.leads_to desk.old desk.new }
 {
@@ -112,33 +112,15 @@ fn spoken_response<D: Registrar>(
         (spoken_outcome s.logins.now s.login (D.keeper desk.old).register command)
         (D.keeper desk.old) (D.keeper desk.new) result }
     ensures accounts { AccountsFor (D.keeper desk.old) (D.keeper desk.new) result }
-    ensures put { PutsSpoken D.hears D.takes speaker.now (Some command) (IsErr result)
+    ensures put { PutsSpoken D.takes speaker.now (Some command) (IsErr result)
         desk.old desk.new }
     ensures led { D.leads_to desk.old desk.new }
 {
     if !speaker.may_ask(&command) {
         return Response::of_fault(alloc, Fault::NotCaller);
     }
-    let login = speaker.heard_login(alloc)?;
-    heard_response(alloc, desk, login, command)
-}
-
-/// Puts a command to the register, once it has heard the login.
-fn heard_response<D: Registrar>(
-    alloc: Global,
-    desk: &mut D,
-    login: Option<Text>,
-    command: Command,
-) -> Result<Response, AllocError>
-    ensures turn { IsGood (D.keeper desk.old).register
-        → IsTurned (command_outcome (D.keeper desk.old).register command)
-        (D.keeper desk.old) (D.keeper desk.new) result }
-    ensures accounts { AccountsFor (D.keeper desk.old) (D.keeper desk.new) result }
-    ensures put { IsPutOnce D.hears D.takes login command desk.old desk.new }
-    ensures led { D.leads_to desk.old desk.new }
-{
-    desk.hear(login);
-    command_response(alloc, desk, command)
+    let login = speaker.noted_login(alloc)?;
+    command_response(alloc, desk, login, command)
 }
 
 /// The command `show` of a view.
@@ -210,20 +192,21 @@ fn way_back_printed(alloc: Global, answer: &WayBack) -> Result<Response, AllocEr
     }
 }
 
-/// Puts a command to the register.
+/// Puts a command to the register, at a login or at none.
 fn command_response<D: Registrar>(
     alloc: Global,
     desk: &mut D,
+    login: Option<Text>,
     command: Command,
 ) -> Result<Response, AllocError>
     ensures turn { IsGood (D.keeper desk.old).register
         → IsTurned (command_outcome (D.keeper desk.old).register command)
         (D.keeper desk.old) (D.keeper desk.new) result }
     ensures accounts { AccountsFor (D.keeper desk.old) (D.keeper desk.new) result }
-    ensures put { (reply : Option Reply) × D.takes desk.old command reply desk.new }
+    ensures put { IsPutOnce D.takes desk.old login command desk.new }
     ensures led { D.leads_to desk.old desk.new }
 {
-    let Some(reply) = desk.answer(command) else {
+    let Some(reply) = desk.answer(login, command) else {
         return Ok(Response::Unavailable);
     };
     let text = reply_text(alloc, &reply)?;

@@ -97,7 +97,7 @@ pub fn serve_one<D: Registrar, R: CountedRead, W: CountedWrite>(
     ensures unread { result ≡ Err HttpFault.ReadFailed
         → (writer.new ≡ writer.old) × (desk.new ≡ desk.old) }
     ensures unmade { result ≡ Err HttpFault.NoMemory → writer.new ≡ writer.old }
-    ensures put { PutsAt D.hears D.takes plain (R.remaining reader.old) result desk.old desk.new }
+    ensures put { PutsAt D.takes plain (R.remaining reader.old) result desk.old desk.new }
     ensures led { D.leads_to desk.old desk.new }
 {
     let service = Service::plain();
@@ -130,7 +130,7 @@ pub fn serve_request<D: Registrar, R: CountedRead, W: CountedWrite>(
     ensures unread { result ≡ Err HttpFault.ReadFailed
         → (writer.new ≡ writer.old) × (desk.new ≡ desk.old) }
     ensures unmade { result ≡ Err HttpFault.NoMemory → writer.new ≡ writer.old }
-    ensures put { PutsAt D.hears D.takes service.now (R.remaining reader.old) result
+    ensures put { PutsAt D.takes service.now (R.remaining reader.old) result
         desk.old desk.new }
     ensures led { D.leads_to desk.old desk.new }
 {
@@ -142,7 +142,7 @@ pub fn serve_request<D: Registrar, R: CountedRead, W: CountedWrite>(
     let speaker = Speaker {
         logins,
         login,
-        heard: service.desk,
+        noted: service.desk,
     };
     match request {
         Request::Refused(response) => send(alloc, writer, &response),

@@ -1,5 +1,5 @@
 -- A register taken up with its journal, or without one, after its place was read.
-use Rattle.std.proofs.Common.{◌≡◌, ◌∙◌, ℕ, List, Option, ⊎_elim, arith, inl, inr, refl, subst, sym}
+use Rattle.std.proofs.Common.{◌≡◌, ◌∙◌, ℕ, List, Option, ⊎_elim, arith, inl, inr, subst, sym}
 use Rattle.std.proofs.Math.Seq.{take-length}
 use Rattle.std.specs.Prelude.{None, Some, IsTrue}
 use Rattle.sqlite.specs.Held.{Held, state}
@@ -25,7 +25,6 @@ use Rattle.clr_level.specs.declared.keeper.Keeper.{Keeper}
 use Rattle.clr_level.specs.declared.last.Last.TheVariants.{Settled}
 use Rattle.clr_edge.proofs.Databases.{survives_on}
 use Rattle.clr_edge.specs.Database.{IsOnlyRead}
-use Rattle.clr_edge.specs.Journals.{IsOfOpening}
 use Rattle.clr_keeping.specs.Keeping.{IsNotReadAlone, IsReadFrom}
 use Rattle.clr_keeping.specs.TakenUp.{HasPlace, IsGiven, IsKept, IsNotGiven, IsNotTakenUp, IsTakenUp, IsUnplaced, IsUnsuited, LacksPlace, Logs, MissesOne, StaysRead}
 use Rattle.clr_keeping.specs.TakenUp.{LeavesFronts, OpensLevel, OpensSound, RollsForward, StopsForward, entries_of, store_place}
@@ -141,7 +140,6 @@ module _ {T : Type 0} (g : Ghosts T) (before desk : Held T) (R : Register) (is :
       ahead = given.ahead;
       opened = given.opened;
       timed = given.timed;
-      unheard = given.unheard;
       settled = given.settled;
       fit = given.fit is.fit;
       rolled = given.rolled is.fit.0;
@@ -182,13 +180,13 @@ module _ {M J C T : Type 0} (g : Ghosts T) (logs : Logs M J C) (path : List ℕ)
     (stays : StaysRead (state g desk) (state g read)) (placed : HasPlace g desk read (Some place)) (opened : J) (ahead : Ahead) where
   -- it was given the journal that was opened at its place
   pub given_by : (clock : C) (it : Keeper (Held T) J C) (S : Register) → logs.steps.opens_journal old path place opened ahead new → logs.steps.has_time new clock
-      → logs.log.found opened ≡ logs.log.text opened → it.journal ≡ opened → it.clock ≡ clock → it.login ≡ None → it.last ≡ Settled
+      → logs.log.found opened ≡ logs.log.text opened → it.journal ≡ opened → it.clock ≡ clock → it.last ≡ Settled
       → Keeps (state g read) X (state g it.keeper) S → (IsFit X → IsFit S) → (IsGood X → RollsForward g read X place (entries_of ahead) it S)
       → OpensLevel g logs.log.text read X place (entries_of ahead) it S
       → (HasText logs.log.text logs.log.found it.journal → OpensSound logs it)
       → LeavesFronts g read read X place (entries_of ahead) it.keeper
       → IsGiven g logs path old new desk R it S
-  given_by clock it S opens timed whole journal_is clock_is unheard settled kept fit rolled level sound left =
+  given_by clock it S opens timed whole journal_is clock_is settled kept fit rolled level sound left =
       let text : HasText logs.log.text logs.log.found opened =
       subst (λ bytes. BeginsWith (logs.log.text opened) bytes) (sym whole) (take-length (logs.log.text opened)) in
       subst (λ Y. IsGiven g logs path old new desk Y it S) same (record {
@@ -199,7 +197,6 @@ module _ {M J C T : Type 0} (g : Ghosts T) (logs : Logs M J C) (path : List ℕ)
         ahead = ahead;
         opened = subst (λ (j : J). logs.steps.opens_journal old path place j ahead new) (sym journal_is) opens;
         timed = subst (λ (t : C). logs.steps.has_time new t) (sym clock_is) timed;
-        unheard = unheard;
         settled = settled;
         kept = kept;
         fit = fit;

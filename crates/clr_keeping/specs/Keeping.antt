@@ -11,12 +11,12 @@ use Rattle.clr_rules.specs.Register.{Register}
 use Rattle.clr_rules.specs.Staffed.{IsStaffed}
 use Rattle.clr_desk.specs.Faults.{FailsAsStore}
 use Rattle.clr_desk.specs.Placing.{Placing}
-use Rattle.clr_desk.specs.Taking.{HearsNothing, PassesOver}
+use Rattle.clr_desk.specs.Taking.{PassesOver}
 use Rattle.clr_desk.specs.declared.commit.Commit as commit
 use Rattle.clr_desk.specs.declared.desk.Desk.{Desk}
 use Rattle.clr_rules.specs.declared.place.Place.{Place}
 use Rattle.clr_journal.specs.declared.journal.Journal as append
-use Rattle.clr_level.specs.Journaling.{FailsToo, HearsLogin, IsSound, Journals, is_doubtful}
+use Rattle.clr_level.specs.Journaling.{FailsToo, IsSound, Journals, is_doubtful}
 use Rattle.clr_level.specs.Levelling.{IsKeptLevel}
 use Rattle.clr_level.specs.Restarting.{IsSafeAt}
 use Rattle.clr_level.specs.declared.keeper.Keeper.{Keeper}
@@ -97,7 +97,6 @@ plain_keeper g =
       kept = state g;
       fails = FailsAsStore;
       takes = PassesOver;
-      hears = HearsNothing;
       doubts = λ _. false;
     }
 
@@ -132,7 +131,6 @@ logged_keeper {M} {J} {C} {T} g logs = record {
   fails = FailsToo FailsAsStore;
   takes = Journals PassesOver (state g) store_place logs.shows logs.log.text logs.log.found
       logs.log.may_leave logs.log.is_usable;
-  hears = HearsLogin;
   doubts = λ (it : Keeper (Held T) J C). is_doubtful it.last;
 }
 

@@ -184,7 +184,6 @@ pub record IsGiven {M J C T : Type 0} (g : Ghosts T) (logs : Logs M J C) (path :
   pub ahead : Ahead
   pub opened : logs.steps.opens_journal old path place it.journal ahead new
   pub timed : logs.steps.has_time new it.clock
-  pub unheard : it.login ≡ None
   pub settled : it.last ≡ Settled
   pub kept : Keeps (state g read) R (state g it.keeper) S
   pub fit : IsFit R → IsFit S
@@ -225,7 +224,6 @@ pub record IsTakenUp {M J C T : Type 0} (g : Ghosts T) (logs : Logs M J C) (path
   pub ahead : Ahead
   pub opened : logs.steps.opens_journal old path place it.journal ahead new
   pub timed : logs.steps.has_time new it.clock
-  pub unheard : it.login ≡ None
   pub settled : it.last ≡ Settled
   pub rolled : RollsForward g (IsKept.opened kept) (IsKept.first kept) place (entries_of ahead)
       it S

@@ -277,7 +277,6 @@ fn taken_up<S: Alter + Drop, J: Journal + Drop, C: Clock>(
 ) -> Result<Desk<Keeper<Store<S>, J, C>>, (Fault, Connection<S>, J)>
     ensures journal { IfOk result (λ taken. taken.store.journal ≡ opened.journal) }
     ensures clock { IfOk result (λ taken. taken.store.clock ≡ clock) }
-    ensures login { IfOk result (λ taken. taken.store.login ≡ None) }
     ensures settled { IfOk result (λ taken. taken.store.last ≡ Settled) }
     ensures level { IfOk result (λ taken. OpensLevel S.Store J.text desk.store
         desk.book.register place (entries_of opened.ahead) taken.store taken.book.register) }

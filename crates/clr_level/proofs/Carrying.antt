@@ -22,7 +22,7 @@ use Rattle.clr_desk.specs.Commit.{Stays}
 use Rattle.clr_desk.specs.Crash.{AreAfter}
 use Rattle.clr_desk.specs.Given.{AreGiven, LeadsTo, command}
 use Rattle.clr_desk.specs.Kept.{Keeps}
-use Rattle.clr_desk.specs.Taking.{Came, Hearing, Taking, Takes, TakesOne, is_refused}
+use Rattle.clr_desk.specs.Taking.{Came, Taking, Takes, TakesOne, is_refused}
 use Rattle.clr_desk.specs.declared.desk.Desk.{Desk}
 use Rattle.clr_desk.specs.declared.desk_fault.DeskFault.{DeskFault}
 use Rattle.clr_desk.proofs.Keeping.{one_keeps}
@@ -45,17 +45,17 @@ module _ {K : Type 0} (takes : Taking K) (kept : K → State) (has_place : Placi
       survives_weaker (kept old.keeper) (kept new.keeper) (AreEditedAt has_place (kept old.keeper).now edits old.place)
       (ArePlacedAt has_place (kept old.keeper).now old.place) (λ clean trees edited t has. (edited t has).1) commits.crash
 
-  pub kept_carries : (old new : Placed K) (q : Command) (reply : Reply) (edits : List Edit) (came : Came)
+  pub kept_carries : (old new : Placed K) (login : Option (List ℕ)) (q : Command) (reply : Reply) (edits : List Edit) (came : Came)
       → CommitsAt {X = Unit {0}} has_place (kept old.keeper) (kept new.keeper) edits old.place came
-      → takes old.keeper q reply came new.keeper → new.place ≡ old.place → Carries takes kept has_place old q reply came new
-  kept_carries old new q reply edits (Ok done) commits taken same = record {
+      → takes old.keeper None q reply came new.keeper → new.place ≡ old.place → Carries takes kept has_place old login q reply came new
+  kept_carries old new login q reply edits (Ok done) commits taken same = record {
     taken = taken;
     same = same;
     placed = λ is accepted. comes has_place (kept old.keeper) (kept new.keeper) edits old.place commits;
     stays = λ fault is. absurd (cc is);
     crash = left_placed old new edits (Ok done) commits;
   }
-  kept_carries old new q reply edits (Err cause) commits taken same = record {
+  kept_carries old new login q reply edits (Err cause) commits taken same = record {
     taken = taken;
     same = same;
     placed = λ is accepted. absurd (cc is);
@@ -69,10 +69,10 @@ module _ {K : Type 0} (takes : Taking K) (kept : K → State) (has_place : Placi
   not_both (Refused refusal) refused accepted = absurd (cc accepted)
   not_both (Added point) refused accepted = absurd (cc refused)
 
-  pub noted_carries : (old new : Placed K) (q : Command) (reply : Reply) (came : Came) → is_refused reply ≡ true
-      → Stays (kept old.keeper) (kept new.keeper) → takes old.keeper q reply came new.keeper → new.place ≡ old.place
-      → Carries takes kept has_place old q reply came new
-  noted_carries old new q reply came refused stays taken same = record {
+  pub noted_carries : (old new : Placed K) (login : Option (List ℕ)) (q : Command) (reply : Reply) (came : Came) → is_refused reply ≡ true
+      → Stays (kept old.keeper) (kept new.keeper) → takes old.keeper None q reply came new.keeper → new.place ≡ old.place
+      → Carries takes kept has_place old login q reply came new
+  noted_carries old new login q reply came refused stays taken same = record {
     taken = taken;
     same = same;
     placed = λ is accepted. absurd (not_both reply refused accepted);
@@ -83,31 +83,31 @@ module _ {K : Type 0} (takes : Taking K) (kept : K → State) (has_place : Placi
   -- ---- what comes of one command
 
   takes_below : (old new : Placed K) (q : Command) (reply : Reply) (came : Came)
-      → Takes (Carries takes kept has_place) old q reply came new → Takes takes old.keeper q reply came new.keeper
+      → Takes (Carries takes kept has_place) old None q reply came new → Takes takes old.keeper None q reply came new.keeper
   takes_below old new q (Accepted card) came taken = taken.taken
   takes_below old new q (Shown view) came taken = (ap (λ (it : Placed K). it.keeper) taken.0, taken.1)
   takes_below old new q (Refused refusal) came taken = taken.taken
   takes_below old new q (Added point) came taken = taken.taken
 
   pub one_below : (R : Register) (old new : Placed K) (q : Command) (result : Result Reply DeskFault)
-      → TakesOne (Carries takes kept has_place) R old q result new → TakesOne takes R old.keeper q result new.keeper
+      → TakesOne (Carries takes kept has_place) R old None q result new → TakesOne takes R old.keeper None q result new.keeper
   one_below R old new q (Ok reply) taken = takes_below old new q reply (Ok tt) taken
   one_below R old new q (Err fault) (inl out) = inl (out.0, ap (λ (it : Placed K). it.keeper) out.1)
   one_below R old new q (Err fault) (inr taken) = inr (takes_below old new q (Answer.reply (asked_answer R q)) (Err fault) taken)
 
-  takes_place : (old new : Placed K) (q : Command) (reply : Reply) (came : Came) → Takes (Carries takes kept has_place) old q reply came new → new.place ≡ old.place
+  takes_place : (old new : Placed K) (q : Command) (reply : Reply) (came : Came) → Takes (Carries takes kept has_place) old None q reply came new → new.place ≡ old.place
   takes_place old new q (Accepted card) came taken = taken.same
   takes_place old new q (Shown view) came taken = ap (λ (it : Placed K). it.place) taken.0
   takes_place old new q (Refused refusal) came taken = taken.same
   takes_place old new q (Added point) came taken = taken.same
 
   pub same_place : (R : Register) (old new : Placed K) (q : Command) (result : Result Reply DeskFault)
-      → TakesOne (Carries takes kept has_place) R old q result new → new.place ≡ old.place
+      → TakesOne (Carries takes kept has_place) R old None q result new → new.place ≡ old.place
   same_place R old new q (Ok reply) taken = takes_place old new q reply (Ok tt) taken
   same_place R old new q (Err fault) (inl out) = ap (λ (it : Placed K). it.place) out.1
   same_place R old new q (Err fault) (inr taken) = takes_place old new q (Answer.reply (asked_answer R q)) (Err fault) taken
 
-  takes_comes : (old new : Placed K) (q : Command) (reply : Reply) → is_accepted reply ≡ true → Takes (Carries takes kept has_place) old q reply (Ok tt) new
+  takes_comes : (old new : Placed K) (q : Command) (reply : Reply) → is_accepted reply ≡ true → Takes (Carries takes kept has_place) old None q reply (Ok tt) new
       → ComesTo has_place (kept old.keeper) (kept new.keeper) old.place
   takes_comes old new q (Accepted card) accepted taken = taken.placed refl refl
   takes_comes old new q (Shown view) accepted taken = absurd (cc accepted)
@@ -115,12 +115,12 @@ module _ {K : Type 0} (takes : Taking K) (kept : K → State) (has_place : Placi
   takes_comes old new q (Added point) accepted taken = taken.placed refl refl
 
   -- the place is that of the command, where it is accepted
-  pub one_comes : (R : Register) (old new : Placed K) (q : Command) (result : Result Reply DeskFault) → TakesOne (Carries takes kept has_place) R old q result new
+  pub one_comes : (R : Register) (old new : Placed K) (q : Command) (result : Result Reply DeskFault) → TakesOne (Carries takes kept has_place) R old None q result new
       → IfOk result (λ reply. is_accepted reply ≡ true → ComesTo has_place (kept old.keeper) (kept new.keeper) old.place)
   one_comes R old new q (Ok reply) taken = λ accepted. takes_comes old new q reply accepted taken
   one_comes R old new q (Err fault) taken = tt
 
-  takes_stays : (old new : Placed K) (q : Command) (reply : Reply) (fault : DeskFault) → Takes (Carries takes kept has_place) old q reply (Err fault) new
+  takes_stays : (old new : Placed K) (q : Command) (reply : Reply) (fault : DeskFault) → Takes (Carries takes kept has_place) old None q reply (Err fault) new
       → StaysShown (kept old.keeper) (kept new.keeper)
   takes_stays old new q (Accepted card) fault taken = taken.stays fault refl
   takes_stays old new q (Shown view) fault taken = absurd (cc taken.1)
@@ -128,14 +128,14 @@ module _ {K : Type 0} (takes : Taking K) (kept : K → State) (has_place : Placi
   takes_stays old new q (Added point) fault taken = taken.stays fault refl
 
   -- a fault leaves what is shown
-  pub one_stays : (R : Register) (old new : Placed K) (q : Command) (result : Result Reply DeskFault) → TakesOne (Carries takes kept has_place) R old q result new
+  pub one_stays : (R : Register) (old new : Placed K) (q : Command) (result : Result Reply DeskFault) → TakesOne (Carries takes kept has_place) R old None q result new
       → OnErr result (StaysShown (kept old.keeper) (kept new.keeper))
   one_stays R old new q (Ok reply) taken = tt
   one_stays R old new q (Err fault) (inl out) =
       subst (λ (it : Placed K). StaysShown (kept old.keeper) (kept it.keeper)) (sym out.1) (shown_itself (kept old.keeper))
   one_stays R old new q (Err fault) (inr taken) = takes_stays old new q (Answer.reply (asked_answer R q)) fault taken
 
-  takes_left : (old new : Placed K) (q : Command) (reply : Reply) (came : Came) → Takes (Carries takes kept has_place) old q reply came new
+  takes_left : (old new : Placed K) (q : Command) (reply : Reply) (came : Came) → Takes (Carries takes kept has_place) old None q reply came new
       → Survives (kept old.keeper) (kept new.keeper) (ArePlacedAt has_place (kept old.keeper).now old.place)
   takes_left old new q (Accepted card) came taken = taken.crash
   takes_left old new q (Shown view) came taken =
@@ -145,7 +145,7 @@ module _ {K : Type 0} (takes : Taking K) (kept : K → State) (has_place : Placi
   takes_left old new q (Added point) came taken = taken.crash
 
   -- whatever came of it, a crash leaves the place with the change
-  pub one_left : (R : Register) (old new : Placed K) (q : Command) (result : Result Reply DeskFault) → TakesOne (Carries takes kept has_place) R old q result new
+  pub one_left : (R : Register) (old new : Placed K) (q : Command) (result : Result Reply DeskFault) → TakesOne (Carries takes kept has_place) R old None q result new
       → Survives (kept old.keeper) (kept new.keeper) (ArePlacedAt has_place (kept old.keeper).now old.place)
   one_left R old new q (Ok reply) taken = takes_left old new q reply (Ok tt) taken
   one_left R old new q (Err fault) (inl out) =
@@ -155,12 +155,12 @@ module _ {K : Type 0} (takes : Taking K) (kept : K → State) (has_place : Placi
 
   -- ---- the desk below
 
-  pub leads_below : (hears : Hearing K) (fails : DeskFault → Type 0) (old new : Desk K) (placed next : Desk (Placed K)) (q : Command)
+  pub leads_below : (fails : DeskFault → Type 0) (old new : Desk K) (placed next : Desk (Placed K)) (q : Command)
       (result : Result Reply DeskFault) → placed.book ≡ old.book → placed.store.keeper ≡ old.store → new.book ≡ next.book → new.store ≡ next.store.keeper
       → CarriesOut (λ (it : Placed K). kept it.keeper) fails placed next q result
-      → TakesOne (Carries takes kept has_place) placed.book.register placed.store q result next.store → LeadsTo kept takes hears old new
+      → TakesOne (Carries takes kept has_place) placed.book.register placed.store None q result next.store → LeadsTo kept takes old new
   unfolding AreGiven
-  leads_below hears fails old new placed next q result book store book' store' carried taken =
+  leads_below fails old new placed next q result book store book' store' carried taken =
       let R : placed.book.register ≡ old.book.register = ap (λ (b : Shelved). b.register) book in
       let S : next.book.register ≡ new.book.register = sym (ap (λ (b : Shelved). b.register) book') in
       let keeps : Keeps (kept placed.store.keeper) placed.book.register (kept next.store.keeper) next.book.register =
@@ -169,28 +169,28 @@ module _ {K : Type 0} (takes : Taking K) (kept : K → State) (has_place : Placi
       let at_new : Keeps (kept placed.store.keeper) placed.book.register (kept new.store) new.book.register =
       subst (λ (k : K). Keeps (kept placed.store.keeper) placed.book.register (kept k) new.book.register) (sym store')
       (subst (λ (X : Register). Keeps (kept placed.store.keeper) placed.book.register (kept next.store.keeper) X) S keeps) in
-      let given : AreGiven takes hears placed.book.register placed.store.keeper (command q result ∷ []) new.book.register new.store = (
+      let given : AreGiven takes placed.book.register placed.store.keeper (record { login = None; command = q; result = result } ∷ []) new.book.register new.store = (
         new.book.register,
         new.store,
         record {
           reply = carried.near;
           register = subst (λ (X : Register). OnOk result (X ≡ near_after placed.book.register q)) S carried.changed;
           unchanged = λ none. sym S ∙ carried.unchanged none;
-          taken = subst (λ (k : K). TakesOne takes placed.book.register placed.store.keeper q result k) (sym store') below;
+          taken = subst (λ (k : K). TakesOne takes placed.book.register placed.store.keeper None q result k) (sym store') below;
         },
         (refl, refl),
       ) in
       record {
         keeps = subst (λ (k : K). Keeps (kept k) old.book.register (kept new.store) new.book.register) store
             (subst (λ (X : Register). Keeps (kept placed.store.keeper) X (kept new.store) new.book.register) R at_new);
-        given = command q result ∷ [];
-        are_given = subst (λ (k : K). AreGiven takes hears old.book.register k (command q result ∷ []) new.book.register new.store) store
-            (subst (λ (X : Register). AreGiven takes hears X placed.store.keeper (command q result ∷ []) new.book.register new.store) R given);
+        given = record { login = None; command = q; result = result } ∷ [];
+        are_given = subst (λ (k : K). AreGiven takes old.book.register k (record { login = None; command = q; result = result } ∷ []) new.book.register new.store) store
+            (subst (λ (X : Register). AreGiven takes X placed.store.keeper (record { login = None; command = q; result = result } ∷ []) new.book.register new.store) R given);
       }
 
   pub stays_below : (old new : Desk K) (placed next : Desk (Placed K)) (q : Command) (result : Result Reply DeskFault)
       → placed.store.keeper ≡ old.store → new.store ≡ next.store.keeper
-      → TakesOne (Carries takes kept has_place) placed.book.register placed.store q result next.store
+      → TakesOne (Carries takes kept has_place) placed.book.register placed.store None q result next.store
       → OnErr result (StaysShown (kept old.store) (kept new.store))
   stays_below old new placed next q result store store' taken =
       subst (λ (k : K). OnErr result (StaysShown (kept k) (kept new.store))) store
@@ -201,7 +201,7 @@ module _ {K : Type 0} (takes : Taking K) (kept : K → State) (has_place : Placi
   pub left_below : (fails : DeskFault → Type 0) (old new : Desk K) (placed next : Desk (Placed K)) (q : Command) (result : Result Reply DeskFault) (place : Place)
       → placed.book ≡ old.book → placed.store.keeper ≡ old.store → placed.store.place ≡ place → new.store ≡ next.store.keeper
       → CarriesOut (λ (it : Placed K). kept it.keeper) fails placed next q result
-      → TakesOne (Carries takes kept has_place) placed.book.register placed.store q result next.store
+      → TakesOne (Carries takes kept has_place) placed.book.register placed.store None q result next.store
       → Survives (kept old.store) (kept new.store) (AreAfterAt has_place (kept old.store).now old.book.register q place)
   left_below fails old new placed next q result place book store at store' carried taken =
       let s = kept placed.store.keeper in

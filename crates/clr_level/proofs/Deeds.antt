@@ -30,7 +30,7 @@ use Rattle.clr_update.specs.Changes.{Changes}
 use Rattle.clr_update.specs.Delta.{after_changes, all_there, can_be_made, have_no_fault, update_of}
 use Rattle.clr_update.specs.Update.{Update, in_the_way, updated}
 use Rattle.clr_desk.specs.Renewing.{AreComeTo, ComesTo as Renews, IsUpdatedAt}
-use Rattle.clr_desk.specs.Taking.{Came, Hearing, Taking}
+use Rattle.clr_desk.specs.Taking.{Came, Taking}
 use Rattle.clr_desk.specs.declared.desk.Desk.{Desk}
 use Rattle.clr_desk.specs.declared.desk_fault.DeskFault.{DeskFault}
 use Rattle.clr_desk.specs.declared.desk_fault.DeskFault.TheVariants.{Journal, NoMemory, Store}
@@ -46,29 +46,29 @@ use Rattle.clr_level.proofs.Places.{shown_itself}
 
 -- ---- what a desk goes through
 
-module _ {K : Type 0} (kept : K → State) (takes : Taking K) (hears : Hearing K) (has_place : Placing) where
-  pub goes_itself : (d : Desk K) → GoesOn kept takes hears has_place d d
+module _ {K : Type 0} (kept : K → State) (takes : Taking K) (has_place : Placing) where
+  pub goes_itself : (d : Desk K) → GoesOn kept takes has_place d d
   unfolding GoesThrough
   goes_itself d = ([], refl)
 
-  pub goes_by : (old new : Desk K) → LeadsTo kept takes hears old new → GoesOn kept takes hears has_place old new
+  pub goes_by : (old new : Desk K) → LeadsTo kept takes old new → GoesOn kept takes has_place old new
   unfolding GoesThrough
   goes_by old new led = (new ∷ [], (inl led, refl))
 
-  pub goes_renewed : (old new : Desk K) → IsRenewed kept has_place old new → GoesOn kept takes hears has_place old new
+  pub goes_renewed : (old new : Desk K) → IsRenewed kept has_place old new → GoesOn kept takes has_place old new
   unfolding GoesThrough
   goes_renewed old new renewed = (new ∷ [], (inr renewed, refl))
 
-  through_on : (through : List (Desk K)) (old between new : Desk K) → GoesThrough kept takes hears has_place old through between
-      → GoesOn kept takes hears has_place between new → GoesOn kept takes hears has_place old new
+  through_on : (through : List (Desk K)) (old between new : Desk K) → GoesThrough kept takes has_place old through between
+      → GoesOn kept takes has_place between new → GoesOn kept takes has_place old new
   unfolding GoesThrough
-  through_on [] old between new same more = subst (λ (d : Desk K). GoesOn kept takes hears has_place d new) same more
+  through_on [] old between new same more = subst (λ (d : Desk K). GoesOn kept takes has_place d new) same more
   through_on (next ∷ later) old between new (one, rest) more =
       let on = through_on later next between new rest more in
       (next ∷ on.0, (one, on.1))
 
-  pub goes_further : (old between new : Desk K) → GoesOn kept takes hears has_place old between → GoesOn kept takes hears has_place between new
-      → GoesOn kept takes hears has_place old new
+  pub goes_further : (old between new : Desk K) → GoesOn kept takes has_place old between → GoesOn kept takes has_place between new
+      → GoesOn kept takes has_place old new
   goes_further old between new one more = through_on one.0 old between new one.1 more
 
   -- ---- what it keeps
@@ -98,11 +98,11 @@ module _ {K : Type 0} (kept : K → State) (takes : Taking K) (hears : Hearing K
         closes = comes.survives.closes;
       })
 
-  through_keeps : (through : List (Desk K)) (old new : Desk K) → GoesThrough kept takes hears has_place old through new
+  through_keeps : (through : List (Desk K)) (old new : Desk K) → GoesThrough kept takes has_place old through new
       → Keeps (kept old.store) old.book.register (kept new.store) new.book.register
   unfolding GoesThrough
   through_keeps [] old new same =
-      subst (λ (d : Desk K). Keeps (kept old.store) old.book.register (kept d.store) d.book.register) (sym same) (leads_itself kept takes hears old).keeps
+      subst (λ (d : Desk K). Keeps (kept old.store) old.book.register (kept d.store) d.book.register) (sym same) (leads_itself kept takes old).keeps
   through_keeps (next ∷ later) old new (inl led, rest) =
       keeps_on (kept old.store) (kept next.store) (kept new.store) old.book.register next.book.register new.book.register led.keeps
       (through_keeps later next new rest)
@@ -111,7 +111,7 @@ module _ {K : Type 0} (kept : K → State) (takes : Taking K) (hears : Hearing K
       (renewed_by old next renewed.deed renewed.place renewed.came renewed.comes) (through_keeps later next new rest)
 
   -- what commands keep is kept
-  pub goes_keep : (old new : Desk K) → GoesOn kept takes hears has_place old new
+  pub goes_keep : (old new : Desk K) → GoesOn kept takes has_place old new
       → Keeps (kept old.store) old.book.register (kept new.store) new.book.register
   goes_keep old new goes = through_keeps goes.0 old new goes.1
 
@@ -126,9 +126,9 @@ any_keeper fails (Store NoMemoryThere) of = absurd of
 any_keeper fails Journal of = tt
 any_keeper fails NoMemory of = tt
 
-module _ {K : Type 0} (kept : K → State) (takes : Taking K) (hears : Hearing K) (has_place : Placing) (fails : DeskFault → Type 0) where
+module _ {K : Type 0} (kept : K → State) (takes : Taking K) (has_place : Placing) (fails : DeskFault → Type 0) where
   -- where memory ran out before anything was done
-  pub not_begun : (d : Desk K) (deed : Deed) (place : Place) → CarriesDeed kept takes hears has_place fails d d deed place (Err NoMemory)
+  pub not_begun : (d : Desk K) (deed : Deed) (place : Place) → CarriesDeed kept takes has_place fails d d deed place (Err NoMemory)
   not_begun d deed place = record {
     register = λ taken. tt;
     placed = λ taken. tt;
@@ -137,7 +137,7 @@ module _ {K : Type 0} (kept : K → State) (takes : Taking K) (hears : Hearing K
     unchanged = refl;
     stays = shown_itself (kept d.store);
     crash = left_itself (kept d.store) (AreDoneAt has_place (kept d.store).now d.book.register deed place);
-    led = goes_itself kept takes hears has_place d;
+    led = goes_itself kept takes has_place d;
     fault = tt;
   }
 
@@ -156,7 +156,7 @@ module _ {K : Type 0} (kept : K → State) (takes : Taking K) (hears : Hearing K
       → (IsGood old.book.register → new.book.register ≡ after old.book.register q)
       → (accepts reply ≡ true → ComesTo has_place (kept old.store) (kept new.store) place) → KeepsTables kept old new
       → Survives (kept old.store) (kept new.store) (AreAfterAt has_place (kept old.store).now old.book.register q place)
-      → LeadsTo kept takes hears old new → CarriesDeed kept takes hears has_place fails old new (command q) place (Ok tt)
+      → LeadsTo kept takes old new → CarriesDeed kept takes has_place fails old new (command q) place (Ok tt)
   command_done old new q place reply reply_is register placed tables left led = record {
     register = λ taken. register taken.0;
     placed = λ taken. placed (ap accepts (reply_is taken.0) ∙ sym (accepted_data (Answer.reply (answer old.book.register q))) ∙ taken.1);
@@ -165,14 +165,14 @@ module _ {K : Type 0} (kept : K → State) (takes : Taking K) (hears : Hearing K
     unchanged = tt;
     stays = tt;
     crash = command_left old new q place left;
-    led = goes_by kept takes hears has_place old new led;
+    led = goes_by kept takes has_place old new led;
     fault = tt;
   }
 
   pub command_missed : (old new : Desk K) (q : Command) (place : Place) (fault : DeskFault) → new.book.register ≡ old.book.register
       → StaysShown (kept old.store) (kept new.store)
       → Survives (kept old.store) (kept new.store) (AreAfterAt has_place (kept old.store).now old.book.register q place)
-      → LeadsTo kept takes hears old new → IsOfKeeper fails fault → CarriesDeed kept takes hears has_place fails old new (command q) place (Err fault)
+      → LeadsTo kept takes old new → IsOfKeeper fails fault → CarriesDeed kept takes has_place fails old new (command q) place (Err fault)
   command_missed old new q place fault unchanged stays left led of = record {
     register = λ taken. tt;
     placed = λ taken. tt;
@@ -181,7 +181,7 @@ module _ {K : Type 0} (kept : K → State) (takes : Taking K) (hears : Hearing K
     unchanged = unchanged;
     stays = stays;
     crash = command_left old new q place left;
-    led = goes_by kept takes hears has_place old new led;
+    led = goes_by kept takes has_place old new led;
     fault = of;
   }
 
@@ -209,7 +209,7 @@ module _ {K : Type 0} (kept : K → State) (takes : Taking K) (hears : Hearing K
         (λ clean trees come good has. let all = come has in (all.1, all.2)) left
 
     pub renewed_done : So → Renews {X = Unit {0}} kept has_place fails So old new S place (Ok tt)
-        → CarriesDeed kept takes hears has_place fails old new deed place (Ok tt)
+        → CarriesDeed kept takes has_place fails old new deed place (Ok tt)
     renewed_done so comes =
         let is : S ≡ T = same so in
         let left = renewed_left comes.survives in
@@ -225,7 +225,7 @@ module _ {K : Type 0} (kept : K → State) (takes : Taking K) (hears : Hearing K
           unchanged = tt;
           stays = tt;
           crash = deed_left left;
-          led = goes_renewed kept takes hears has_place old new (record {
+          led = goes_renewed kept takes has_place old new (record {
             deed = deed;
             is = no;
             place = place;
@@ -251,7 +251,7 @@ module _ {K : Type 0} (kept : K → State) (takes : Taking K) (hears : Hearing K
         }
 
     pub renewed_missed : (fault : DeskFault) → Renews {X = Unit {0}} kept has_place fails So old new S place (Err fault)
-        → CarriesDeed kept takes hears has_place fails old new deed place (Err fault)
+        → CarriesDeed kept takes has_place fails old new deed place (Err fault)
     renewed_missed fault comes =
         let left = renewed_left comes.survives in
         record {
@@ -266,7 +266,7 @@ module _ {K : Type 0} (kept : K → State) (takes : Taking K) (hears : Hearing K
             now = comes.none;
           };
           crash = deed_left left;
-          led = goes_renewed kept takes hears has_place old new (record {
+          led = goes_renewed kept takes has_place old new (record {
             deed = deed;
             is = no;
             place = place;
@@ -290,7 +290,7 @@ module _ {K : Type 0} (kept : K → State) (takes : Taking K) (hears : Hearing K
         }
 
     pub renewed : (came : Came) → OnOk came So → Renews {X = Unit {0}} kept has_place fails So old new S place came
-        → CarriesDeed kept takes hears has_place fails old new deed place came
+        → CarriesDeed kept takes has_place fails old new deed place came
     renewed (Ok done) so comes = renewed_done so comes
     renewed (Err fault) so comes = renewed_missed fault comes
 
@@ -300,7 +300,7 @@ module _ {K : Type 0} (kept : K → State) (takes : Taking K) (hears : Hearing K
 
   pub archive_done : (old new : Desk K) (before : ℕ) (place : Place) (came : Came)
       → Renews {X = Unit {0}} kept has_place fails ⊤ old new (archived before old.book.register) place came
-      → CarriesDeed kept takes hears has_place fails old new (archive before) place came
+      → CarriesDeed kept takes has_place fails old new (archive before) place came
   archive_done old new before place came comes =
       renewed ⊤ old new (archive before) (archived before old.book.register) place (λ so. refl) tt came (always came) comes
 
@@ -322,15 +322,15 @@ module _ {K : Type 0} (kept : K → State) (takes : Taking K) (hears : Hearing K
         ap (λ (v : Update). updated R v) said ∙ ap (λ (b : Bool). if b then updated R (update_of R of) else R) (sym can)
 
     pub update_done : (text : _) → IsUpdatedAt kept has_place fails old new u place (Ok (reported.Changes text))
-        → CarriesDeed kept takes hears has_place fails old new (update of) place (Ok tt)
+        → CarriesDeed kept takes has_place fails old new (update of) place (Ok tt)
     update_done text (report, comes) =
         renewed_done (in_the_way R u ≡ None) old new (update of) (updated R u) place so_after tt report.0 comes
 
     pub update_missed : (fault : DeskFault) → IsUpdatedAt kept has_place fails old new u place (Err fault)
-        → CarriesDeed kept takes hears has_place fails old new (update of) place (Err fault)
+        → CarriesDeed kept takes has_place fails old new (update of) place (Err fault)
     update_missed fault comes = renewed_missed (in_the_way R u ≡ None) old new (update of) (updated R u) place so_after tt fault comes
 
     pub update_in_the_way : (obstacle : _) → IsUpdatedAt kept has_place fails old new u place (Ok (reported.InTheWay obstacle))
-        → CarriesDeed kept takes hears has_place fails old new (update of) place (Err NoMemory)
+        → CarriesDeed kept takes has_place fails old new (update of) place (Err NoMemory)
     update_in_the_way obstacle (way, same) =
-        subst (λ (d : Desk K). CarriesDeed kept takes hears has_place fails old d (update of) place (Err NoMemory)) (sym same) (not_begun old (update of) place)
+        subst (λ (d : Desk K). CarriesDeed kept takes has_place fails old d (update of) place (Err NoMemory)) (sym same) (not_begun old (update of) place)

@@ -23,7 +23,7 @@ use Rattle.clr_journal.proofs.JournalsRead.{withdrawn_is_left_out}
 use Rattle.clr_chain.specs.Level.{IsRunOf, place_after, place_with}
 use Rattle.clr_chain.specs.Link.{has_fraction}
 use Rattle.clr_chain.proofs.LevelKept.{carried_out-append}
-use Rattle.clr_desk.specs.Taking.{Hearing, Taking}
+use Rattle.clr_desk.specs.Taking.{Taking}
 use Rattle.clr_desk.specs.declared.desk.Desk.{Desk}
 use Rattle.clr_desk.specs.declared.desk_fault.DeskFault.{DeskFault}
 use Rattle.clr_level.specs.Crash.{AreRolled, KeepsTables}
@@ -382,18 +382,18 @@ Left kept has_place desk place lines trees =
     AreAnswered desk.book.register lines → AreRolled has_place (kept desk.store) desk.book.register place lines trees
 
 -- the lines so far, where `left` are those after them, the last first
-pub record SoFar {K : Type 0} (kept : K → State) (takes : Taking K) (hears : Hearing K) (has_place : Placing) (desk now : Desk K) (place at : Place)
+pub record SoFar {K : Type 0} (kept : K → State) (takes : Taking K) (has_place : Placing) (desk now : Desk K) (place at : Place)
     (open_one : Option Carried) (lines left : List Line) : Type 0 where
   pub come : IsGood desk.book.register → AreAnswered desk.book.register (map entry_of lines) → withdraws (map entry_of lines) ≡ false → AreShallow (map entry_of lines) → IsAt has_place (kept desk.store) place
       → HasCome has_place desk.book.register place (map entry_of lines) now.book.register (kept now.store) at open_one (map entry_of (reverse left))
   pub tables : KeepsTables kept desk now
   pub crash : Survives (kept desk.store) (kept now.store) (Left kept has_place desk place (map entry_of lines))
-  pub led : GoesOn kept takes hears has_place desk now
+  pub led : GoesOn kept takes has_place desk now
   pub before : List Line
   pub all : lines ≡ before ++ reverse left
 
-module _ {K : Type 0} (kept : K → State) (takes : Taking K) (hears : Hearing K) (has_place : Placing) (desk : Desk K) (place : Place) (lines : List Line) where
-  pub none_yet : (left : List Line) → left ≡ reverse lines → SoFar kept takes hears has_place desk desk place place None lines left
+module _ {K : Type 0} (kept : K → State) (takes : Taking K) (has_place : Placing) (desk : Desk K) (place : Place) (lines : List Line) where
+  pub none_yet : (left : List Line) → left ≡ reverse lines → SoFar kept takes has_place desk desk place place None lines left
   none_yet left is = record {
     come = λ good answered begins shallow at.
         subst (λ rest. HasCome has_place desk.book.register place (map entry_of lines) desk.book.register (kept desk.store) place None rest)
@@ -401,20 +401,20 @@ module _ {K : Type 0} (kept : K → State) (takes : Taking K) (hears : Hearing K
         (begun has_place desk.book.register place (map entry_of lines) (kept desk.store) begins shallow at);
     tables = λ clean good has. has;
     crash = left_itself (kept desk.store) (Left kept has_place desk place (map entry_of lines));
-    led = goes_itself kept takes hears has_place desk;
+    led = goes_itself kept takes has_place desk;
     before = [];
     all = sym (ap reverse is ∙ reverse-reverse lines);
   }
 
   -- the next line is one of them
   pub one_of_all : (now : Desk K) (at : Place) (open_one : Option Carried) (left rest : List Line) (one : Line) → left ≡ rest ++ one ∷ []
-      → (so_far : SoFar kept takes hears has_place desk now place at open_one lines left) → lines ≡ SoFar.before so_far ++ one ∷ reverse rest
+      → (so_far : SoFar kept takes has_place desk now place at open_one lines left) → lines ≡ SoFar.before so_far ++ one ∷ reverse rest
   one_of_all now at open_one left rest one is so_far =
       so_far.all ∙ ap (λ ls. so_far.before ++ ls) (ap reverse is ∙ reverse-append rest (one ∷ []))
 
   -- and is before those that are left then
   pub one_before : (now : Desk K) (at : Place) (open_one : Option Carried) (left rest : List Line) (one : Line) → left ≡ rest ++ one ∷ []
-      → (so_far : SoFar kept takes hears has_place desk now place at open_one lines left) → lines ≡ (SoFar.before so_far ++ one ∷ []) ++ reverse rest
+      → (so_far : SoFar kept takes has_place desk now place at open_one lines left) → lines ≡ (SoFar.before so_far ++ one ∷ []) ++ reverse rest
   one_before now at open_one left rest one is so_far =
       one_of_all now at open_one left rest one is so_far ∙ sym (append_assoc so_far.before (one ∷ []) (reverse rest))
 
@@ -423,7 +423,7 @@ module _ {K : Type 0} (kept : K → State) (takes : Taking K) (hears : Hearing K
 
   -- what is said of the next line is said of the lines so far
   pub at_line : (now : Desk K) (at : Place) (open_one : Option Carried) (left rest : List Line) (one : Line) → left ≡ rest ++ one ∷ []
-      → SoFar kept takes hears has_place desk now place at open_one lines left
+      → SoFar kept takes has_place desk now place at open_one lines left
       → IsGood desk.book.register → AreAnswered desk.book.register (map entry_of lines) → withdraws (map entry_of lines) ≡ false → AreShallow (map entry_of lines) → IsAt has_place (kept desk.store) place
       → HasCome has_place desk.book.register place (map entry_of lines) now.book.register (kept now.store) at open_one (entry_of one ∷ map entry_of (reverse rest))
   at_line now at open_one left rest one is so_far good answered begins shallow here =
@@ -432,7 +432,7 @@ module _ {K : Type 0} (kept : K → State) (takes : Taking K) (hears : Hearing K
 
   -- none is left
   pub at_last : (now : Desk K) (at : Place) (open_one : Option Carried) (left : List Line) → left ≡ []
-      → SoFar kept takes hears has_place desk now place at open_one lines left
+      → SoFar kept takes has_place desk now place at open_one lines left
       → IsGood desk.book.register → AreAnswered desk.book.register (map entry_of lines) → withdraws (map entry_of lines) ≡ false → AreShallow (map entry_of lines) → IsAt has_place (kept desk.store) place
       → HasCome has_place desk.book.register place (map entry_of lines) now.book.register (kept now.store) at open_one []
   at_last now at open_one left is so_far good answered begins shallow here =

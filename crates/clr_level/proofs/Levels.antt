@@ -28,12 +28,12 @@ use Rattle.clr_chain.specs.Laws.{line_at}
 use Rattle.clr_chain.specs.Level.{IsLevel, IsRunOf, place_after, place_with}
 use Rattle.clr_chain.proofs.LevelKept.{carried_out-append, steps_keep}
 use Rattle.clr_book.specs.Own.{asked_answer}
-use Rattle.clr_desk.specs.Given.{AreGiven, Given, IsAnswered, command, login}
+use Rattle.clr_desk.specs.Given.{AreGiven, Given, IsAnswered}
 use Rattle.clr_desk.specs.Taking.{Takes, Taking}
 use Rattle.clr_desk.specs.declared.desk_fault.DeskFault.{DeskFault}
 use Rattle.clr_desk.specs.declared.desk_fault.DeskFault.TheVariants.{Journal, NoMemory, Store}
 use Rattle.clr_desk.proofs.OneCommand.{near_after_is_after, near_is_whole}
-use Rattle.clr_level.specs.Journaling.{HearsLogin, IsAsItWas, IsNoted, IsUnnoted, Journals, Misses, command_of, end_owed, end_said, has_line, is_doubtful, left, line_of, said, text_owed, unasked, unkept, unwritten, with_link}
+use Rattle.clr_level.specs.Journaling.{IsAsItWas, IsNoted, IsUnnoted, Journals, Misses, command_of, end_owed, end_said, has_line, is_doubtful, left, line_of, said, text_owed, unasked, unkept, unwritten, with_link}
 use Rattle.clr_level.specs.Levelling.{EitherIsLevel, IsDue, IsKeptLevel, IsLeft, LevelIsKept, SettledIsWhatItSays}
 use Rattle.clr_desk.specs.Placing.{Placing}
 use Rattle.clr_level.specs.Placing.{IsAt, StaysShown}
@@ -278,10 +278,10 @@ module _ {K J C : Type 0} (kept : K → State) (has_place : Placing) (text : J �
       kept_level R new level.place all.more all.up (subst (λ (k : K). IsAt has_place (kept k) level.place) (sym same) level.placed) all.left_is
 
   -- the line of a command is added
-  noted_up : {shows : C → ℕ → Type 0} (R : Register) (old : Keeper K J C) (q : Command) (reply : Reply) (new : Keeper K J C)
-      (level : IsKeptLevel kept has_place text first start R old) → (noted : IsNoted shows text old q reply new) (all : IsSaid first start level.place R (said text old) (end_said old))
+  noted_up : {shows : C → ℕ → Type 0} (R : Register) (old : Keeper K J C) (login : Option (List ℕ)) (q : Command) (reply : Reply) (new : Keeper K J C)
+      (level : IsKeptLevel kept has_place text first start R old) → (noted : IsNoted shows text old login q reply new) (all : IsSaid first start level.place R (said text old) (end_said old))
       → IsUpTo first start level.place R (text new.journal) new.at (all.more ++ line_of (end_said old).sum noted.receipt q reply ∷ [])
-  noted_up R old q reply new level noted all =
+  noted_up R old login q reply new level noted all =
       let entry = line_of (end_said old).sum noted.receipt q reply in
       let up = command_more first start level.place R (said text old) (end_said old) all.more noted.receipt
       (of_command (command_of (end_said old).sum noted.receipt q reply)) (reply_data reply) all.up noted.number in
@@ -289,40 +289,40 @@ module _ {K J C : Type 0} (kept : K → State) (has_place : Placing) (text : J �
       (subst (λ (p : Place). IsUpTo first start level.place R (with_link (said text old) (end_said old).sum entry) p (all.more ++ entry ∷ [])) (sym noted.end_is) up)
 
   -- that of one that is accepted is the one that the register gives
-  due_up : {shows : C → ℕ → Type 0} (R : Register) (old : Keeper K J C) (q : Command) (reply : Reply) (new : Keeper K J C)
-      (level : IsKeptLevel kept has_place text first start R old) → (noted : IsNoted shows text old q reply new) (all : IsSaid first start level.place R (said text old) (end_said old))
+  due_up : {shows : C → ℕ → Type 0} (R : Register) (old : Keeper K J C) (login : Option (List ℕ)) (q : Command) (reply : Reply) (new : Keeper K J C)
+      (level : IsKeptLevel kept has_place text first start R old) → (noted : IsNoted shows text old login q reply new) (all : IsSaid first start level.place R (said text old) (end_said old))
       → reply ≡ Answer.reply (answer R q) → accepts reply ≡ true
       → IsUpTo first start level.place R (text new.journal) new.at (all.more ++ line_at R noted.receipt (of_command q) ∷ [])
-  due_up R old q reply new level noted all reply_is is =
+  due_up R old login q reply new level noted all reply_is is =
       subst (λ (e : Entry). IsUpTo first start level.place R (text new.journal) new.at (all.more ++ e ∷ []))
       (ap₂ (λ (p : Command) (r : Reply). carried noted.receipt (of_command p) (reply_data r)) (accepted_command (end_said old).sum noted.receipt q reply is) reply_is)
-      (noted_up R old q reply new level noted all)
+      (noted_up R old login q reply new level noted all)
 
   -- ---- one command
 
   module _ (takes : Taking K) (shows : C → ℕ → Type 0) (found : J → List ℕ) (may_leave : J → List ℕ → Type 0) (is_usable : J → Bool) where
-    abbrev Takes_it : Keeper K J C → Command → Reply → Result (Unit {0}) DeskFault → Keeper K J C → Type 0
+    abbrev Takes_it : Keeper K J C → Option (List ℕ) → Command → Reply → Result (Unit {0}) DeskFault → Keeper K J C → Type 0
     Takes_it = Journals takes kept has_place shows text found may_leave is_usable
 
     abbrev Level : Register → Keeper K J C → Type 0
     Level R it = IsKeptLevel kept has_place text first start R it
 
     -- a line whose command is not carried out, and that leaves this
-    left_due : (R : Register) (old : Keeper K J C) (q : Command) (reply : Reply) (new : Keeper K J C) → Level R old → IsNoted shows text old q reply new
+    left_due : (R : Register) (old : Keeper K J C) (login : Option (List ℕ)) (q : Command) (reply : Reply) (new : Keeper K J C) → Level R old → IsNoted shows text old login q reply new
         → StaysShown (kept old.keeper) (kept new.keeper) → reply ≡ Answer.reply (answer R q) → accepts reply ≡ true
         → ((more : List Entry) → IsDue R more → IsLeft new.last R more) → Level R new
-    left_due R old q reply new level noted stays reply_is is by =
+    left_due R old login q reply new level noted stays reply_is is by =
         let all = said_level R old noted.certain level in
-        kept_level R new level.place (all.more ++ line_at R noted.receipt (of_command q) ∷ []) (due_up R old q reply new level noted all reply_is is)
+        kept_level R new level.place (all.more ++ line_at R noted.receipt (of_command q) ∷ []) (due_up R old login q reply new level noted all reply_is is)
         (at_stays has_place (kept old.keeper) (kept new.keeper) level.place level.placed stays)
         (by (all.more ++ line_at R noted.receipt (of_command q) ∷ []) (due_now R all.more noted.receipt q reply all.none reply_is is))
 
-    left_refused : (R : Register) (old : Keeper K J C) (q : Command) (reply : Reply) (new : Keeper K J C) → Level R old → IsNoted shows text old q reply new
+    left_refused : (R : Register) (old : Keeper K J C) (login : Option (List ℕ)) (q : Command) (reply : Reply) (new : Keeper K J C) → Level R old → IsNoted shows text old login q reply new
         → StaysShown (kept old.keeper) (kept new.keeper) → accepts reply ≡ false → new.last ≡ Settled → Level R new
-    left_refused R old q reply new level noted stays is settled =
+    left_refused R old login q reply new level noted stays is settled =
         let all = said_level R old noted.certain level in
         let entry = line_of (end_said old).sum noted.receipt q reply in
-        kept_level R new level.place (all.more ++ entry ∷ []) (noted_up R old q reply new level noted all)
+        kept_level R new level.place (all.more ++ entry ∷ []) (noted_up R old login q reply new level noted all)
         (at_stays has_place (kept old.keeper) (kept new.keeper) level.place level.placed stays)
         (subst (λ (l : Last). IsLeft l R (all.more ++ entry ∷ [])) (sym settled)
         (refused_out all.more noted.receipt (of_command (command_of (end_said old).sum noted.receipt q reply)) (reply_data reply) all.none (accepted_data reply ∙ is)))
@@ -334,36 +334,36 @@ module _ {K J C : Type 0} (kept : K → State) (has_place : Placing) (text : J �
     same_keeper : (old new : K) → new ≡ old → StaysShown (kept old) (kept new)
     same_keeper old new same = subst (λ (k : K). StaysShown (kept old) (kept k)) (sym same) (shown_itself (kept old))
 
-    after_fault : (R : Register) (old : Keeper K J C) (q : Command) (reply : Reply) (fault : DeskFault) (new : Keeper K J C) → Level R old
-        → reply ≡ Answer.reply (answer R q) → Misses takes kept shows text found may_leave is_usable old q reply fault new → Level R new
-    after_fault R old q reply fault new level reply_is (unwritten (inl none) cause same) = unnoted_level R old new same none.unnoted level
-    after_fault R old q reply fault new level reply_is (unwritten (inr un) cause same) =
-        left_due R old q reply new level un.noted (same_keeper old.keeper new.keeper same) reply_is un.accepted
+    after_fault : (R : Register) (old : Keeper K J C) (login : Option (List ℕ)) (q : Command) (reply : Reply) (fault : DeskFault) (new : Keeper K J C) → Level R old
+        → reply ≡ Answer.reply (answer R q) → Misses takes kept shows text found may_leave is_usable old login q reply fault new → Level R new
+    after_fault R old login q reply fault new level reply_is (unwritten (inl none) cause same) = unnoted_level R old new same none.unnoted level
+    after_fault R old login q reply fault new level reply_is (unwritten (inr un) cause same) =
+        left_due R old login q reply new level un.noted (same_keeper old.keeper new.keeper same) reply_is un.accepted
         (λ more due. subst (λ (l : Last). IsLeft l R more) (sym un.doubtful) (inr due))
-    after_fault R old q reply fault new level reply_is (unkept noted last_is durable taken stays) = at (accepts reply) refl fault refl
+    after_fault R old login q reply fault new level reply_is (unkept noted last_is durable taken stays) = at (accepts reply) refl fault refl
       where
         at : (b : Bool) → accepts reply ≡ b → (f : DeskFault) → fault ≡ f → Level R new
         at false is f same =
-            left_refused R old q reply new level noted stays is (last_is ∙ ap (λ (b : Bool). left b fault) is)
+            left_refused R old login q reply new level noted stays is (last_is ∙ ap (λ (b : Bool). left b fault) is)
         at true is NoMemory same =
-            left_due R old q reply new level noted stays reply_is is
+            left_due R old login q reply new level noted stays reply_is is
             (λ more due. subst (λ (l : Last). IsLeft l R more) (sym (last_is ∙ (λ i. left (is i) (same i)))) due)
         at true is (Store cause) same =
-            left_due R old q reply new level noted stays reply_is is
+            left_due R old login q reply new level noted stays reply_is is
             (λ more due. subst (λ (l : Last). IsLeft l R more) (sym (last_is ∙ (λ i. left (is i) (same i)))) (inr due))
         at true is Journal same =
-            left_due R old q reply new level noted stays reply_is is
+            left_due R old login q reply new level noted stays reply_is is
             (λ more due. subst (λ (l : Last). IsLeft l R more) (sym (last_is ∙ (λ i. left (is i) (same i)))) (inr due))
-    after_fault R old q reply fault new level reply_is (unasked none same taken stays) = as_it_was R old new level same stays
+    after_fault R old login q reply fault new level reply_is (unasked none same taken stays) = as_it_was R old new level same stays
 
-    after_refusal : (R : Register) (old : Keeper K J C) (q : Command) (reply : Reply) (new : Keeper K J C) → Level R old → accepts reply ≡ false
-        → Takes_it old q reply (Ok tt) new → Level R new
-    after_refusal R old q reply new level is journals = at (has_line q reply) refl
+    after_refusal : (R : Register) (old : Keeper K J C) (login : Option (List ℕ)) (q : Command) (reply : Reply) (new : Keeper K J C) → Level R old → accepts reply ≡ false
+        → Takes_it old login q reply (Ok tt) new → Level R new
+    after_refusal R old login q reply new level is journals = at (has_line q reply) refl
       where
         at : (b : Bool) → has_line q reply ≡ b → Level R new
         at true has =
             let noted = journals.noted refl has in
-            left_refused R old q reply new level noted.0 (journals.stays refl is) is noted.1
+            left_refused R old login q reply new level noted.0 (journals.stays refl is) is noted.1
         at false none = as_it_was R old new level (journals.asked refl none) (journals.stays refl is)
 
     has_its_line : (q : Command) (reply : Reply) → accepts reply ≡ true → has_line q reply ≡ true
@@ -372,12 +372,12 @@ module _ {K J C : Type 0} (kept : K → State) (has_place : Placing) (text : J �
     has_its_line q (Shown view) is = absurd (cc is)
     has_its_line q (Refused refusal) is = absurd (cc is)
 
-    after_acceptance : (R S : Register) (old : Keeper K J C) (q : Command) (reply : Reply) (new : Keeper K J C) → Level R old
-        → reply ≡ Answer.reply (answer R q) → S ≡ after R q → accepts reply ≡ true → Takes_it old q reply (Ok tt) new → Level S new
-    after_acceptance R S old q reply new level reply_is register is journals =
+    after_acceptance : (R S : Register) (old : Keeper K J C) (login : Option (List ℕ)) (q : Command) (reply : Reply) (new : Keeper K J C) → Level R old
+        → reply ≡ Answer.reply (answer R q) → S ≡ after R q → accepts reply ≡ true → Takes_it old login q reply (Ok tt) new → Level S new
+    after_acceptance R S old login q reply new level reply_is register is journals =
         let noted = journals.noted refl (has_its_line q reply is) in
         let all = said_level R old noted.0.certain level in
-        let up = had_more first start level.place R (text new.journal) new.at all.more noted.0.receipt (of_command q) S (due_up R old q reply new level noted.0 all reply_is is)
+        let up = had_more first start level.place R (text new.journal) new.at all.more noted.0.receipt (of_command q) S (due_up R old login q reply new level noted.0 all reply_is is)
         all.none (accepts_due R q reply reply_is is) register in
         kept_level S new new.at [] up
         (at_moves has_place (kept old.keeper) (kept new.keeper) level.place new.at level.placed (journals.placed refl is))
@@ -386,19 +386,19 @@ module _ {K J C : Type 0} (kept : K → State) (has_place : Placing) (text : J �
     good_now : (R : Register) (it : Keeper K J C) → IsGood first → Level R it → IsGood R
     good_now R it good level = subst IsGood (sym level.level.run.register) (deeds_good _ first good)
 
-    one_keeps : (R S : Register) (old new : Keeper K J C) (q : Command) (result : Result Reply DeskFault) → IsGood first → Level R old
-        → IsAnswered Takes_it R old q result S new → Level S new
-    one_keeps R S old new q (Ok (Shown view)) good level is =
+    one_keeps : (R S : Register) (old new : Keeper K J C) (login : Option (List ℕ)) (q : Command) (result : Result Reply DeskFault) → IsGood first → Level R old
+        → IsAnswered Takes_it R old login q result S new → Level S new
+    one_keeps R S old new login q (Ok (Shown view)) good level is =
         subst (λ (X : Register). Level X new) (sym (is.unchanged refl)) (subst (Level R) (sym is.taken.0) level)
-    one_keeps R S old new q (Ok (Accepted card)) good level is =
-        after_acceptance R S old q (Accepted card) new level (is.reply ∙ ap (λ (a : Answer). a.reply) (near_is_whole R q (good_now R old good level)))
+    one_keeps R S old new login q (Ok (Accepted card)) good level is =
+        after_acceptance R S old login q (Accepted card) new level (is.reply ∙ ap (λ (a : Answer). a.reply) (near_is_whole R q (good_now R old good level)))
         (is.register ∙ near_after_is_after R q (good_now R old good level)) refl is.taken
-    one_keeps R S old new q (Ok (Added point)) good level is =
-        after_acceptance R S old q (Added point) new level (is.reply ∙ ap (λ (a : Answer). a.reply) (near_is_whole R q (good_now R old good level)))
+    one_keeps R S old new login q (Ok (Added point)) good level is =
+        after_acceptance R S old login q (Added point) new level (is.reply ∙ ap (λ (a : Answer). a.reply) (near_is_whole R q (good_now R old good level)))
         (is.register ∙ near_after_is_after R q (good_now R old good level)) refl is.taken
-    one_keeps R S old new q (Ok (Refused refusal)) good level is =
-        subst (λ (X : Register). Level X new) (sym (is.unchanged refl)) (after_refusal R old q (Refused refusal) new level refl is.taken)
-    one_keeps R S old new q (Err fault) good level is =
+    one_keeps R S old new login q (Ok (Refused refusal)) good level is =
+        subst (λ (X : Register). Level X new) (sym (is.unchanged refl)) (after_refusal R old login q (Refused refusal) new level refl is.taken)
+    one_keeps R S old new login q (Err fault) good level is =
         subst (λ (X : Register). Level X new) (sym (is.unchanged refl)) (at is.taken)
       where
         due : Reply
@@ -407,30 +407,23 @@ module _ {K J C : Type 0} (kept : K → State) (has_place : Placing) (text : J �
         whole_due : due ≡ Answer.reply (answer R q)
         whole_due = ap (λ (a : Answer). a.reply) (near_is_whole R q (good_now R old good level))
 
-        missed : (reply : Reply) → reply ≡ Answer.reply (answer R q) → Takes Takes_it old q reply (Err fault) new → Level R new
+        missed : (reply : Reply) → reply ≡ Answer.reply (answer R q) → Takes Takes_it old login q reply (Err fault) new → Level R new
         missed (Shown view) reply_is (same, none) = absurd (cc none)
-        missed (Accepted card) reply_is taken = after_fault R old q (Accepted card) fault new level reply_is (taken.missed fault refl)
-        missed (Refused refusal) reply_is taken = after_fault R old q (Refused refusal) fault new level reply_is (taken.missed fault refl)
-        missed (Added point) reply_is taken = after_fault R old q (Added point) fault new level reply_is (taken.missed fault refl)
+        missed (Accepted card) reply_is taken = after_fault R old login q (Accepted card) fault new level reply_is (taken.missed fault refl)
+        missed (Refused refusal) reply_is taken = after_fault R old login q (Refused refusal) fault new level reply_is (taken.missed fault refl)
+        missed (Added point) reply_is taken = after_fault R old login q (Added point) fault new level reply_is (taken.missed fault refl)
 
-        at : ((fault ≡ NoMemory) × (new ≡ old)) ⊎ Takes Takes_it old q due (Err fault) new → Level R new
+        at : ((fault ≡ NoMemory) × (new ≡ old)) ⊎ Takes Takes_it old login q due (Err fault) new → Level R new
         at (inl (memory, same)) = subst (Level R) (sym same) level
         at (inr taken) = missed due whole_due taken
 
-    login_keeps : (R S : Register) (old new : Keeper K J C) (it : Option (List ℕ)) → S ≡ R → HearsLogin old it new → Level R old → Level S new
-    login_keeps R S old new it same heard level =
-        subst (λ (X : Register). Level X new) (sym same)
-        (level_at R old new level (subst (λ (k : K). IsAt has_place (kept k) level.place) (sym heard.keeper) level.placed) heard.journal heard.at heard.last)
-
     keeps : (R S : Register) (old new : Keeper K J C) (given : List Given) → IsGood first → Level R old
-        → AreGiven Takes_it HearsLogin R old given S new → Level S new
+        → AreGiven Takes_it R old given S new → Level S new
     unfolding AreGiven
     keeps R S old new [] good level (register, keeper) =
         subst (λ (X : Register). Level X new) (sym register) (subst (Level R) (sym keeper) level)
-    keeps R S old new (command q result ∷ later) good level (between, middle, one, rest) =
-        keeps between S middle new later good (one_keeps R between old middle q result good level one) rest
-    keeps R S old new (login it ∷ later) good level (between, middle, (same, heard), rest) =
-        keeps between S middle new later good (login_keeps R between old middle it same heard level) rest
+    keeps R S old new (it ∷ later) good level (between, middle, one, rest) =
+        keeps between S middle new later good (one_keeps R between old middle it.login it.command it.result good level one) rest
 
 pub level_is_kept : {K J C : Type 0} (takes : Taking K) (kept : K → State) (has_place : Placing) (shows : C → ℕ → Type 0) (text found : J → List ℕ)
     (may_leave : J → List ℕ → Type 0) (is_usable : J → Bool) → LevelIsKept K J C takes kept has_place shows text found may_leave is_usable

@@ -24,7 +24,7 @@ use Rattle.clr_chain.specs.Level.{place_after}
 use Rattle.clr_desk.specs.Faults.{IsOfKeeper}
 use Rattle.clr_desk.specs.Kept.{Keeps}
 use Rattle.clr_desk.specs.Placing.{Placing}
-use Rattle.clr_desk.specs.Taking.{Came, Hearing, Taking}
+use Rattle.clr_desk.specs.Taking.{Came, Taking}
 use Rattle.clr_desk.specs.declared.desk.Desk.{Desk}
 use Rattle.clr_desk.specs.declared.desk_fault.DeskFault.{DeskFault}
 use Rattle.clr_desk.specs.declared.desk_fault.DeskFault.TheVariants.{Journal, NoMemory, Store}
@@ -234,7 +234,7 @@ module _ {K J C : Type 0} (kept : K → State) (has_place : Placing) (fails : De
   }
 
 -- and where it is durable, the deed was carried out below
-module _ {K J C : Type 0} (kept : K → State) (takes : Taking K) (hears : Hearing K) (has_place : Placing) (fails : DeskFault → Type 0) (shows : C → ℕ → Type 0)
+module _ {K J C : Type 0} (kept : K → State) (takes : Taking K) (has_place : Placing) (fails : DeskFault → Type 0) (shows : C → ℕ → Type 0)
     (text found : J → List ℕ) (may_leave : J → List ℕ → Type 0) (is_usable : J → Bool) (old mid new : Desk (Keeper K J C)) (deed : Deed)
     (reply : deed_reply old.book.register deed ≡ done) (book : mid.book ≡ old.book) (line : HasDurableLine shows text found may_leave old.store deed mid.store) where
   noted : IsDeedNoted shows text old.store deed mid.store
@@ -246,7 +246,6 @@ module _ {K J C : Type 0} (kept : K → State) (takes : Taking K) (hears : Heari
     number = noted.number;
     within = noted.within;
     login = noted.login;
-    passed = beside.login ∙ noted.passed;
     clock = beside.clock ∙ noted.clock;
     received = subst (λ (c : C). shows c noted.receipt.received) (sym beside.clock) noted.received;
     timed = noted.timed;
@@ -282,7 +281,7 @@ module _ {K J C : Type 0} (kept : K → State) (takes : Taking K) (hears : Heari
       (subst (λ (b : Shelved). P before.book before.store b new.store.keeper) (sym book_after)
       (subst (λ (k : K). P before.book before.store after.book k) (sym keeper_after) holds)))
 
-  module _ (came : Came) (below : CarriesBelow kept takes hears has_place fails mid new deed came) where
+  module _ (came : Came) (below : CarriesBelow kept takes has_place fails mid new deed came) where
     At : (P : Shelved → K → Shelved → K → Type 0) → P below.before.book below.before.store below.after.book below.after.store
         → P old.book old.store.keeper new.book new.store.keeper
     At P holds = from_below below.before below.after P below.book below.keeper below.book_after below.keeper_after holds
@@ -305,7 +304,7 @@ module _ {K J C : Type 0} (kept : K → State) (takes : Taking K) (hears : Heari
     keeps_as : Keeps (kept old.store.keeper) old.book.register (kept new.store.keeper) new.book.register
     keeps_as =
         At (λ b k c l. Keeps (kept k) b.register (kept l) c.register)
-        (goes_keep kept takes hears has_place below.before below.after below.carried.led)
+        (goes_keep kept takes has_place below.before below.after below.carried.led)
 
     -- the deed was taken
     register_as : IsGood old.book.register → OnOk came (new.book.register ≡ after_deed old.book.register deed)
@@ -334,7 +333,7 @@ module _ {K J C : Type 0} (kept : K → State) (takes : Taking K) (hears : Heari
     stays_as : OnErr came (StaysShown (kept old.store.keeper) (kept new.store.keeper))
     stays_as = At (λ b k c l. OnErr came (StaysShown (kept k) (kept l))) below.carried.stays
 
-  carried_journals : (came : Came) → CarriesBelow kept takes hears has_place fails mid new deed came
+  carried_journals : (came : Came) → CarriesBelow kept takes has_place fails mid new deed came
       → OnErr came (StaysShown (kept old.store.keeper) (kept new.store.keeper))
       → JournalsDeed kept fails shows text found may_leave is_usable old.store deed came new.store
   carried_journals (Ok nothing) below stays = record {
@@ -358,7 +357,7 @@ module _ {K J C : Type 0} (kept : K → State) (takes : Taking K) (hears : Heari
   carried_fault (Ok nothing) of = tt
   carried_fault (Err fault) of = too fails fault of
 
-  pub noted_carried : (came : Came) → CarriesBelow kept takes hears has_place fails mid new deed came
+  pub noted_carried : (came : Came) → CarriesBelow kept takes has_place fails mid new deed came
       → RenewsAt kept has_place fails shows text found may_leave is_usable old new deed came
   noted_carried came below = record {
     register = register_as came below;

@@ -12,7 +12,7 @@ use Rattle.clr_load.specs.TableEdits.{tables_edited}
 use Rattle.clr_load.specs.Stored.{HasTables}
 use Rattle.clr_desk.specs.Kept.{Keeps}
 use Rattle.clr_desk.specs.Placing.{AreEditedAt, CommitsAt, Placing}
-use Rattle.clr_desk.specs.Taking.{Came, Hearing, Taking}
+use Rattle.clr_desk.specs.Taking.{Came, Taking}
 use Rattle.clr_desk.specs.declared.desk.Desk.{Desk}
 use Rattle.clr_desk.specs.declared.desk_fault.DeskFault.{DeskFault}
 use Rattle.clr_desk.proofs.Keeping.{keeps_on}
@@ -49,18 +49,18 @@ moved_keeps has_place s t R place (Err fault) moved = record {
   closes = moved.crash.closes;
 }
 
-module _ {K : Type 0} (kept : K → State) (takes : Taking K) (hears : Hearing K) (has_place : Placing) where
-  pub rolls_by : (old new : Desk K) → GoesOn kept takes hears has_place old new → RollsTo kept takes hears has_place old new
+module _ {K : Type 0} (kept : K → State) (takes : Taking K) (has_place : Placing) where
+  pub rolls_by : (old new : Desk K) → GoesOn kept takes has_place old new → RollsTo kept takes has_place old new
   rolls_by old new led = record { before = new; led = led; book = refl; store = inl refl }
 
-  pub rolls_itself : (d : Desk K) → RollsTo kept takes hears has_place d d
-  rolls_itself d = rolls_by d d (goes_itself kept takes hears has_place d)
+  pub rolls_itself : (d : Desk K) → RollsTo kept takes has_place d d
+  rolls_itself d = rolls_by d d (goes_itself kept takes has_place d)
 
-  pub rolls_on : (old between new : Desk K) → GoesOn kept takes hears has_place old between → RollsTo kept takes hears has_place between new
-      → RollsTo kept takes hears has_place old new
+  pub rolls_on : (old between new : Desk K) → GoesOn kept takes has_place old between → RollsTo kept takes has_place between new
+      → RollsTo kept takes has_place old new
   rolls_on old between new led rolls = record {
     before = rolls.before;
-    led = goes_further kept takes hears has_place old between rolls.before led rolls.led;
+    led = goes_further kept takes has_place old between rolls.before led rolls.led;
     book = rolls.book;
     store = rolls.store;
   }
@@ -72,12 +72,12 @@ module _ {K : Type 0} (kept : K → State) (takes : Taking K) (hears : Hearing K
       keeps_on s (kept before) (kept after) S R R keeps (moved_keeps has_place (kept before) (kept after) R place came moved)
 
   -- what deeds keep is kept
-  pub rolls_keep : (old new : Desk K) → RollsTo kept takes hears has_place old new
+  pub rolls_keep : (old new : Desk K) → RollsTo kept takes has_place old new
       → Keeps (kept old.store) old.book.register (kept new.store) new.book.register
   rolls_keep old new rolls =
       subst (λ (b : Shelved). Keeps (kept old.store) old.book.register (kept new.store) b.register) (sym rolls.book)
       (store_keeps rolls.before.book.register rolls.before.store new.store rolls.store (kept old.store) old.book.register
-      (goes_keep kept takes hears has_place old rolls.before rolls.led))
+      (goes_keep kept takes has_place old rolls.before rolls.led))
 
 -- ---- a desk whose keeper was called to move its place
 
@@ -109,11 +109,11 @@ module _ {K : Type 0} (kept : K → State) (has_place : Placing) (old new : Desk
       (shows_still has_place (kept old.store) (kept new.store) [] at fault
       (subst (CommitsAt {X = Unit {0}} has_place (kept old.store) (kept new.store) [] at) is (moved_there came moved))))
 
-  pub move_rolls : (takes : Taking K) (hears : Hearing K) (came : Came) → CommitsAt {X = Unit {0}} has_place (kept before) (kept after) [] at came
-      → RollsTo kept takes hears has_place old new
-  move_rolls takes hears came moved = record {
+  pub move_rolls : (takes : Taking K) (came : Came) → CommitsAt {X = Unit {0}} has_place (kept before) (kept after) [] at came
+      → RollsTo kept takes has_place old new
+  move_rolls takes came moved = record {
     before = old;
-    led = goes_itself kept takes hears has_place old;
+    led = goes_itself kept takes has_place old;
     book = book;
     store = inr (at, came, moved_there came moved);
   }

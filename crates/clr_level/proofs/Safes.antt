@@ -17,11 +17,11 @@ use Rattle.clr_chain.specs.Chain.{chain_text}
 use Rattle.clr_chain.specs.Level.{IsRunOf, place_after}
 use Rattle.clr_chain.proofs.LevelKept.{carried_out-append}
 use Rattle.clr_book.specs.Own.{asked_answer}
-use Rattle.clr_desk.specs.Given.{AreGiven, Given, IsAnswered, command, login}
+use Rattle.clr_desk.specs.Given.{AreGiven, Given, IsAnswered}
 use Rattle.clr_desk.specs.Placing.{Placing}
 use Rattle.clr_desk.specs.Taking.{Takes, Taking, TakesOne}
 use Rattle.clr_desk.specs.declared.desk_fault.DeskFault.{DeskFault}
-use Rattle.clr_level.specs.Journaling.{HearsLogin, IsSafe, Journals, Misses, has_line, unasked, unkept, unwritten}
+use Rattle.clr_level.specs.Journaling.{IsSafe, Journals, Misses, has_line, unasked, unkept, unwritten}
 use Rattle.clr_level.specs.Levelling.{IsKeptLevel}
 use Rattle.clr_level.specs.Placing.{IsAt, StaysShown}
 use Rattle.clr_level.specs.Restarting.{DueIsSafe, HasLines, IsSafeAt, SafeIsKept}
@@ -33,7 +33,7 @@ use Rattle.clr_level.proofs.Places.{at_moves, at_stays, shown_itself}
 
 module _ {K J C : Type 0} (takes : Taking K) (kept : K → State) (has_place : Placing) (shows : C → ℕ → Type 0) (text found : J → List ℕ)
     (may_leave : J → List ℕ → Type 0) (is_usable : J → Bool) (first : Register) (start : Place) where
-  abbrev It : Keeper K J C → Command → Reply → Result (Unit {0}) DeskFault → Keeper K J C → Type 0
+  abbrev It : Keeper K J C → Option (List ℕ) → Command → Reply → Result (Unit {0}) DeskFault → Keeper K J C → Type 0
   It = Journals takes kept has_place shows text found may_leave is_usable
 
   abbrev Level : Register → Keeper K J C → Type 0
@@ -57,9 +57,9 @@ module _ {K J C : Type 0} (takes : Taking K) (kept : K → State) (has_place : P
       subst (λ (X : Register). Safe X new) (sym register) (subst (λ (k : Keeper K J C). Safe R k) (sym same) safe)
 
   -- a register moves to the end
-  moves_safe : (R S : Register) (old new : Keeper K J C) (q : Command) (reply : Reply) → Level R old → Level S new → is_accepted reply ≡ true → has_line q reply ≡ true
-      → It old q reply (Ok tt) new → Safe S new
-  moves_safe R S old new q reply before level is has journals =
+  moves_safe : (R S : Register) (old new : Keeper K J C) (login : Option (List ℕ)) (q : Command) (reply : Reply) → Level R old → Level S new → is_accepted reply ≡ true → has_line q reply ≡ true
+      → It old login q reply (Ok tt) new → Safe S new
+  moves_safe R S old new login q reply before level is has journals =
       let its = level.level in
       let end : new.at ≡ place_after start level.entries = level.end_is in
       record {
@@ -70,53 +70,45 @@ module _ {K J C : Type 0} (takes : Taking K) (kept : K → State) (has_place : P
         safe = durable_safe text may_leave (chain_text start level.entries) new.journal level.text_is (journals.durable refl is);
       }
 
-  after_fault : (R S : Register) (old new : Keeper K J C) (q : Command) (reply : Reply) (fault : DeskFault) → S ≡ R → It old q reply (Err fault) new → Safe R old → Safe S new
-  after_fault R S old new q reply fault same journals safe = at (journals.missed fault refl)
+  after_fault : (R S : Register) (old new : Keeper K J C) (login : Option (List ℕ)) (q : Command) (reply : Reply) (fault : DeskFault) → S ≡ R → It old login q reply (Err fault) new → Safe R old → Safe S new
+  after_fault R S old new login q reply fault same journals safe = at (journals.missed fault refl)
     where
-      at : Misses takes kept shows text found may_leave is_usable old q reply fault new → Safe S new
+      at : Misses takes kept shows text found may_leave is_usable old login q reply fault new → Safe S new
       at (unwritten un cause keeper) =
           stays_safe R S old new same (subst (λ (k : K). StaysShown (kept old.keeper) (kept k)) (sym keeper) (shown_itself (kept old.keeper))) journals.safe safe
       at (unkept noted last durable taken stays) = stays_safe R S old new same stays journals.safe safe
       at (unasked none was taken stays) = stays_safe R S old new same stays journals.safe safe
 
-  missed : (R S : Register) (old new : Keeper K J C) (q : Command) (reply : Reply) (fault : DeskFault) → S ≡ R → Takes It old q reply (Err fault) new → Safe R old → Safe S new
-  missed R S old new q (Shown view) fault same taken safe = as_it_was R S old new same taken.0 safe
-  missed R S old new q (Accepted card) fault same taken safe = after_fault R S old new q (Accepted card) fault same taken safe
-  missed R S old new q (Refused refusal) fault same taken safe = after_fault R S old new q (Refused refusal) fault same taken safe
-  missed R S old new q (Added point) fault same taken safe = after_fault R S old new q (Added point) fault same taken safe
+  missed : (R S : Register) (old new : Keeper K J C) (login : Option (List ℕ)) (q : Command) (reply : Reply) (fault : DeskFault) → S ≡ R → Takes It old login q reply (Err fault) new → Safe R old → Safe S new
+  missed R S old new login q (Shown view) fault same taken safe = as_it_was R S old new same taken.0 safe
+  missed R S old new login q (Accepted card) fault same taken safe = after_fault R S old new login q (Accepted card) fault same taken safe
+  missed R S old new login q (Refused refusal) fault same taken safe = after_fault R S old new login q (Refused refusal) fault same taken safe
+  missed R S old new login q (Added point) fault same taken safe = after_fault R S old new login q (Added point) fault same taken safe
 
-  one_safe : (R S : Register) (old new : Keeper K J C) (q : Command) (result : Result Reply DeskFault) → Level R old → Level S new → IsAnswered It R old q result S new
+  one_safe : (R S : Register) (old new : Keeper K J C) (login : Option (List ℕ)) (q : Command) (result : Result Reply DeskFault) → Level R old → Level S new → IsAnswered It R old login q result S new
       → Safe R old → Safe S new
-  one_safe R S old new q (Ok (Shown view)) before level is safe = as_it_was R S old new (is.unchanged refl) is.taken.0 safe
-  one_safe R S old new q (Ok (Refused refusal)) before level is safe =
+  one_safe R S old new login q (Ok (Shown view)) before level is safe = as_it_was R S old new (is.unchanged refl) is.taken.0 safe
+  one_safe R S old new login q (Ok (Refused refusal)) before level is safe =
       stays_safe R S old new (is.unchanged refl) (is.taken.stays refl refl) is.taken.safe safe
-  one_safe R S old new q (Ok (Accepted card)) before level is safe = moves_safe R S old new q (Accepted card) before level refl refl is.taken
-  one_safe R S old new q (Ok (Added point)) before level is safe = moves_safe R S old new q (Added point) before level refl refl is.taken
-  one_safe R S old new q (Err fault) before level is safe = at is.taken
+  one_safe R S old new login q (Ok (Accepted card)) before level is safe = moves_safe R S old new login q (Accepted card) before level refl refl is.taken
+  one_safe R S old new login q (Ok (Added point)) before level is safe = moves_safe R S old new login q (Added point) before level refl refl is.taken
+  one_safe R S old new login q (Err fault) before level is safe = at is.taken
     where
-      at : TakesOne It R old q (Err fault) new → Safe S new
+      at : TakesOne It R old login q (Err fault) new → Safe S new
       at (inl (memory, same)) = as_it_was R S old new (is.unchanged refl) same safe
-      at (inr taken) = missed R S old new q (Answer.reply (asked_answer R q)) fault (is.unchanged refl) taken safe
+      at (inr taken) = missed R S old new login q (Answer.reply (asked_answer R q)) fault (is.unchanged refl) taken safe
 
-  login_safe : (R S : Register) (old new : Keeper K J C) (it : Option (List ℕ)) → S ≡ R → HearsLogin old it new → Safe R old → Safe S new
-  login_safe R S old new it same heard safe =
-      stays_safe R S old new same (subst (λ (k : K). StaysShown (kept old.keeper) (kept k)) (sym heard.keeper) (shown_itself (kept old.keeper)))
-      (λ front was. subst (λ (j : J). IsSafe text may_leave front j) (sym heard.journal) was) safe
-
-  one_level : (R S : Register) (old new : Keeper K J C) (given : Given) → IsGood first → Level R old → AreGiven It HearsLogin R old (given ∷ []) S new → Level S new
+  one_level : (R S : Register) (old new : Keeper K J C) (given : Given) → IsGood first → Level R old → AreGiven It R old (given ∷ []) S new → Level S new
   one_level R S old new given good level are =
       level_is_kept takes kept has_place shows text found may_leave is_usable first R S start old new (given ∷ []) good level are
 
   keeps_safe : (R S : Register) (old new : Keeper K J C) (given : List Given) → IsGood first → Level R old → Safe R old
-      → AreGiven It HearsLogin R old given S new → Safe S new
+      → AreGiven It R old given S new → Safe S new
   unfolding AreGiven
   keeps_safe R S old new [] good level safe (register, keeper) = as_it_was R S old new register keeper safe
-  keeps_safe R S old new (command q result ∷ later) good level safe (between, middle, one, rest) =
-      let next : Level between middle = one_level R between old middle (command q result) good level (between, middle, one, (refl, refl)) in
-      keeps_safe between S middle new later good next (one_safe R between old middle q result level next one safe) rest
-  keeps_safe R S old new (login it ∷ later) good level safe (between, middle, (same, heard), rest) =
-      let next : Level between middle = one_level R between old middle (login it) good level (between, middle, (same, heard), (refl, refl)) in
-      keeps_safe between S middle new later good next (login_safe R between old middle it same heard safe) rest
+  keeps_safe R S old new (it ∷ later) good level safe (between, middle, one, rest) =
+      let next : Level between middle = one_level R between old middle it good level (between, middle, one, (refl, refl)) in
+      keeps_safe between S middle new later good next (one_safe R between old middle it.login it.command it.result level next one safe) rest
 
 pub safe_is_kept : {K J C : Type 0} (takes : Taking K) (kept : K → State) (has_place : Placing) (shows : C → ℕ → Type 0) (text found : J → List ℕ)
     (may_leave : J → List ℕ → Type 0) (is_usable : J → Bool) → SafeIsKept K J C takes kept has_place shows text found may_leave is_usable

@@ -1,5 +1,5 @@
 -- What came of a call is what is said of a keeper with a journal.
-use Rattle.std.proofs.Common.{◌≡◌, ◌∙◌, ℕ, Bool, true, false, not, ◌||◌, List, Ok, Err, refl, sym, subst, ap}
+use Rattle.std.proofs.Common.{◌≡◌, ◌∙◌, ℕ, Bool, true, false, not, ◌||◌, List, Option, None, Ok, Err, refl, sym, subst, ap}
 use Rattle.sqlite.specs.State.{State}
 use Rattle.sqlite_disk.specs.Disk.{Only}
 use Rattle.clr_rules.specs.declared.change.Edit.{Edit}
@@ -48,13 +48,12 @@ never_settled Journal is = absurd (cc is)
 
 module _ {K J C : Type 0} (takes : Taking K) (kept : K → State) (has_place : Placing) (shows : C → ℕ → Type 0)
     (text found : J → List ℕ) (may_leave : J → List ℕ → Type 0) (is_usable : J → Bool) where
-  noted_as : (old mid new : Keeper K J C) (q : Command) (reply : Reply) → IsNoted shows text old q reply mid → IsBeside mid new → IsNoted shows text old q reply new
-  noted_as old mid new q reply noted beside = record {
+  noted_as : (old mid new : Keeper K J C) (login : Option (List ℕ)) (q : Command) (reply : Reply) → IsNoted shows text old login q reply mid → IsBeside mid new → IsNoted shows text old login q reply new
+  noted_as old mid new login q reply noted beside = record {
     receipt = noted.receipt;
     number = noted.number;
     within = noted.within;
     login = noted.login;
-    passed = beside.login ∙ noted.passed;
     clock = beside.clock ∙ noted.clock;
     received = subst (λ (c : C). shows c noted.receipt.received) (sym beside.clock) noted.received;
     text_is = ap text beside.journal ∙ noted.text_is;
@@ -76,11 +75,11 @@ module _ {K J C : Type 0} (takes : Taking K) (kept : K → State) (has_place : P
   withdrawn_as old mid new beside last was owed settled =
       subst (λ (j : J). IsSafe text may_leave (said text old) j) (sym beside.journal) (was owed (sym last ∙ settled))
 
-  pub unwritten_is : (old : Keeper K J C) (q : Command) (reply : Reply) (fault : DeskFault) (new : Keeper K J C)
-      → IsUnwritten shows text found may_leave old q reply fault new → DoubtHasCause is_usable old new → new.keeper ≡ old.keeper
+  pub unwritten_is : (old : Keeper K J C) (login : Option (List ℕ)) (q : Command) (reply : Reply) (fault : DeskFault) (new : Keeper K J C)
+      → IsUnwritten shows text found may_leave old login q reply fault new → DoubtHasCause is_usable old new → new.keeper ≡ old.keeper
       → (IsSound text found may_leave old → IsSound text found may_leave new) → StaySafe text may_leave old.journal new.journal
-      → IsWithdrawn text may_leave old new → Journals takes kept has_place shows text found may_leave is_usable old q reply (Err fault) new
-  unwritten_is old q reply fault new un cause same sound safe withdrawn = record {
+      → IsWithdrawn text may_leave old new → Journals takes kept has_place shows text found may_leave is_usable old login q reply (Err fault) new
+  unwritten_is old login q reply fault new un cause same sound safe withdrawn = record {
     noted = λ ok. absurd (cc ok);
     asked = λ ok. absurd (cc ok);
     durable = λ ok. absurd (cc ok);
@@ -89,21 +88,21 @@ module _ {K J C : Type 0} (takes : Taking K) (kept : K → State) (has_place : P
     taken = λ ok. absurd (cc ok);
     missed = λ f is.
         let same_fault : fault ≡ f = cc is in
-        subst (λ (g : DeskFault). Misses takes kept shows text found may_leave is_usable old q reply g new) same_fault (unwritten un cause same);
+        subst (λ (g : DeskFault). Misses takes kept shows text found may_leave is_usable old login q reply g new) same_fault (unwritten un cause same);
     sound = sound;
     safe = safe;
     withdrawn = withdrawn;
   }
 
   -- an accepted command, whose line is durable
-  pub kept_is : (old mid new : Keeper K J C) (q : Command) (reply : Reply) (edits : List Edit) → is_accepted reply ≡ true → IsNoted shows text old q reply mid
+  pub kept_is : (old mid new : Keeper K J C) (login : Option (List ℕ)) (q : Command) (reply : Reply) (edits : List Edit) → is_accepted reply ≡ true → IsNoted shows text old login q reply mid
       → mid.last ≡ Settled → IsDurable text may_leave mid.journal → (IsSound text found may_leave old → IsSound text found may_leave mid)
       → StaySafe text may_leave old.journal mid.journal → IsWithdrawn text may_leave old mid
-      → mid.keeper ≡ old.keeper → IsBeside mid new → new.last ≡ mid.last → takes mid.keeper q reply (Ok tt) new.keeper
+      → mid.keeper ≡ old.keeper → IsBeside mid new → new.last ≡ mid.last → takes mid.keeper None q reply (Ok tt) new.keeper
       → CommitsAt {X = Unit {0}} has_place (kept mid.keeper) (kept new.keeper) edits mid.at (Ok tt)
-      → Journals takes kept has_place shows text found may_leave is_usable old q reply (Ok tt) new
-  kept_is old mid new q reply edits is noted settled durable sound safe withdrawn same beside last taken commits = record {
-    noted = λ ok has. (noted_as old mid new q reply noted beside, last ∙ settled);
+      → Journals takes kept has_place shows text found may_leave is_usable old login q reply (Ok tt) new
+  kept_is old mid new login q reply edits is noted settled durable sound safe withdrawn same beside last taken commits = record {
+    noted = λ ok has. (noted_as old mid new login q reply noted beside, last ∙ settled);
     asked = λ ok none. true_false (has_line q reply) (has_its_line q reply is) none;
     durable = λ ok accepted. subst (IsDurable text may_leave) (sym beside.journal) durable;
     placed = λ ok accepted.
@@ -111,20 +110,20 @@ module _ {K J C : Type 0} (takes : Taking K) (kept : K → State) (has_place : P
         (subst (λ (k : K). ComesTo has_place (kept k) (kept new.keeper) mid.at) same
         (comes has_place (kept mid.keeper) (kept new.keeper) edits mid.at commits));
     stays = λ ok refused. true_false (is_accepted reply) is refused;
-    taken = λ ok. subst (λ (k : K). takes k q reply (Ok tt) new.keeper) same taken;
+    taken = λ ok. subst (λ (k : K). takes k None q reply (Ok tt) new.keeper) same taken;
     missed = λ f is_fault. absurd (cc is_fault);
     sound = λ was. sound_as mid new beside (sound was);
     safe = λ front was. safe_as mid new beside front (safe front was);
     withdrawn = withdrawn_as old mid new beside last withdrawn;
   }
 
-  pub unkept_is : (old mid new : Keeper K J C) (q : Command) (reply : Reply) (fault : DeskFault) (edits : List Edit) → is_accepted reply ≡ true
-      → IsNoted shows text old q reply mid → IsDurable text may_leave mid.journal → (IsSound text found may_leave old → IsSound text found may_leave mid)
+  pub unkept_is : (old mid new : Keeper K J C) (login : Option (List ℕ)) (q : Command) (reply : Reply) (fault : DeskFault) (edits : List Edit) → is_accepted reply ≡ true
+      → IsNoted shows text old login q reply mid → IsDurable text may_leave mid.journal → (IsSound text found may_leave old → IsSound text found may_leave mid)
       → StaySafe text may_leave old.journal mid.journal
-      → mid.keeper ≡ old.keeper → IsBeside mid new → new.last ≡ left_by fault → takes mid.keeper q reply (Err fault) new.keeper
+      → mid.keeper ≡ old.keeper → IsBeside mid new → new.last ≡ left_by fault → takes mid.keeper None q reply (Err fault) new.keeper
       → CommitsAt {X = Unit {0}} has_place (kept mid.keeper) (kept new.keeper) edits mid.at (Err fault)
-      → Journals takes kept has_place shows text found may_leave is_usable old q reply (Err fault) new
-  unkept_is old mid new q reply fault edits is noted durable sound safe same beside last taken commits = record {
+      → Journals takes kept has_place shows text found may_leave is_usable old login q reply (Err fault) new
+  unkept_is old mid new login q reply fault edits is noted durable sound safe same beside last taken commits = record {
     noted = λ ok. absurd (cc ok);
     asked = λ ok. absurd (cc ok);
     durable = λ ok. absurd (cc ok);
@@ -133,10 +132,10 @@ module _ {K J C : Type 0} (takes : Taking K) (kept : K → State) (has_place : P
     taken = λ ok. absurd (cc ok);
     missed = λ f is_fault.
         let same_fault : fault ≡ f = cc is_fault in
-        subst (λ (g : DeskFault). Misses takes kept shows text found may_leave is_usable old q reply g new) same_fault
-        (unkept (noted_as old mid new q reply noted beside) (last ∙ ap (λ (b : Bool). left b fault) (sym is))
+        subst (λ (g : DeskFault). Misses takes kept shows text found may_leave is_usable old login q reply g new) same_fault
+        (unkept (noted_as old mid new login q reply noted beside) (last ∙ ap (λ (b : Bool). left b fault) (sym is))
         (λ accepted. subst (IsDurable text may_leave) (sym beside.journal) durable)
-        (subst (λ (k : K). takes k q reply (Err fault) new.keeper) same taken)
+        (subst (λ (k : K). takes k None q reply (Err fault) new.keeper) same taken)
         (subst (λ (k : K). StaysShown (kept k) (kept new.keeper)) same
         (shows_still has_place (kept mid.keeper) (kept new.keeper) edits mid.at fault commits)));
     sound = λ was. sound_as mid new beside (sound was);
@@ -145,50 +144,50 @@ module _ {K J C : Type 0} (takes : Taking K) (kept : K → State) (has_place : P
   }
 
   -- a refused one with its line
-  pub refused_is : (old mid new : Keeper K J C) (q : Command) (reply : Reply) (came : Came) → is_refused reply ≡ true → is_show q.kind ≡ false
-      → IsNoted shows text old q reply mid → mid.last ≡ Settled → (IsSound text found may_leave old → IsSound text found may_leave mid)
+  pub refused_is : (old mid new : Keeper K J C) (login : Option (List ℕ)) (q : Command) (reply : Reply) (came : Came) → is_refused reply ≡ true → is_show q.kind ≡ false
+      → IsNoted shows text old login q reply mid → mid.last ≡ Settled → (IsSound text found may_leave old → IsSound text found may_leave mid)
       → StaySafe text may_leave old.journal mid.journal → IsWithdrawn text may_leave old mid
-      → mid.keeper ≡ old.keeper → IsBeside mid new → new.last ≡ mid.last → takes mid.keeper q reply came new.keeper
-      → Stays (kept mid.keeper) (kept new.keeper) → Journals takes kept has_place shows text found may_leave is_usable old q reply came new
-  refused_is old mid new q reply came refused asks noted settled sound safe withdrawn same beside last taken stays =
+      → mid.keeper ≡ old.keeper → IsBeside mid new → new.last ≡ mid.last → takes mid.keeper None q reply came new.keeper
+      → Stays (kept mid.keeper) (kept new.keeper) → Journals takes kept has_place shows text found may_leave is_usable old login q reply came new
+  refused_is old mid new login q reply came refused asks noted settled sound safe withdrawn same beside last taken stays =
       let refusal : is_accepted reply ≡ false = refused_reply reply refused in
       let shown : StaysShown (kept old.keeper) (kept new.keeper) =
       subst (λ (k : K). StaysShown (kept k) (kept new.keeper)) same (stays_shown (kept mid.keeper) (kept new.keeper) stays) in
-      let called : takes old.keeper q reply came new.keeper = subst (λ (k : K). takes k q reply came new.keeper) same taken in
+      let called : takes old.keeper None q reply came new.keeper = subst (λ (k : K). takes k None q reply came new.keeper) same taken in
       record {
-        noted = λ ok has. (noted_as old mid new q reply noted beside, last ∙ settled);
+        noted = λ ok has. (noted_as old mid new login q reply noted beside, last ∙ settled);
         asked = λ ok none. true_false (has_line q reply) (has_one_too q reply asks refusal) none;
         durable = λ ok accepted. true_false (is_accepted reply) accepted refusal;
         placed = λ ok accepted. true_false (is_accepted reply) accepted refusal;
         stays = λ ok refused_too. shown;
-        taken = λ ok. subst (λ (c : Came). takes old.keeper q reply c new.keeper) ok called;
+        taken = λ ok. subst (λ (c : Came). takes old.keeper None q reply c new.keeper) ok called;
         missed = λ f is.
-            unkept (noted_as old mid new q reply noted beside) (last ∙ settled ∙ ap (λ (b : Bool). left b f) (sym refusal))
+            unkept (noted_as old mid new login q reply noted beside) (last ∙ settled ∙ ap (λ (b : Bool). left b f) (sym refusal))
             (λ accepted. true_false (is_accepted reply) accepted refusal)
-            (subst (λ (c : Came). takes old.keeper q reply c new.keeper) is called) shown;
+            (subst (λ (c : Came). takes old.keeper None q reply c new.keeper) is called) shown;
         sound = λ was. sound_as mid new beside (sound was);
         safe = λ front was. safe_as mid new beside front (safe front was);
         withdrawn = withdrawn_as old mid new beside last withdrawn;
       }
 
   -- one that asks
-  pub asked_is : (old new : Keeper K J C) (q : Command) (reply : Reply) (came : Came) → is_refused reply ≡ true → is_show q.kind ≡ true
-      → IsBeside old new → new.last ≡ old.last → takes old.keeper q reply came new.keeper
-      → Stays (kept old.keeper) (kept new.keeper) → Journals takes kept has_place shows text found may_leave is_usable old q reply came new
-  asked_is old new q reply came refused asks beside last taken stays =
+  pub asked_is : (old new : Keeper K J C) (login : Option (List ℕ)) (q : Command) (reply : Reply) (came : Came) → is_refused reply ≡ true → is_show q.kind ≡ true
+      → IsBeside old new → new.last ≡ old.last → takes old.keeper None q reply came new.keeper
+      → Stays (kept old.keeper) (kept new.keeper) → Journals takes kept has_place shows text found may_leave is_usable old login q reply came new
+  asked_is old new login q reply came refused asks beside last taken stays =
       let refusal : is_accepted reply ≡ false = refused_reply reply refused in
       let shown : StaysShown (kept old.keeper) (kept new.keeper) = stays_shown (kept old.keeper) (kept new.keeper) stays in
       let same : IsAsItWas old new =
-      record { journal = beside.journal; clock = beside.clock; login = beside.login; at = beside.at; last = last } in
+      record { journal = beside.journal; clock = beside.clock; at = beside.at; last = last } in
       record {
         noted = λ ok has. true_false (has_line q reply) has (has_none q reply asks refusal);
         asked = λ ok none. same;
         durable = λ ok accepted. true_false (is_accepted reply) accepted refusal;
         placed = λ ok accepted. true_false (is_accepted reply) accepted refusal;
         stays = λ ok refused_too. shown;
-        taken = λ ok. subst (λ (c : Came). takes old.keeper q reply c new.keeper) ok taken;
+        taken = λ ok. subst (λ (c : Came). takes old.keeper None q reply c new.keeper) ok taken;
         missed = λ f is.
-            unasked (has_none q reply asks refusal) same (subst (λ (c : Came). takes old.keeper q reply c new.keeper) is taken) shown;
+            unasked (has_none q reply asks refusal) same (subst (λ (c : Came). takes old.keeper None q reply c new.keeper) is taken) shown;
         sound = λ was. sound_as old new beside was;
         safe = λ front was. safe_as old new beside front was;
         withdrawn = λ owed settled. owed_not_settled old.last owed (sym last ∙ settled);

@@ -14,7 +14,7 @@ use Rattle.clr_journal.specs.Answered.{deed_reply}
 use Rattle.clr_journal.specs.Line.{is_accepted}
 use Rattle.clr_desk.specs.Faults.{IsOfKeeper}
 use Rattle.clr_desk.specs.Placing.{Placing}
-use Rattle.clr_desk.specs.Taking.{Came, Hearing, Taking}
+use Rattle.clr_desk.specs.Taking.{Came, Taking}
 use Rattle.clr_desk.specs.declared.desk.Desk.{Desk}
 use Rattle.clr_desk.specs.declared.desk_fault.DeskFault.{DeskFault}
 use Rattle.clr_level.specs.Crash.{KeepsTables}
@@ -32,7 +32,7 @@ IsTaken R deed = IsGood R × (is_accepted (deed_reply R deed) ≡ true)
 
 -- A DEED IS CARRIED OUT, where a good register accepts it, and what keeps its tables shows the place
 -- then; or a fault leaves all as it is. A crash leaves what it left before, or both
-pub record CarriesDeed {K : Type 0} (kept : K → State) (takes : Taking K) (hears : Hearing K)
+pub record CarriesDeed {K : Type 0} (kept : K → State) (takes : Taking K)
     (has_place : Placing) (fails : DeskFault → Type 0) (old new : Desk K) (deed : Deed)
     (place : Place) (came : Came) : Type 0 where
   pub register : IsTaken old.book.register deed
@@ -45,5 +45,5 @@ pub record CarriesDeed {K : Type 0} (kept : K → State) (takes : Taking K) (hea
   pub stays : OnErr came (StaysShown (kept old.store) (kept new.store))
   pub crash : Survives (kept old.store) (kept new.store)
       (AreDoneAt has_place (kept old.store).now old.book.register deed place)
-  pub led : GoesOn kept takes hears has_place old new
+  pub led : GoesOn kept takes has_place old new
   pub fault : IfErr came (IsOfKeeper fails)

@@ -27,7 +27,7 @@ use Rattle.clr_desk.specs.Faults.{IsOfKeeper}
 use Rattle.clr_desk.specs.Given.{LeadsTo}
 use Rattle.clr_desk.specs.Placing.{CommitsAt, Placing}
 use Rattle.clr_desk.specs.Renewing.{ComesTo as Renews}
-use Rattle.clr_desk.specs.Taking.{Came, Hearing, Taking}
+use Rattle.clr_desk.specs.Taking.{Came, Taking}
 use Rattle.clr_desk.specs.declared.desk.Desk.{Desk}
 use Rattle.clr_desk.specs.declared.desk_fault.DeskFault.{DeskFault}
 use Rattle.clr_level.specs.Placing.{ArePlacedAt, ComesTo, IsAt, StaysShown}
@@ -214,23 +214,23 @@ pub record IsRenewed {K : Type 0} (kept : K → State) (has_place : Placing) (ol
 
 -- A DESK GOES THROUGH THESE STATES: to each it came by commands that it was given, or by an update
 -- or an archive
-unfoldable pub GoesThrough : {K : Type 0} → (K → State) → Taking K → Hearing K → Placing → Desk K
+unfoldable pub GoesThrough : {K : Type 0} → (K → State) → Taking K → Placing → Desk K
     → List (Desk K) → Desk K → Type 0
-GoesThrough kept takes hears has_place old [] new = new ≡ old
-GoesThrough kept takes hears has_place old (next ∷ later) new =
-    (LeadsTo kept takes hears old next ⊎ IsRenewed kept has_place old next)
-    × GoesThrough kept takes hears has_place next later new
+GoesThrough kept takes has_place old [] new = new ≡ old
+GoesThrough kept takes has_place old (next ∷ later) new =
+    (LeadsTo kept takes old next ⊎ IsRenewed kept has_place old next)
+    × GoesThrough kept takes has_place next later new
 
-abbrev pub GoesOn : {K : Type 0} → (K → State) → Taking K → Hearing K → Placing → Desk K → Desk K
+abbrev pub GoesOn : {K : Type 0} → (K → State) → Taking K → Placing → Desk K → Desk K
     → Type 0
-GoesOn {K} kept takes hears has_place old new = (through : List (Desk K))
-    × GoesThrough kept takes hears has_place old through new
+GoesOn {K} kept takes has_place old new = (through : List (Desk K))
+    × GoesThrough kept takes has_place old through new
 
 -- A DESK IS ROLLED FORWARD: it went on by deeds, and after them its place may have been moved
-pub record RollsTo {K : Type 0} (kept : K → State) (takes : Taking K) (hears : Hearing K)
+pub record RollsTo {K : Type 0} (kept : K → State) (takes : Taking K)
     (has_place : Placing) (old new : Desk K) : Type 0 where
   pub before : Desk K
-  pub led : GoesOn kept takes hears has_place old before
+  pub led : GoesOn kept takes has_place old before
   pub book : new.book ≡ before.book
   pub store : (new.store ≡ before.store) ⊎ IsMoved kept has_place before.store new.store
 
@@ -238,8 +238,9 @@ pub record RollsTo {K : Type 0} (kept : K → State) (takes : Taking K) (hears :
 
 -- a keeper below, with one place for each change
 pub record Carries {K : Type 0} (takes : Taking K) (kept : K → State) (has_place : Placing)
-    (old : Placed K) (q : Command) (reply : Reply) (came : Came) (new : Placed K) : Type 0 where
-  pub taken : takes old.keeper q reply came new.keeper
+    (old : Placed K) (login : Option (List ℕ)) (q : Command) (reply : Reply) (came : Came)
+    (new : Placed K) : Type 0 where
+  pub taken : takes old.keeper None q reply came new.keeper
   pub same : new.place ≡ old.place
   pub placed : came ≡ Ok tt → accepts reply ≡ true
       → ComesTo has_place (kept old.keeper) (kept new.keeper) old.place
@@ -247,9 +248,6 @@ pub record Carries {K : Type 0} (takes : Taking K) (kept : K → State) (has_pla
   -- a crash leaves what it left before, or the place
   pub crash : Survives (kept old.keeper) (kept new.keeper)
       (ArePlacedAt has_place (kept old.keeper).now old.place)
-
-abbrev pub HearsBelow : {K : Type 0} → Hearing K → Placed K → Option (List ℕ) → Placed K → Type 0
-HearsBelow hears old login new = hears old.keeper login new.keeper
 
 -- ---- the opening
 

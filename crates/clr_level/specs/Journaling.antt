@@ -90,15 +90,15 @@ is_doubtful Doubtful = true
 
 -- ---- one command
 
--- THE LINE OF A COMMAND is added to what the journal says: the next number, the login that was
--- noted for this command alone, the command and its reply. It was received when the clock shows
+-- THE LINE OF A COMMAND is added to what the journal says: the next number, the login at which it is
+-- given, the command and its reply. It was received when the clock shows
 pub record IsNoted {K J C : Type 0} (shows : C → ℕ → Type 0) (text : J → List ℕ)
-    (old : Keeper K J C) (q : Command) (reply : Reply) (new : Keeper K J C) : Type 0 where
+    (old : Keeper K J C) (given_at : Option (List ℕ)) (q : Command) (reply : Reply)
+    (new : Keeper K J C) : Type 0 where
   pub receipt : Receipt
   pub number : receipt.number ≡ (end_said old).number + 1
   pub within : receipt.number < 2 ^ 64
-  pub login : receipt.login ≡ old.login
-  pub passed : new.login ≡ None
+  pub login : receipt.login ≡ given_at
   pub clock : new.clock ≡ old.clock
   pub received : shows new.clock receipt.received
   pub text_is : text new.journal ≡ with_link (said text old) (end_said old).sum
@@ -114,7 +114,6 @@ pub record IsDeedNoted {K J C : Type 0} (shows : C → ℕ → Type 0) (text : J
   pub number : receipt.number ≡ (end_said old).number + 1
   pub within : receipt.number < 2 ^ 64
   pub login : receipt.login ≡ None
-  pub passed : new.login ≡ None
   pub clock : new.clock ≡ old.clock
   pub received : shows new.clock receipt.received
   pub timed : receipt.received < 2 ^ 64
@@ -137,7 +136,6 @@ pub record IsUnnoted {K J C : Type 0} (text : J → List ℕ) (old new : Keeper 
 pub record IsAsItWas {K J C : Type 0} (old new : Keeper K J C) : Type 0 where
   pub journal : new.journal ≡ old.journal
   pub clock : new.clock ≡ old.clock
-  pub login : new.login ≡ old.login
   pub at : new.at ≡ old.at
   pub last : new.last ≡ old.last
 
@@ -145,7 +143,6 @@ pub record IsAsItWas {K J C : Type 0} (old new : Keeper K J C) : Type 0 where
 pub record IsBeside {K J C : Type 0} (mid new : Keeper K J C) : Type 0 where
   pub journal : new.journal ≡ mid.journal
   pub clock : new.clock ≡ mid.clock
-  pub login : new.login ≡ mid.login
   pub at : new.at ≡ mid.at
   pub synced : new.is_synced ≡ mid.is_synced
 
@@ -241,10 +238,11 @@ LacksLine text found may_leave old Noted accepts fault new =
 
 -- that of a command
 abbrev pub IsUnwritten : {K J C : Type 0} → (C → ℕ → Type 0) → (J → List ℕ) → (J → List ℕ)
-    → (J → List ℕ → Type 0) → Keeper K J C → Command → Reply → DeskFault → Keeper K J C → Type 0
-IsUnwritten shows text found may_leave old q reply fault new =
-    LacksLine text found may_leave old (IsNoted shows text old q reply new) (is_accepted reply)
-    fault new
+    → (J → List ℕ → Type 0) → Keeper K J C → Option (List ℕ) → Command → Reply → DeskFault
+    → Keeper K J C → Type 0
+IsUnwritten shows text found may_leave old login q reply fault new =
+    LacksLine text found may_leave old (IsNoted shows text old login q reply new)
+    (is_accepted reply) fault new
 
 -- that of an update or of an archive
 abbrev pub IsDeedUnwritten : {K J C : Type 0} → (C → ℕ → Type 0) → (J → List ℕ) → (J → List ℕ)
@@ -257,52 +255,41 @@ IsDeedUnwritten shows text found may_leave old deed fault new =
 -- command that has no line
 pub data Misses {K J C : Type 0} (takes : Taking K) (kept : K → State) (shows : C → ℕ → Type 0)
     (text found : J → List ℕ) (may_leave : J → List ℕ → Type 0) (is_usable : J → Bool)
-    (old : Keeper K J C) (q : Command) (reply : Reply) (fault : DeskFault) (new : Keeper K J C)
-    : Type 0 where
-  unwritten : IsUnwritten shows text found may_leave old q reply fault new
+    (old : Keeper K J C) (login : Option (List ℕ)) (q : Command) (reply : Reply)
+    (fault : DeskFault) (new : Keeper K J C) : Type 0 where
+  unwritten : IsUnwritten shows text found may_leave old login q reply fault new
       → DoubtHasCause is_usable old new → new.keeper ≡ old.keeper
-      → Misses takes kept shows text found may_leave is_usable old q reply fault new
-  unkept : IsNoted shows text old q reply new → new.last ≡ left (is_accepted reply) fault
+      → Misses takes kept shows text found may_leave is_usable old login q reply fault new
+  unkept : IsNoted shows text old login q reply new → new.last ≡ left (is_accepted reply) fault
       → (is_accepted reply ≡ true → IsDurable text may_leave new.journal)
-      → takes old.keeper q reply (Err fault) new.keeper
+      → takes old.keeper None q reply (Err fault) new.keeper
       → StaysShown (kept old.keeper) (kept new.keeper)
-      → Misses takes kept shows text found may_leave is_usable old q reply fault new
+      → Misses takes kept shows text found may_leave is_usable old login q reply fault new
   unasked : has_line q reply ≡ false → IsAsItWas old new
-      → takes old.keeper q reply (Err fault) new.keeper
+      → takes old.keeper None q reply (Err fault) new.keeper
       → StaysShown (kept old.keeper) (kept new.keeper)
-      → Misses takes kept shows text found may_leave is_usable old q reply fault new
+      → Misses takes kept shows text found may_leave is_usable old login q reply fault new
 
 -- A COMMAND AT A KEEPER WITH A JOURNAL: it is carried out only with its line, which is durable
 -- where it is accepted, and with the place at that line
 pub record Journals {K J C : Type 0} (takes : Taking K) (kept : K → State) (has_place : Placing)
     (shows : C → ℕ → Type 0) (text found : J → List ℕ) (may_leave : J → List ℕ → Type 0)
-    (is_usable : J → Bool) (old : Keeper K J C) (q : Command) (reply : Reply) (came : Came)
-    (new : Keeper K J C) : Type 0 where
+    (is_usable : J → Bool) (old : Keeper K J C) (login : Option (List ℕ)) (q : Command)
+    (reply : Reply) (came : Came) (new : Keeper K J C) : Type 0 where
   pub noted : came ≡ Ok tt → has_line q reply ≡ true
-      → IsNoted shows text old q reply new × (new.last ≡ Settled)
+      → IsNoted shows text old login q reply new × (new.last ≡ Settled)
   pub asked : came ≡ Ok tt → has_line q reply ≡ false → IsAsItWas old new
   pub durable : came ≡ Ok tt → is_accepted reply ≡ true → IsDurable text may_leave new.journal
   pub placed : came ≡ Ok tt → is_accepted reply ≡ true
       → ComesTo has_place (kept old.keeper) (kept new.keeper) new.at
   pub stays : came ≡ Ok tt → is_accepted reply ≡ false
       → StaysShown (kept old.keeper) (kept new.keeper)
-  pub taken : came ≡ Ok tt → takes old.keeper q reply (Ok tt) new.keeper
+  pub taken : came ≡ Ok tt → takes old.keeper None q reply (Ok tt) new.keeper
   pub missed : (fault : DeskFault) → came ≡ Err fault
-      → Misses takes kept shows text found may_leave is_usable old q reply fault new
+      → Misses takes kept shows text found may_leave is_usable old login q reply fault new
   pub sound : IsSound text found may_leave old → IsSound text found may_leave new
   pub safe : StaySafe text may_leave old.journal new.journal
   pub withdrawn : IsWithdrawn text may_leave old new
-
--- the login of the next command is noted; nothing else changes
-pub record HearsLogin {K J C : Type 0} (old : Keeper K J C) (login : Option (List ℕ))
-    (new : Keeper K J C) : Type 0 where
-  pub heard : new.login ≡ login
-  pub keeper : new.keeper ≡ old.keeper
-  pub journal : new.journal ≡ old.journal
-  pub clock : new.clock ≡ old.clock
-  pub at : new.at ≡ old.at
-  pub synced : new.is_synced ≡ old.is_synced
-  pub last : new.last ≡ old.last
 
 -- its faults are those of the keeper, and of the journal
 abbrev pub FailsToo : (DeskFault → Type 0) → DeskFault → Type 0

@@ -16,7 +16,7 @@ use Rattle.clr_desk.specs.Given.{AreGiven, Given}
 use Rattle.clr_desk.specs.Taking.{Taking}
 use Rattle.clr_chain.specs.Opening.{new_text}
 use Rattle.clr_level.specs.Forward.{CanBeOpened}
-use Rattle.clr_level.specs.Journaling.{HearsLogin, IsSound, Journals}
+use Rattle.clr_level.specs.Journaling.{IsSound, Journals}
 use Rattle.clr_desk.specs.Placing.{Placing}
 use Rattle.clr_level.specs.Placing.{IsAt}
 use Rattle.clr_level.specs.declared.keeper.Keeper.{Keeper}
@@ -53,14 +53,13 @@ pub record IsKeptLevel {K J C : Type 0} (kept : K → State) (has_place : Placin
   pub placed : IsAt has_place (kept it.keeper) place
   pub left : IsLeft it.last R (IsLevel.more level)
 
--- LEVEL IS KEPT over any number of commands, logins and faults; `Renewing`
--- says it over updates and archives
+-- LEVEL IS KEPT over any number of commands and faults; `Renewing` says it over updates and archives
 abbrev pub LevelIsKept : (K J C : Type 0) → Taking K → (K → State) → Placing → (C → ℕ → Type 0)
     → (J → List ℕ) → (J → List ℕ) → (J → List ℕ → Type 0) → (J → Bool) → Type 0
 LevelIsKept K J C takes kept has_place shows text found may_leave is_usable =
     (first R S : Register) (start : Place) (old new : Keeper K J C) (given : List Given)
     → IsGood first → IsKeptLevel kept has_place text first start R old
-    → AreGiven (Journals takes kept has_place shows text found may_leave is_usable) HearsLogin
+    → AreGiven (Journals takes kept has_place shows text found may_leave is_usable)
     R old given S new
     → IsKeptLevel kept has_place text first start S new
 
@@ -70,7 +69,7 @@ abbrev pub SoundIsKept : (K J C : Type 0) → Taking K → (K → State) → Pla
 SoundIsKept K J C takes kept has_place shows text found may_leave is_usable =
     (R S : Register) (old new : Keeper K J C) (given : List Given)
     → IsSound text found may_leave old
-    → AreGiven (Journals takes kept has_place shows text found may_leave is_usable) HearsLogin
+    → AreGiven (Journals takes kept has_place shows text found may_leave is_usable)
     R old given S new
     → IsSound text found may_leave new
 

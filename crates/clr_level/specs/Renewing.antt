@@ -14,7 +14,7 @@ use Rattle.clr_chain.specs.Level.{place_after}
 use Rattle.clr_desk.specs.Faults.{IsOfKeeper}
 use Rattle.clr_desk.specs.Kept.{Keeps}
 use Rattle.clr_desk.specs.Placing.{Placing}
-use Rattle.clr_desk.specs.Taking.{Came, Hearing, Taking}
+use Rattle.clr_desk.specs.Taking.{Came, Taking}
 use Rattle.clr_desk.specs.declared.desk.Desk.{Desk}
 use Rattle.clr_desk.specs.declared.desk_fault.DeskFault.{DeskFault}
 use Rattle.clr_level.specs.Carrying.{AreDoneAt, CarriesDeed}
@@ -39,12 +39,12 @@ last_after (Err fault) last = Doubtful
 
 -- A DEED WAS CARRIED OUT AT THE DESK BELOW, between these states of it, with the place that the
 -- journal has come to
-pub record CarriesBelow {K J C : Type 0} (kept : K → State) (takes : Taking K) (hears : Hearing K)
+pub record CarriesBelow {K J C : Type 0} (kept : K → State) (takes : Taking K)
     (has_place : Placing) (fails : DeskFault → Type 0) (old new : Desk (Keeper K J C)) (deed : Deed)
     (came : Came) : Type 0 where
   pub before : Desk K
   pub after : Desk K
-  pub carried : CarriesDeed kept takes hears has_place fails before after deed old.store.at came
+  pub carried : CarriesDeed kept takes has_place fails before after deed old.store.at came
   pub book : before.book ≡ old.book
   pub keeper : before.store ≡ old.store.keeper
   pub book_after : new.book ≡ after.book

@@ -21,7 +21,7 @@ use Rattle.clr_chain.specs.Sums.{sum_after}
 use Rattle.clr_desk.specs.Given.{AreGiven, Given}
 use Rattle.clr_desk.specs.Placing.{Placing}
 use Rattle.clr_desk.specs.Taking.{Taking}
-use Rattle.clr_level.specs.Journaling.{HearsLogin, IsDurable, IsSafe, Journals}
+use Rattle.clr_level.specs.Journaling.{IsDurable, IsSafe, Journals}
 use Rattle.clr_level.specs.Levelling.{IsDue, IsKeptLevel}
 use Rattle.clr_level.specs.Placing.{IsAt}
 use Rattle.clr_level.specs.declared.keeper.Keeper.{Keeper}
@@ -45,15 +45,15 @@ pub record IsSafeAt {K J C : Type 0} (kept : K → State) (has_place : Placing) 
   pub placed : IsAt has_place (kept it.keeper) (place_after start had)
   pub safe : IsSafe text may_leave (chain_text start had) it.journal
 
--- THEY STAY SAFE over any number of commands, logins and faults: with each command that is carried
--- out, its line is
+-- THEY STAY SAFE over any number of commands and faults: with each command that is carried out, its
+-- line is
 abbrev pub SafeIsKept : (K J C : Type 0) → Taking K → (K → State) → Placing → (C → ℕ → Type 0)
     → (J → List ℕ) → (J → List ℕ) → (J → List ℕ → Type 0) → (J → Bool) → Type 0
 SafeIsKept K J C takes kept has_place shows text found may_leave is_usable =
     (first R S : Register) (start : Place) (old new : Keeper K J C) (given : List Given)
     → IsGood first → IsKeptLevel kept has_place text first start R old
     → IsSafeAt kept has_place text may_leave first start R old
-    → AreGiven (Journals takes kept has_place shows text found may_leave is_usable) HearsLogin
+    → AreGiven (Journals takes kept has_place shows text found may_leave is_usable)
     R old given S new
     → IsSafeAt kept has_place text may_leave first start S new
 

@@ -21,7 +21,7 @@ pub(crate) fn carry_deed<K: CommitAt>(
     deed: Deed,
     place: Place,
 ) -> (Result<(), DeskFault>, Desk<K>, Place)
-    ensures carried { CarriesDeed K.kept K.takes K.hears K.has_place K.fails desk result.1
+    ensures carried { CarriesDeed K.kept K.takes K.has_place K.fails desk result.1
         (deed_of deed) place result.0 }
     ensures place { result.2 ≡ place }
 {
@@ -44,7 +44,7 @@ fn command_at<K: CommitAt>(
     command: Command,
     place: Place,
 ) -> (Result<(), DeskFault>, Desk<K>, Place)
-    ensures carried { CarriesDeed K.kept K.takes K.hears K.has_place K.fails desk result.1
+    ensures carried { CarriesDeed K.kept K.takes K.has_place K.fails desk result.1
         (of_command command) place result.0 }
     ensures place { result.2 ≡ place }
 {
@@ -65,7 +65,7 @@ fn change_at<K: CommitAt>(
     changes: &Changes,
     place: &Place,
 ) -> (Result<(), DeskFault>, Desk<K>)
-    ensures { CarriesDeed K.kept K.takes K.hears K.has_place K.fails desk result.1
+    ensures { CarriesDeed K.kept K.takes K.has_place K.fails desk result.1
         (of_changes (as_changes changes.now)) place.now result.0 }
 {
     match update_of(alloc, desk.book(), changes) {
@@ -84,7 +84,7 @@ fn make_at<K: CommitAt>(
     ensures { (of : SaidChanges) → (all_there desk.book.register of
         && have_no_fault desk.book.register of) ≡ true
         → as_update update ≡ update_of desk.book.register of
-        → CarriesDeed K.kept K.takes K.hears K.has_place K.fails desk result.1 (of_changes of)
+        → CarriesDeed K.kept K.takes K.has_place K.fails desk result.1 (of_changes of)
         place.now result.0 }
 {
     let (came, desk) = desk.update_at(alloc, update, place);

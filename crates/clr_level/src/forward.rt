@@ -48,7 +48,7 @@ pub(crate) fn roll_forward<K: CommitAt>(
         result.0 result.1 result.2 [] }
     ensures left { Survives (K.kept desk.store) (K.kept result.1.store) (AreRolled K.has_place
         (K.kept desk.store) desk.book.register place (map entry_of lines.items)) }
-    ensures led { RollsTo K.kept K.takes K.hears K.has_place desk result.1 }
+    ensures led { RollsTo K.kept K.takes K.has_place desk result.1 }
     ensures unchanged { (n : ℕ) → result.0 ≡ Err (OpeningFault.Differs n) → result.1 ≡ desk }
     ensures fault { IfErr result.0 (IsOfForward K.fails (map entry_of lines.items)) }
 {
@@ -77,7 +77,7 @@ fn carry_all<K: CommitAt>(
     ensures left { Survives (K.kept desk.store) (K.kept result.1.store) (λ trees. AreAnswered
         desk.book.register (map entry_of lines.items) → AreRolled K.has_place
         (K.kept desk.store) desk.book.register place (map entry_of lines.items) trees) }
-    ensures led { RollsTo K.kept K.takes K.hears K.has_place desk result.1 }
+    ensures led { RollsTo K.kept K.takes K.has_place desk result.1 }
     ensures fault { IfErr result.0 (IsOfCarrying K.fails (map entry_of lines.items)) }
 {
     let mut left = lines;
@@ -110,7 +110,7 @@ impl<K: CommitAt> Forward<K> {
         ensures left { (rest : List Entry) → Survives (K.kept self.desk.store)
             (K.kept result.1.desk.store) (AreFurther K.has_place self.desk.book.register
             (K.kept self.desk.store) self.at self.pending (entry_of line ∷ rest)) }
-        ensures led { GoesOn K.kept K.takes K.hears K.has_place self.desk result.1.desk }
+        ensures led { GoesOn K.kept K.takes K.has_place self.desk result.1.desk }
         ensures fault { IfErr result.0 (IsOfCarrying K.fails (entry_of line ∷ [])) }
     {
         let (came, before) = self.before(alloc, &line);
@@ -133,7 +133,7 @@ impl<K: CommitAt> Forward<K> {
         ensures left { (rest : List Entry) → Survives (K.kept self.desk.store)
             (K.kept result.1.desk.store) (AreFurther K.has_place self.desk.book.register
             (K.kept self.desk.store) self.at self.pending (entry_of line.now ∷ rest)) }
-        ensures led { GoesOn K.kept K.takes K.hears K.has_place self.desk result.1.desk }
+        ensures led { GoesOn K.kept K.takes K.has_place self.desk result.1.desk }
         ensures fault { IfErr result.0 (IsOfCarrying K.fails []) }
     {
         match line {
@@ -180,7 +180,7 @@ impl<K: CommitAt> Forward<K> {
             → Survives (K.kept self.desk.store) (K.kept result.1.desk.store)
             (AreFurther K.has_place self.desk.book.register (K.kept self.desk.store) self.at
             self.pending rest) }
-        ensures led { GoesOn K.kept K.takes K.hears K.has_place self.desk result.1.desk }
+        ensures led { GoesOn K.kept K.takes K.has_place self.desk result.1.desk }
         ensures fault { IfErr result.0 (IsOfCarrying K.fails []) }
     {
         let Forward { desk, at, pending } = self;
@@ -207,7 +207,7 @@ impl<K: CommitAt> Forward<K> {
         ensures left { Survives (K.kept self.desk.store) (K.kept result.1.store)
             (AreFurther K.has_place self.desk.book.register (K.kept self.desk.store) self.at
             self.pending []) }
-        ensures led { RollsTo K.kept K.takes K.hears K.has_place self.desk result.1 }
+        ensures led { RollsTo K.kept K.takes K.has_place self.desk result.1 }
         ensures fault { IfErr result.0 (IsOfCarrying K.fails []) }
     {
         let Forward { desk, at, pending } = self;
@@ -232,7 +232,7 @@ fn move_to<K: CommitAt>(
         → Arrives K.kept K.has_place R place lines result.0 result.1 result.2 [] }
     ensures left { Survives (K.kept desk.store) (K.kept result.1.store)
         (AreFurther K.has_place desk.book.register (K.kept desk.store) at None []) }
-    ensures led { RollsTo K.kept K.takes K.hears K.has_place desk result.1 }
+    ensures led { RollsTo K.kept K.takes K.has_place desk result.1 }
     ensures fault { IfErr result.0 (IsOfCarrying K.fails []) }
 {
     let faults = desk.faults();
@@ -263,7 +263,7 @@ fn carry_out<K: CommitAt>(
     ensures left { (rest : List Entry) → withdraws rest ≡ false
         → Survives (K.kept desk.store) (K.kept result.1.desk.store)
         (AreFurther K.has_place desk.book.register (K.kept desk.store) at (Some one) rest) }
-    ensures led { GoesOn K.kept K.takes K.hears K.has_place desk result.1.desk }
+    ensures led { GoesOn K.kept K.takes K.has_place desk result.1.desk }
     ensures fault { IfErr result.0 (IsOfCarrying K.fails []) }
 {
     let (came, desk, at) = carry_deed(alloc, desk, one.deed, at);

@@ -1,11 +1,11 @@
 //! A keeper, and a journal in which each deed has its line before the keeper takes it.
-ghost use Rattle.std.specs.Prelude.{◌≡◌, false, IfSome, IsSome, None};
+ghost use Rattle.std.specs.Prelude.{◌≡◌, false, IfSome, IsSome};
 
 use crate::last::Last;
 use clr_chain::Clock;
 use clr_desk::CommitAt;
 use clr_journal::Journal;
-use clr_rules::{Place, Text};
+use clr_rules::Place;
 use std::alloc::Global;
 
 /// A keeper, and a journal in which each deed has its line before the keeper takes it. The
@@ -16,8 +16,6 @@ pub struct Keeper<K: CommitAt, J: Journal + Drop, C: Clock> {
     pub(crate) journal: J,
     pub(crate) clock: C,
     pub(crate) alloc: Global,
-    /// The login of the next command.
-    pub(crate) login: Option<Text>,
     /// Where the journal has come to.
     pub(crate) at: Place,
     /// No line was written after the last sync.
@@ -27,12 +25,11 @@ pub struct Keeper<K: CommitAt, J: Journal + Drop, C: Clock> {
 
 impl<K: CommitAt, J: Journal + Drop, C: Clock> Keeper<K, J, C> {
     /// A keeper with a journal that has come to this place, and whose deeds are all carried out,
-    /// refused or withdrawn. No login is noted.
+    /// refused or withdrawn.
     pub(crate) fn new(alloc: Global, keeper: K, journal: J, clock: C, at: Place) -> Keeper<K, J, C>
         ensures keeper { result.keeper ≡ keeper }
         ensures journal { result.journal ≡ journal }
         ensures clock { result.clock ≡ clock }
-        ensures login { result.login ≡ None }
         ensures at { result.at ≡ at }
         ensures synced { result.is_synced ≡ false }
         ensures last { result.last ≡ Last.Settled }
@@ -42,7 +39,6 @@ impl<K: CommitAt, J: Journal + Drop, C: Clock> Keeper<K, J, C> {
             journal,
             clock,
             alloc,
-            login: None,
             at,
             is_synced: false,
             last: Last::Settled,

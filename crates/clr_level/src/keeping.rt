@@ -1,6 +1,6 @@
 //! A keeper with a journal keeps changes.
 ghost use Rattle.std.specs.Prelude.{◌≡◌, ◌⊎◌};
-ghost use Rattle.clr_level.specs.Journaling.{FailsToo, HearsLogin, Journals};
+ghost use Rattle.clr_level.specs.Journaling.{FailsToo, Journals};
 ghost use Rattle.clr_level.specs.Journaling.{is_doubtful, left_by};
 
 use crate::brief::is_show;
@@ -22,8 +22,6 @@ impl<K: CommitAt, J: Journal + Drop, C: Clock> Commit for Keeper<K, J, C> {
     ghost takes = { Journals K.takes K.kept K.has_place C.shows J.text J.found J.may_leave
         J.is_usable };
 
-    ghost hears = { HearsLogin };
-
     ghost doubts = { λ it. is_doubtful it.last };
 
     ghost settled = { λ it trees here left. K.settled it.keeper trees here left };
@@ -35,17 +33,14 @@ impl<K: CommitAt, J: Journal + Drop, C: Clock> Commit for Keeper<K, J, C> {
         }
     }
 
-    fn hear(&mut self, login: Option<Text>) {
-        self.login = login;
-    }
-
     fn commit(
         &mut self,
+        login: Option<Text>,
         command: &Command,
         reply: &Reply,
         change: &Change,
     ) -> Result<(), DeskFault> {
-        self.note_durably(command, reply)?;
+        self.note_durably(login, command, reply)?;
         match self.keeper.commit_at(command, reply, change, &self.at) {
             Ok(()) => Ok(()),
             Err(fault) => {
@@ -55,12 +50,17 @@ impl<K: CommitAt, J: Journal + Drop, C: Clock> Commit for Keeper<K, J, C> {
         }
     }
 
-    fn note_refused(&mut self, command: &Command, reply: &Reply) -> Result<(), DeskFault> {
+    fn note_refused(
+        &mut self,
+        login: Option<Text>,
+        command: &Command,
+        reply: &Reply,
+    ) -> Result<(), DeskFault> {
         if is_show(command) {
-            return self.keeper.note_refused(command, reply);
+            return self.keeper.note_refused(None, command, reply);
         }
-        self.note(command, reply)?;
-        self.keeper.note_refused(command, reply)
+        self.note(login, command, reply)?;
+        self.keeper.note_refused(None, command, reply)
     }
 }
 

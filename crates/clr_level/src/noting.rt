@@ -1,6 +1,6 @@
 //! Lines are noted.
 ghost use Rattle.std.specs.Prelude.{◌≡◌, ◌≢◌, ◌+◌, ℕ, List, false, true, IfErr, IfOk, IsTrue};
-ghost use Rattle.std.specs.Prelude.{None, OnErr, OnOk, string_bytes};
+ghost use Rattle.std.specs.Prelude.{OnErr, OnOk, string_bytes};
 ghost use Rattle.sqlite_disk.specs.Disk.{Only};
 ghost use Rattle.clr_answer.specs.Decision.{is_accepted as accepts};
 ghost use Rattle.clr_chain.specs.Link.{link_text};
@@ -19,7 +19,7 @@ use crate::lines::append;
 use clr_chain::{Clock, Link, print_archived, print_carried, print_updated, print_withdrawn};
 use clr_desk::{CommitAt, DeskFault};
 use clr_journal::{Deed, Journal, Receipt};
-use clr_rules::{Command, Reply};
+use clr_rules::{Command, Reply, Text};
 use std::alloc::AllocError;
 
 /// The line of a refused command has no more bytes than this, where its lists and its text make it
@@ -29,10 +29,15 @@ const BRIEF: usize = 2048;
 impl<K: CommitAt, J: Journal + Drop, C: Clock> Keeper<K, J, C> {
     /// Adds the line of a command and its reply, after the withdrawal that is owed. Before the line
     /// of one that is accepted, all others are synced.
-    pub(crate) fn note(&mut self, command: &Command, reply: &Reply) -> Result<(), DeskFault>
+    pub(crate) fn note(
+        &mut self,
+        login: Option<Text>,
+        command: &Command,
+        reply: &Reply,
+    ) -> Result<(), DeskFault>
         ensures keeper { self.new.keeper ≡ self.old.keeper }
         ensures noted { OnOk result (IsNoted C.shows J.text
-            self.old command.now reply.now self.new) }
+            self.old login command.now reply.now self.new) }
         ensures settled { OnOk result (self.new.last ≡ Last.Settled) }
         ensures whole { OnOk result (J.found self.new.journal ≡ J.text self.new.journal) }
         ensures usable { OnOk result (IsTrue (J.is_usable self.new.journal)) }
@@ -49,7 +54,7 @@ impl<K: CommitAt, J: Journal + Drop, C: Clock> Keeper<K, J, C> {
         ensures its_own { IfErr result (IsItsOwn self.new.last) }
     {
         self.make_ready(is_accepted(reply))?;
-        let receipt = self.receipt()?;
+        let receipt = self.receipt(login)?;
         let number = receipt.number;
         let Link { text, sum } = self.line(&receipt, command, reply)?;
         self.is_synced = false;
@@ -61,15 +66,20 @@ impl<K: CommitAt, J: Journal + Drop, C: Clock> Keeper<K, J, C> {
 
     /// The same of a command that is accepted, and the line is synced. Where that fails it is in
     /// doubt.
-    pub(crate) fn note_durably(&mut self, command: &Command, reply: &Reply) -> Result<(), DeskFault>
+    pub(crate) fn note_durably(
+        &mut self,
+        login: Option<Text>,
+        command: &Command,
+        reply: &Reply,
+    ) -> Result<(), DeskFault>
         requires { accepts reply.now ≡ true }
         ensures keeper { self.new.keeper ≡ self.old.keeper }
         ensures noted { OnOk result (IsNoted C.shows J.text
-            self.old command.now reply.now self.new) }
+            self.old login command.now reply.now self.new) }
         ensures settled { OnOk result (self.new.last ≡ Last.Settled) }
         ensures durable { OnOk result (IsDurable J.text J.may_leave self.new.journal) }
         ensures unwritten { IfErr result (λ fault. IsUnwritten C.shows J.text J.found J.may_leave
-            self.old command.now reply.now fault self.new) }
+            self.old login command.now reply.now fault self.new) }
         ensures sound { IsSound J.text J.found J.may_leave self.old
             → IsSound J.text J.found J.may_leave self.new }
         ensures safe { StaySafe J.text J.may_leave self.old.journal self.new.journal }
@@ -77,7 +87,7 @@ impl<K: CommitAt, J: Journal + Drop, C: Clock> Keeper<K, J, C> {
         ensures cause { DoubtHasCause J.is_usable self.old self.new }
         ensures fault { IfErr result IsOfJournal }
     {
-        self.note(command, reply)?;
+        self.note(login, command, reply)?;
         self.sync()?;
         Ok(())
     }
@@ -124,7 +134,7 @@ impl<K: CommitAt, J: Journal + Drop, C: Clock> Keeper<K, J, C> {
         ensures its_own { IfErr result (IsItsOwn self.new.last) }
     {
         self.make_ready(true)?;
-        let receipt = self.bare_receipt()?;
+        let receipt = self.receipt(None)?;
         let number = receipt.number;
         let _received = receipt.received;
         let Link { text, sum } = self.deed_line(&receipt, deed)?;
@@ -133,28 +143,6 @@ impl<K: CommitAt, J: Journal + Drop, C: Clock> Keeper<K, J, C> {
         self.at.number = number;
         self.at.sum = sum;
         Ok(())
-    }
-
-    /// The receipt of an update or of an archive, which has no login.
-    fn bare_receipt(&mut self) -> Result<Receipt, DeskFault>
-        ensures number { IfOk result (λ receipt. receipt.number ≡ self.old.at.number + 1) }
-        ensures login { IfOk result (λ receipt. receipt.login ≡ None) }
-        ensures received { IfOk result (λ receipt. C.shows self.new.clock receipt.received) }
-        ensures passed { OnOk result (self.new.login ≡ None) }
-        ensures clock { self.new.clock ≡ self.old.clock }
-        ensures keeper { self.new.keeper ≡ self.old.keeper }
-        ensures journal { self.new.journal ≡ self.old.journal }
-        ensures at { self.new.at ≡ self.old.at }
-        ensures synced { self.new.is_synced ≡ self.old.is_synced }
-        ensures last { self.new.last ≡ self.old.last }
-        ensures fault { IfErr result IsOfJournal }
-    {
-        let receipt = self.receipt()?;
-        Ok(Receipt {
-            number: receipt.number,
-            received: receipt.received,
-            login: None,
-        })
     }
 
     /// The line of an update or of an archive. A command has another (`line`).
@@ -182,7 +170,6 @@ impl<K: CommitAt, J: Journal + Drop, C: Clock> Keeper<K, J, C> {
     /// a deed that is accepted all lines are. A journal in doubt fails.
     fn make_ready(&mut self, is_accepted: bool) -> Result<(), DeskFault>
         ensures keeper { self.new.keeper ≡ self.old.keeper }
-        ensures login { self.new.login ≡ self.old.login }
         ensures clock { self.new.clock ≡ self.old.clock }
         ensures settled { OnOk result (self.new.last ≡ Last.Settled) }
         ensures text { OnOk result (J.text self.new.journal ≡ said J.text self.old) }
@@ -210,7 +197,6 @@ impl<K: CommitAt, J: Journal + Drop, C: Clock> Keeper<K, J, C> {
     /// Writes the withdrawal that is owed, and syncs it. A journal in doubt fails.
     fn settle(&mut self) -> Result<(), DeskFault>
         ensures keeper { self.new.keeper ≡ self.old.keeper }
-        ensures login { self.new.login ≡ self.old.login }
         ensures clock { self.new.clock ≡ self.old.clock }
         ensures settled { OnOk result (self.new.last ≡ Last.Settled) }
         ensures text { OnOk result (J.text self.new.journal ≡ said J.text self.old) }
@@ -237,7 +223,6 @@ impl<K: CommitAt, J: Journal + Drop, C: Clock> Keeper<K, J, C> {
     fn withdraw(&mut self) -> Result<(), DeskFault>
         requires { self.old.last ≡ Last.Owed }
         ensures keeper { self.new.keeper ≡ self.old.keeper }
-        ensures login { self.new.login ≡ self.old.login }
         ensures clock { self.new.clock ≡ self.old.clock }
         ensures settled { OnOk result (self.new.last ≡ Last.Settled) }
         ensures text { OnOk result (J.text self.new.journal ≡ said J.text self.old) }
@@ -265,7 +250,6 @@ impl<K: CommitAt, J: Journal + Drop, C: Clock> Keeper<K, J, C> {
     /// Syncs the lines that there are, if they are not synced.
     fn sync_lines(&mut self) -> Result<(), DeskFault>
         ensures keeper { self.new.keeper ≡ self.old.keeper }
-        ensures login { self.new.login ≡ self.old.login }
         ensures clock { self.new.clock ≡ self.old.clock }
         ensures at { self.new.at ≡ self.old.at }
         ensures text { J.text self.new.journal ≡ J.text self.old.journal }
@@ -294,7 +278,6 @@ impl<K: CommitAt, J: Journal + Drop, C: Clock> Keeper<K, J, C> {
     fn sync(&mut self) -> Result<(), DeskFault>
         requires { IsTrue (J.is_usable self.old.journal) }
         ensures keeper { self.new.keeper ≡ self.old.keeper }
-        ensures login { self.new.login ≡ self.old.login }
         ensures clock { self.new.clock ≡ self.old.clock }
         ensures at { self.new.at ≡ self.old.at }
         ensures text { J.text self.new.journal ≡ J.text self.old.journal }
@@ -337,12 +320,12 @@ impl<K: CommitAt, J: Journal + Drop, C: Clock> Keeper<K, J, C> {
         }
     }
 
-    /// The receipt of the next deed. There is none after the greatest number.
-    fn receipt(&mut self) -> Result<Receipt, DeskFault>
+    /// The receipt of the next deed, given at a login, or at none. There is none after the greatest
+    /// number.
+    fn receipt(&mut self, login: Option<Text>) -> Result<Receipt, DeskFault>
         ensures number { IfOk result (λ receipt. receipt.number ≡ self.old.at.number + 1) }
-        ensures login { IfOk result (λ receipt. receipt.login ≡ self.old.login) }
+        ensures login { IfOk result (λ receipt. receipt.login ≡ login) }
         ensures received { IfOk result (λ receipt. C.shows self.new.clock receipt.received) }
-        ensures passed { OnOk result (self.new.login ≡ None) }
         ensures clock { self.new.clock ≡ self.old.clock }
         ensures keeper { self.new.keeper ≡ self.old.keeper }
         ensures journal { self.new.journal ≡ self.old.journal }
@@ -355,7 +338,6 @@ impl<K: CommitAt, J: Journal + Drop, C: Clock> Keeper<K, J, C> {
             return Err(DeskFault::Journal);
         };
         let received = self.clock.seconds();
-        let login = self.login.take();
         Ok(Receipt {
             number,
             received,

@@ -1,5 +1,5 @@
 //! A register and its journal are opened together.
-ghost use Rattle.std.specs.Prelude.{◌≡◌, ℕ, false, IfErr, IfOk, map, None};
+ghost use Rattle.std.specs.Prelude.{◌≡◌, ℕ, false, IfErr, IfOk, map};
 ghost use Rattle.sqlite.specs.State.{Survives};
 ghost use Rattle.clr_rules.specs.Good.{IsGood};
 ghost use Rattle.clr_rules.specs.Register.{Register};
@@ -76,10 +76,9 @@ pub fn with_journal<K: CommitAt, J: Journal + Drop, C: Clock>(
         desk.book.register place (map entry_of lines.items))) }
     ensures journal { IfOk result (λ opened. opened.store.journal ≡ journal) }
     ensures clock { IfOk result (λ opened. opened.store.clock ≡ clock) }
-    ensures login { IfOk result (λ opened. opened.store.login ≡ None) }
     ensures settled { IfOk result (λ opened. opened.store.last ≡ Last.Settled) }
     ensures led { IfOk result (λ opened.
-        IsOver (RollsTo K.kept K.takes K.hears K.has_place) desk opened) }
+        IsOver (RollsTo K.kept K.takes K.has_place) desk opened) }
     ensures stops { IfErr result (λ back. IsGood desk.book.register
         → withdraws (map entry_of lines.items) ≡ false → AreShallow (map entry_of lines.items)
         → IsAt K.has_place (K.kept desk.store) place
@@ -93,7 +92,7 @@ pub fn with_journal<K: CommitAt, J: Journal + Drop, C: Clock>(
     ensures fault { IfErr result (λ back.
         IsOfForward K.fails (map entry_of lines.items) back.0) }
     ensures back { IfErr result (λ back.
-        RollsTo K.kept K.takes K.hears K.has_place desk back.1) }
+        RollsTo K.kept K.takes K.has_place desk back.1) }
     ensures unwritten { IfErr result (λ back. back.2 ≡ journal) }
 {
     let (came, desk, at) = roll_forward(alloc, desk, place, lines);

@@ -8,7 +8,7 @@ ghost use Rattle.clr_rules.specs.Run.{after};
 ghost use Rattle.clr_desk.specs.Faults.{IsOfKeeper};
 ghost use Rattle.clr_desk.specs.Given.{LeadsTo};
 ghost use Rattle.clr_level.specs.Crash.{AreAfterAt, KeepsTables};
-ghost use Rattle.clr_level.specs.Forward.{Carries, HearsBelow};
+ghost use Rattle.clr_level.specs.Forward.{Carries};
 ghost use Rattle.clr_level.specs.Placing.{ComesTo, StaysShown};
 
 use clr_desk::{Commit, CommitAt, Desk, DeskFault};
@@ -28,8 +28,6 @@ impl<K: CommitAt> Commit for Placed<K> {
 
     ghost takes = { Carries K.takes K.kept K.has_place };
 
-    ghost hears = { HearsBelow K.hears };
-
     ghost doubts = { λ it. K.doubts it.keeper };
 
     ghost settled = { λ it trees here left. K.settled it.keeper trees here left };
@@ -38,12 +36,9 @@ impl<K: CommitAt> Commit for Placed<K> {
         self.keeper.is_in_doubt()
     }
 
-    fn hear(&mut self, login: Option<Text>) {
-        self.keeper.hear(login);
-    }
-
     fn commit(
         &mut self,
+        login: Option<Text>,
         command: &Command,
         reply: &Reply,
         change: &Change,
@@ -52,8 +47,13 @@ impl<K: CommitAt> Commit for Placed<K> {
         Ok(())
     }
 
-    fn note_refused(&mut self, command: &Command, reply: &Reply) -> Result<(), DeskFault> {
-        self.keeper.note_refused(command, reply)?;
+    fn note_refused(
+        &mut self,
+        login: Option<Text>,
+        command: &Command,
+        reply: &Reply,
+    ) -> Result<(), DeskFault> {
+        self.keeper.note_refused(None, command, reply)?;
         Ok(())
     }
 }
@@ -75,7 +75,7 @@ pub(crate) fn carry_at<K: CommitAt>(
     ensures tables { OnOk result.0 (KeepsTables K.kept desk result.1) }
     ensures left { Survives (K.kept desk.store) (K.kept result.1.store)
         (AreAfterAt K.has_place (K.kept desk.store).now desk.book.register command place) }
-    ensures led { LeadsTo K.kept K.takes K.hears desk result.1 }
+    ensures led { LeadsTo K.kept K.takes desk result.1 }
     ensures place { result.2 ≡ place }
     ensures fault { IfErr result.0 (IsOfKeeper K.fails) }
 {

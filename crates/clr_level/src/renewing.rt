@@ -51,7 +51,7 @@ fn carry_noted<K: CommitAt, J: Journal + Drop, C: Clock>(
     desk: Desk<Keeper<K, J, C>>,
     deed: Deed,
 ) -> (Result<(), DeskFault>, Desk<Keeper<K, J, C>>)
-    ensures { CarriesBelow K.kept K.takes K.hears K.has_place K.fails desk result.1 (deed_of deed)
+    ensures { CarriesBelow K.kept K.takes K.has_place K.fails desk result.1 (deed_of deed)
         result.0 }
 {
     let faults = desk.faults();
@@ -61,7 +61,6 @@ fn carry_noted<K: CommitAt, J: Journal + Drop, C: Clock>(
         journal,
         clock,
         alloc: own,
-        login,
         at,
         is_synced,
         last,
@@ -76,7 +75,6 @@ fn carry_noted<K: CommitAt, J: Journal + Drop, C: Clock>(
         journal,
         clock,
         alloc: own,
-        login,
         at,
         is_synced,
         last,

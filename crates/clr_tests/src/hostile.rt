@@ -410,9 +410,7 @@ impl<D: Registrar + Drop> Registrar for Unanswering<D> {
 
     ghost leads_to = { λ _ _. Unit {0} };
 
-    ghost hears = { λ _ _ _. Unit {0} };
-
-    ghost takes = { λ _ _ _ _. Unit {0} };
+    ghost takes = { λ _ _ _ _ _. Unit {0} };
 
     ghost doubts = { λ _. false };
 
@@ -428,9 +426,7 @@ impl<D: Registrar + Drop> Registrar for Unanswering<D> {
         false
     }
 
-    fn hear(&mut self, _login: Option<Text>) {}
-
-    fn answer(&mut self, _command: Command) -> Option<Reply> {
+    fn answer(&mut self, _login: Option<Text>, _command: Command) -> Option<Reply> {
         self.faults = self.faults.saturating_add(1);
         None
     }

@@ -10,10 +10,10 @@ returns-in_err-bytes-clause-cause g c = passed_cause _ _ _ _ c.in_err-bytes.ensu
 
 -- a desk whose input was not read is as it was
 pub returns-in_err-bytes-clause-led : goal.returns-in_err-bytes-clause-led
-returns-in_err-bytes-clause-led g c = leads_itself g.K.Commit.kept g.K.Commit.takes g.K.Commit.hears c.args.desk.now
+returns-in_err-bytes-clause-led g c = leads_itself g.K.Commit.kept g.K.Commit.takes c.args.desk.now
 
 pub returns-in_err-asked-clause-led : goal.returns-in_err-asked-clause-led
-returns-in_err-asked-clause-led g c = leads_itself g.K.Commit.kept g.K.Commit.takes g.K.Commit.hears c.args.desk.now
+returns-in_err-asked-clause-led g c = leads_itself g.K.Commit.kept g.K.Commit.takes c.args.desk.now
 
 -- the answers to the lines of the input
 pub returns-clause-answer : goal.returns-clause-answer

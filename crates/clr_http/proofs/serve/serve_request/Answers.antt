@@ -6,7 +6,7 @@ use Rattle.clr_http.proofs.RequestRuns.{reading_may_ask}
 use Rattle.clr_http.proofs.Requests.{asks_unrefused, reading_is, refusal_is, refused_caller}
 use Rattle.clr_http.specs.Callers.{caller_checked, login_of}
 use Rattle.clr_http.specs.Fields.{fields_of}
-use Rattle.clr_http.specs.Puts.{IsUnmade, login_heard}
+use Rattle.clr_http.specs.Puts.{IsUnmade, login_noted}
 use Rattle.clr_http.specs.Reading.{target_asks}
 use Rattle.clr_http.specs.Request.{IsNo503, IsReadAs, IsReading, asks, reading, refused}
 use Rattle.clr_http.specs.Response.{content_of}
@@ -92,7 +92,7 @@ returns-in_ok-response-in-Asks-clause-unasked g c input rest head content e begi
     let reads = subst (λ x. IsReading service input left (caller_checked service.logins login (asks c.in-Asks.asked x))) (sym c.as_slice.ensures.value)
     (subst (λ x. IsReading service input left (caller_checked service.logins login (reading x))) c.in-Asks.is
     (subst (IsReadAs service input left) c.in-Some.is (c.in_ok-heard.ensures.known input e))) in
-    unpermitted_same g.D.Registrar.hears g.D.Registrar.takes service.logins login (login_heard service.desk login) (target_asks c.in-Asks.asked c.as_slice.result.now)
+    unpermitted_same g.D.Registrar.takes service.logins login (login_noted service.desk login) (target_asks c.in-Asks.asked c.as_slice.result.now)
     (false ≡ true) _ _
     (refused_caller service.logins login c.in-Asks.asked c.as_slice.result.now content (reading_is service input rest head left _ reads begins ∙ is))
     c.in_ok-response-in-Asks.ensures.put
@@ -105,7 +105,7 @@ returns-in_err-response-in-Asks-clause-unasked g c input rest head content e beg
     let reads = subst (λ x. IsReading service input left (caller_checked service.logins login (asks c.in-Asks.asked x))) (sym c.as_slice.ensures.value)
     (subst (λ x. IsReading service input left (caller_checked service.logins login (reading x))) c.in-Asks.is
     (subst (IsReadAs service input left) c.in-Some.is (c.in_ok-heard.ensures.known input e))) in
-    unpermitted_same g.D.Registrar.hears g.D.Registrar.takes service.logins login (login_heard service.desk login) (target_asks c.in-Asks.asked c.as_slice.result.now)
+    unpermitted_same g.D.Registrar.takes service.logins login (login_noted service.desk login) (target_asks c.in-Asks.asked c.as_slice.result.now)
     (true ≡ true) _ _
     (refused_caller service.logins login c.in-Asks.asked c.as_slice.result.now content (reading_is service input rest head left _ reads begins ∙ is))
     c.in_err-response-in-Asks.ensures.put
@@ -134,7 +134,7 @@ returns-in_ok-response-in-Asks-clause-put g c =
     let left = g.R.Read.remaining c.read_request.new.reader in
     let known = g.R.Read.remaining c.args.reader.now in
     let login = c.in-Some.heard.login in
-    asked_puts g.D.Registrar.hears g.D.Registrar.takes service known left c.send-in-Asks.result login c.in-Asks.asked c.as_slice.result.now
+    asked_puts g.D.Registrar.takes service known left c.send-in-Asks.result login c.in-Asks.asked c.as_slice.result.now
     (false ≡ true) _ _
     (λ input e.
     subst (λ x. IsReading service input left (caller_checked service.logins login (asks c.in-Asks.asked x))) (sym c.as_slice.ensures.value)
@@ -151,7 +151,7 @@ returns-in_err-response-in-Asks-clause-put g c =
     let known = g.R.Read.remaining c.args.reader.now in
     let login = c.in-Some.heard.login in
     let unmade : c.from_residual-in_err-response-in-Asks.result ≡ Err NoMemory = search rules in
-    asked_puts g.D.Registrar.hears g.D.Registrar.takes service known left c.from_residual-in_err-response-in-Asks.result login c.in-Asks.asked c.as_slice.result.now
+    asked_puts g.D.Registrar.takes service known left c.from_residual-in_err-response-in-Asks.result login c.in-Asks.asked c.as_slice.result.now
     (true ≡ true) _ _
     (λ input e.
     subst (λ x. IsReading service input left (caller_checked service.logins login (asks c.in-Asks.asked x))) (sym c.as_slice.ensures.value)

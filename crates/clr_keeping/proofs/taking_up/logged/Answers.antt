@@ -19,7 +19,7 @@ returns-in-Ok-taken_up-clause-taken g c =
     c.args.desk.book.register c.in-Ok.desk.book.register (ap (λ (b : Shelved). b.register) c.in-Ok.ensures.book) c.in-Some.place c.in-Ok.ensures.read
     (subst (λ p. HasPlace g.S.Store c.args.desk.store c.in-Ok.desk.store p) c.in-Some.is c.in-Ok.ensures.placed)
     c.in-Ok-journal.opened.journal c.in-Ok-journal.opened.ahead c.time-time.result desk.store desk.book.register
-    c.in-Ok-journal.ensures.opens_journal c.time-time.ensures c.in-Ok-journal.ensures.whole up.journal up.clock up.login up.settled up.kept up.fit up.rolled up.level
+    c.in-Ok-journal.ensures.opens_journal c.time-time.ensures c.in-Ok-journal.ensures.whole up.journal up.clock up.settled up.kept up.fit up.rolled up.level
     up.sound up.left in
     subst (λ (b : Shelved). IsGiven g.S.Store by c.args.path.now c.args.rt.now c.journal.new.self c.args.desk.store c.args.desk.book.register c.uncounted.result.store b.register)
     (sym c.uncounted.ensures.book)

@@ -4,7 +4,7 @@ use Rattle.sqlite.specs.State.{Survives}
 use Rattle.clr_book.specs.Book.{Shelved}
 use Rattle.clr_rules.specs.Fit.{IsFit}
 use Rattle.clr_desk.specs.Kept.{Keeps}
-use Rattle.clr_desk.specs.Taking.{HearsNothing, PassesOver}
+use Rattle.clr_desk.specs.Taking.{PassesOver}
 use Rattle.clr_desk.specs.declared.desk.Desk.{Desk}
 use Rattle.clr_level.specs.Crash.{AreRolled}
 use Rattle.clr_level.specs.Forward.{CanBeOpened, StopsAt}
@@ -20,7 +20,7 @@ returns-in-Ok-clause-kept g c =
     let led = c.in-Ok.ensures.led in
     let old = state g.S.Store c.args.desk.store in
     let R = c.args.desk.book.register in
-    let keeps = rolls_keep (λ h. state g.S.Store h) PassesOver HearsNothing store_place c.args.desk led.before led.led in
+    let keeps = rolls_keep (λ h. state g.S.Store h) PassesOver store_place c.args.desk led.before led.led in
     subst (λ (b : Shelved). Keeps old R (state g.S.Store c.in-Ok.desk.store.keeper) b.register) (sym led.book)
     (subst (λ h. Keeps old R (state g.S.Store h) led.before.book.register) (sym led.keeper) keeps)
 
@@ -29,7 +29,7 @@ pub returns-in-Ok-clause-fit : goal.returns-in-Ok-clause-fit
 returns-in-Ok-clause-fit g c fit =
     let led = c.in-Ok.ensures.led in
     subst (λ (b : Shelved). IsFit b.register) (sym led.book)
-    (rolls_fit (λ h. state g.S.Store h) PassesOver HearsNothing store_place c.args.desk led.before led.led fit)
+    (rolls_fit (λ h. state g.S.Store h) PassesOver store_place c.args.desk led.before led.led fit)
 
 -- and the place is after it
 pub returns-in-Ok-clause-rolled : goal.returns-in-Ok-clause-rolled
@@ -65,7 +65,7 @@ returns-clause-stops g c good =
       of = c.in-Err.ensures.fault;
       register = S;
       kept = subst (λ h. Keeps old R (state g.S.Store h) S) (sym same)
-          (rolls_keep (λ h. state g.S.Store h) PassesOver HearsNothing store_place c.args.desk c.in-Err.desk c.in-Err.ensures.back);
+          (rolls_keep (λ h. state g.S.Store h) PassesOver store_place c.args.desk c.in-Err.desk c.in-Err.ensures.back);
       stops = λ begins shallow at.
           subst (λ h. StopsAt store_place R c.args.place (entries_of c.args.opened.ahead) c.in-Err.fault S (state g.S.Store h)) (sym same)
           (c.in-Err.ensures.stops good begins shallow at);

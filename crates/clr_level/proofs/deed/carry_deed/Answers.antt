@@ -10,8 +10,8 @@ returns-in-Archive-clause-carried g c =
     let new = c.archive_at-came.result.1 in
     let came = c.archive_at-came.result.0 in
     subst
-    (λ (d : SeenDeed). CarriesDeed g.K.Commit.kept g.K.Commit.takes g.K.Commit.hears g.K.CommitAt.has_place g.K.Commit.fails c.args.desk new (deed_of d)
+    (λ (d : SeenDeed). CarriesDeed g.K.Commit.kept g.K.Commit.takes g.K.CommitAt.has_place g.K.Commit.fails c.args.desk new (deed_of d)
     c.args.place came)
     (sym c.in-Archive.is)
-    (archive_done g.K.Commit.kept g.K.Commit.takes g.K.Commit.hears g.K.CommitAt.has_place g.K.Commit.fails c.args.desk new c.in-Archive.before
+    (archive_done g.K.Commit.kept g.K.Commit.takes g.K.CommitAt.has_place g.K.Commit.fails c.args.desk new c.in-Archive.before
     c.args.place came c.archive_at-came.ensures.archived)

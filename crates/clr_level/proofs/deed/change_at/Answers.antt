@@ -16,4 +16,4 @@ returns-in-Ok-Some g c =
 
 pub returns-in-Ok-None : goal.returns-in-Ok-None
 returns-in-Ok-None g c =
-    not_begun g.K.Commit.kept g.K.Commit.takes g.K.Commit.hears g.K.CommitAt.has_place g.K.Commit.fails c.args.desk (update (as_changes c.args.changes.now)) c.args.place.now
+    not_begun g.K.Commit.kept g.K.Commit.takes g.K.CommitAt.has_place g.K.Commit.fails c.args.desk (update (as_changes c.args.changes.now)) c.args.place.now

@@ -18,7 +18,7 @@ returns-in-Ok-clause-carried g c =
     let came = c.carry_at-came.result.0 in
     let carry = c.carry_at-came.ensures in
     let reply = c.in-Ok._reply in
-    command_done kept g.K.Commit.takes g.K.Commit.hears g.K.CommitAt.has_place g.K.Commit.fails old new c.args.command c.args.place reply
+    command_done kept g.K.Commit.takes g.K.CommitAt.has_place g.K.Commit.fails old new c.args.command c.args.place reply
     (λ good. if_ok came reply (λ (r : Reply). r ≡ Answer.reply (answer old.book.register c.args.command)) c.in-Ok.is (carry.reply good))
     (λ good. on_ok came reply (new.book.register ≡ after old.book.register c.args.command) c.in-Ok.is (carry.register good))
     (if_ok came reply (λ (r : Reply). is_accepted r ≡ true → ComesTo g.K.CommitAt.has_place (kept old.store) (kept new.store) c.args.place) c.in-Ok.is carry.placed)
@@ -31,7 +31,7 @@ returns-in-Err-clause-carried g c =
     let new = c.carry_at-came.result.1 in
     let came = c.carry_at-came.result.0 in
     let carry = c.carry_at-came.ensures in
-    command_missed kept g.K.Commit.takes g.K.Commit.hears g.K.CommitAt.has_place g.K.Commit.fails old new c.args.command c.args.place c.in-Err.fault
+    command_missed kept g.K.Commit.takes g.K.CommitAt.has_place g.K.Commit.fails old new c.args.command c.args.place c.in-Err.fault
     (on_err came c.in-Err.fault (new.book.register ≡ old.book.register) c.in-Err.is carry.unchanged)
     (on_err came c.in-Err.fault (StaysShown (kept old.store) (kept new.store)) c.in-Err.is carry.stays) carry.left carry.led
     (if_err came c.in-Err.fault (IsOfKeeper g.K.Commit.fails) c.in-Err.is carry.fault)

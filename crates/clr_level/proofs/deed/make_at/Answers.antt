@@ -10,7 +10,7 @@ pub returns-in-Ok-Changes : goal.returns-in-Ok-Changes
 returns-in-Ok-Changes g c of whole said =
     let new = c.update_at-came.result.1 in
     let u = as_update c.args.update in
-    update_done g.K.Commit.kept g.K.Commit.takes g.K.Commit.hears g.K.CommitAt.has_place g.K.Commit.fails c.args.desk new of u c.args.place.now whole said
+    update_done g.K.Commit.kept g.K.Commit.takes g.K.CommitAt.has_place g.K.Commit.fails c.args.desk new of u c.args.place.now whole said
     c.in-Ok-Changes._text
     (subst (λ (report : Report). IsUpdatedAt g.K.Commit.kept g.K.CommitAt.has_place g.K.Commit.fails c.args.desk new u c.args.place.now (Ok report))
     c.in-Ok-Changes.field-0-is
@@ -21,7 +21,7 @@ pub returns-in-Ok-InTheWay : goal.returns-in-Ok-InTheWay
 returns-in-Ok-InTheWay g c of whole said =
     let new = c.update_at-came.result.1 in
     let u = as_update c.args.update in
-    update_in_the_way g.K.Commit.kept g.K.Commit.takes g.K.Commit.hears g.K.CommitAt.has_place g.K.Commit.fails c.args.desk new of u c.args.place.now whole said
+    update_in_the_way g.K.Commit.kept g.K.Commit.takes g.K.CommitAt.has_place g.K.Commit.fails c.args.desk new of u c.args.place.now whole said
     c.in-Ok-InTheWay._obstacle
     (subst (λ (report : Report). IsUpdatedAt g.K.Commit.kept g.K.CommitAt.has_place g.K.Commit.fails c.args.desk new u c.args.place.now (Ok report))
     c.in-Ok-InTheWay.field-0-is
@@ -32,7 +32,7 @@ pub returns-in-Err : goal.returns-in-Err
 returns-in-Err g c of whole said =
     let new = c.update_at-came.result.1 in
     let u = as_update c.args.update in
-    update_missed g.K.Commit.kept g.K.Commit.takes g.K.Commit.hears g.K.CommitAt.has_place g.K.Commit.fails c.args.desk new of u c.args.place.now whole said
+    update_missed g.K.Commit.kept g.K.Commit.takes g.K.CommitAt.has_place g.K.Commit.fails c.args.desk new of u c.args.place.now whole said
     c.in-Err.fault
     (subst (λ (r : Result Report DeskFault). IsUpdatedAt g.K.Commit.kept g.K.CommitAt.has_place g.K.Commit.fails c.args.desk new u c.args.place.now r)
     c.in-Err.is c.update_at-came.ensures.updated)

@@ -13,7 +13,7 @@ returns-in-Ok-clause-went g c = λ R place lines come.
 pub returns-in-Ok-clause-led : goal.returns-in-Ok-clause-led
 returns-in-Ok-clause-led g c =
     move_rolls g.K.Commit.kept g.K.CommitAt.has_place c.args.desk c.of-desk.result c.parted-book.result.1 c.move_to-came.new.self c.args.at
-    (c.of-desk.ensures.book ∙ c.parted-book.ensures.book) c.parted-book.ensures.kept c.of-desk.ensures.store g.K.Commit.takes g.K.Commit.hears
+    (c.of-desk.ensures.book ∙ c.parted-book.ensures.book) c.parted-book.ensures.kept c.of-desk.ensures.store g.K.Commit.takes
     c.move_to-came.result c.move_to-came.ensures.commits
 
 pub returns-in-Err-clause-went : goal.returns-in-Err-clause-went
@@ -25,7 +25,7 @@ returns-in-Err-clause-went g c = λ R place lines come.
 pub returns-in-Err-clause-led : goal.returns-in-Err-clause-led
 returns-in-Err-clause-led g c =
     move_rolls g.K.Commit.kept g.K.CommitAt.has_place c.args.desk c.of-desk.result c.parted-book.result.1 c.move_to-came.new.self c.args.at
-    (c.of-desk.ensures.book ∙ c.parted-book.ensures.book) c.parted-book.ensures.kept c.of-desk.ensures.store g.K.Commit.takes g.K.Commit.hears
+    (c.of-desk.ensures.book ∙ c.parted-book.ensures.book) c.parted-book.ensures.kept c.of-desk.ensures.store g.K.Commit.takes
     c.move_to-came.result c.move_to-came.ensures.commits
 
 pub returns-in-Err-clause-fault : goal.returns-in-Err-clause-fault

@@ -40,7 +40,7 @@ returns-then-is_empty-clause-left g c =
     left_itself s (AreRolled g.K.CommitAt.has_place s c.args.desk.book.register c.args.place (map entry_of c.args.lines.items))
 
 pub returns-then-is_empty-clause-led : goal.returns-then-is_empty-clause-led
-returns-then-is_empty-clause-led g c = rolls_itself g.K.Commit.kept g.K.Commit.takes g.K.Commit.hears g.K.CommitAt.has_place c.args.desk
+returns-then-is_empty-clause-led g c = rolls_itself g.K.Commit.kept g.K.Commit.takes g.K.CommitAt.has_place c.args.desk
 
 -- all lines are answered as they say
 pub returns-in-Ok-None-clause-went : goal.returns-in-Ok-None-clause-went
@@ -83,7 +83,7 @@ returns-in-Ok-Some-clause-left g c =
     left_itself s (AreRolled g.K.CommitAt.has_place s c.args.desk.book.register c.args.place (map entry_of c.args.lines.items))
 
 pub returns-in-Ok-Some-clause-led : goal.returns-in-Ok-Some-clause-led
-returns-in-Ok-Some-clause-led g c = rolls_itself g.K.Commit.kept g.K.Commit.takes g.K.Commit.hears g.K.CommitAt.has_place c.args.desk
+returns-in-Ok-Some-clause-led g c = rolls_itself g.K.Commit.kept g.K.Commit.takes g.K.CommitAt.has_place c.args.desk
 
 pub returns-in-Ok-Some-clause-fault : goal.returns-in-Ok-Some-clause-fault
 returns-in-Ok-Some-clause-fault g c = inl (c.in-Ok-Some.number, refl)
@@ -102,7 +102,7 @@ returns-in-Err-clause-left g c =
     left_itself s (AreRolled g.K.CommitAt.has_place s c.args.desk.book.register c.args.place (map entry_of c.args.lines.items))
 
 pub returns-in-Err-clause-led : goal.returns-in-Err-clause-led
-returns-in-Err-clause-led g c = rolls_itself g.K.Commit.kept g.K.Commit.takes g.K.Commit.hears g.K.CommitAt.has_place c.args.desk
+returns-in-Err-clause-led g c = rolls_itself g.K.Commit.kept g.K.Commit.takes g.K.CommitAt.has_place c.args.desk
 
 pub returns-in-Err-clause-fault : goal.returns-in-Err-clause-fault
 returns-in-Err-clause-fault g c = inr tt

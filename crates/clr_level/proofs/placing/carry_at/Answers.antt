@@ -28,7 +28,7 @@ returns-clause-left g c =
 pub returns-clause-led : goal.returns-clause-led
 returns-clause-led g c =
     let keeper = λ (k : Placed g.row.K.Denot). k.keeper in
-    leads_below g.K.Commit.takes g.K.Commit.kept g.K.CommitAt.has_place g.K.Commit.hears g.K.Commit.fails c.args.desk c.of.result c.of-desk.result
+    leads_below g.K.Commit.takes g.K.Commit.kept g.K.CommitAt.has_place g.K.Commit.fails c.args.desk c.of.result c.of-desk.result
     c.one-came.new.self c.args.command c.one-came.result (c.of-desk.ensures.book ∙ c.parted-book.ensures.book)
     (ap keeper c.of-desk.ensures.store ∙ c.parted-book.ensures.kept) (c.of.ensures.book ∙ c.parted-book-2.ensures.book)
     (c.of.ensures.store ∙ ap keeper c.parted-book-2.ensures.kept) c.one-came.ensures.carried c.one-came.ensures.taken

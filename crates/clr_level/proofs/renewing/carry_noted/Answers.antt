@@ -16,7 +16,7 @@ returns g c =
       after = c.carry_deed-came.result.1;
       carried =
           subst
-          (λ (p : Place). CarriesDeed g.K.Commit.kept g.K.Commit.takes g.K.Commit.hears g.K.CommitAt.has_place g.K.Commit.fails c.of-inner.result
+          (λ (p : Place). CarriesDeed g.K.Commit.kept g.K.Commit.takes g.K.CommitAt.has_place g.K.Commit.fails c.of-inner.result
           c.carry_deed-came.result.1 (deed_of c.args.deed) p came)
           (ap (λ (k : Keeper g.row.K.Denot g.row.J.Denot g.row.C.Denot). k.at) was) c.carry_deed-came.ensures.carried;
       book = c.of-inner.ensures.book ∙ c.parted-book.ensures.book;
@@ -30,9 +30,6 @@ returns g c =
         clock =
             ap (λ (k : Keeper g.row.K.Denot g.row.J.Denot g.row.C.Denot). k.clock) now
             ∙ ap (λ (k : Keeper g.row.K.Denot g.row.J.Denot g.row.C.Denot). k.clock) was;
-        login =
-            ap (λ (k : Keeper g.row.K.Denot g.row.J.Denot g.row.C.Denot). k.login) now
-            ∙ ap (λ (k : Keeper g.row.K.Denot g.row.J.Denot g.row.C.Denot). k.login) was;
         at =
             ap (λ (k : Keeper g.row.K.Denot g.row.J.Denot g.row.C.Denot). k.at) now ∙ c.carry_deed-came.ensures.place
             ∙ ap (λ (k : Keeper g.row.K.Denot g.row.J.Denot g.row.C.Denot). k.at) was;

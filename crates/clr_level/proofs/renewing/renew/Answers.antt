@@ -25,7 +25,7 @@ returns-in-Ok-clause-renewed g c =
       safe = said.safe;
       withdrawn = said.withdrawn;
     } in
-    noted_carried g.K.Commit.kept g.K.Commit.takes g.K.Commit.hears g.K.CommitAt.has_place g.K.Commit.fails shows text g.J.Journal.found g.J.Journal.may_leave
+    noted_carried g.K.Commit.kept g.K.Commit.takes g.K.CommitAt.has_place g.K.Commit.fails shows text g.J.Journal.found g.J.Journal.may_leave
     g.J.Journal.is_usable c.args.desk c.of-desk.result c.carry_noted.result.1 deed c.requires (c.of-desk.ensures.book ∙ c.parted-book.ensures.book)
     (between (λ a b. HasDurableLine shows text g.J.Journal.found g.J.Journal.may_leave a deed b) was now c.args.desk.store c.of-desk.result.store
     c.parted-book.ensures.kept c.of-desk.ensures.store line) c.carry_noted.result.0 c.carry_noted.ensures

@@ -137,5 +137,5 @@ returns-clause-carried g c =
 pub returns-clause-taken : goal.returns-clause-taken
 returns-clause-taken g c =
     let accepted : is_accepted c.in_ok-decision.decision.reply ≡ true = search rules in
-    takes_accepted g.K.Commit.takes c.args.self.now.store c.args.command.now c.in_ok-decision.decision.reply (Ok tt) c.commit.new.self accepted
+    takes_accepted g.K.Commit.takes c.args.self.now.store c.args.login c.args.command.now c.in_ok-decision.decision.reply (Ok tt) c.commit.new.self accepted
     c.in_ok-commit.ensures.taken

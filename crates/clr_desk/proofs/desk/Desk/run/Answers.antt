@@ -1,4 +1,4 @@
-use Rattle.std.proofs.Common.{rules, ◌≡◌, ◌∙◌, ◌<◌, ◌∷◌, ◌++◌, [], Err, false, List, length, take, ap, arith, get_or, refl, subst, sym, ⊎_elim}
+use Rattle.std.proofs.Common.{rules, ◌≡◌, ◌∙◌, ◌<◌, ◌∷◌, ◌++◌, [], Err, None, false, List, length, take, ap, arith, get_or, refl, subst, sym, ⊎_elim}
 use Rattle.sqlite.specs.State.{HasCleanDisk}
 use Rattle.clr_rules.specs.Good.{IsGood}
 use Rattle.clr_rules.specs.Register.{Register}
@@ -42,7 +42,7 @@ returns-then-is_err-clause-taken g c =
 
 pub returns-then-is_err-clause-led : goal.returns-then-is_err-clause-led
 returns-then-is_err-clause-led g c =
-    leads_unchanged g.K.Commit.kept g.K.Commit.takes g.K.Commit.hears c.args.self.now _ refl refl
+    leads_unchanged g.K.Commit.kept g.K.Commit.takes c.args.self.now _ refl refl
 
 pub returns-then-is_err-clause-network : goal.returns-then-is_err-clause-network
 returns-then-is_err-clause-network g c =
@@ -99,7 +99,7 @@ loop-command-init g c =
       ran = λ good. run_of_none c.args.self.now.book.register (take 0 c.args.commands.items) c.reserve.new.self.items (none_taken c.args.commands.items) none;
       near = near_run_of_none c.args.self.now.book.register (take 0 c.args.commands.items) c.reserve.new.self.items (none_taken c.args.commands.items) none;
       taken = takes_none g.K.Commit.takes c.args.self.now.store c.args.commands.items c.reserve.new.self.items none;
-      led = leads_itself g.K.Commit.kept g.K.Commit.takes g.K.Commit.hears c.args.self.now;
+      led = leads_itself g.K.Commit.kept g.K.Commit.takes c.args.self.now;
       network = network_of_none c.args.self.now.book.register (take 0 c.args.commands.items) c.args.self.now.book.network (none_taken c.args.commands.items);
       keeps = keeps_itself (g.K.Commit.kept c.args.self.now.store) c.args.self.now.book.register;
       unwritten = λ none clean shown. refl;
@@ -138,8 +138,8 @@ loop-command-preserved g c =
           (search rules) inv.near c.in-Ok.ensures.carried.near c.in-Ok.ensures.carried.changed;
       taken = takes_next g.K.Commit.takes c.args.self.now.store c.loop-command.self.store c.answer.new.self.store commands i q
           c.loop-command.replies.items c.push.new.self.items c.in-Ok.reply within at inv.counted (search rules) inv.taken c.in-Ok.ensures.taken;
-      led = leads_on g.K.Commit.kept g.K.Commit.takes g.K.Commit.hears c.args.self.now c.loop-command.self c.answer.new.self inv.led
-          (one_leads g.K.Commit.kept g.K.Commit.takes g.K.Commit.hears g.K.Commit.fails c.loop-command.self c.answer.new.self q c.answer.result carried
+      led = leads_on g.K.Commit.kept g.K.Commit.takes c.args.self.now c.loop-command.self c.answer.new.self inv.led
+          (one_leads g.K.Commit.kept g.K.Commit.takes g.K.Commit.fails c.loop-command.self c.answer.new.self None q c.answer.result carried
           c.answer.ensures.taken);
       network = network_of_next R X c.args.self.now.book.network c.loop-command.self.book.network c.answer.new.self.book.network commands i q within at
           inv.near.register inv.network c.in-Ok.ensures.carried.network;
@@ -178,14 +178,14 @@ returns-in-Err-clause-taken g c =
       c.loop-command.invariant.taken,
       stops_at g.K.Commit.takes c.answer.new.self.book.register c.loop-command.self.store c.answer.new.self.store commands i q
           (length c.loop-command.replies.items) c.in-Err.fault within at c.loop-command.invariant.counted
-          (subst (λ (R : Register). TakesOne g.K.Commit.takes R c.loop-command.self.store q (Err c.in-Err.fault) c.answer.new.self.store)
+          (subst (λ (R : Register). TakesOne g.K.Commit.takes R c.loop-command.self.store None q (Err c.in-Err.fault) c.answer.new.self.store)
           (sym back) c.in-Err.ensures.taken),
     )
 
 pub returns-in-Err-clause-led : goal.returns-in-Err-clause-led
 returns-in-Err-clause-led g c =
-    leads_on g.K.Commit.kept g.K.Commit.takes g.K.Commit.hears c.args.self.now c.loop-command.self c.answer.new.self c.loop-command.invariant.led
-    (one_leads g.K.Commit.kept g.K.Commit.takes g.K.Commit.hears g.K.Commit.fails c.loop-command.self c.answer.new.self c.command-item.result
+    leads_on g.K.Commit.kept g.K.Commit.takes c.args.self.now c.loop-command.self c.answer.new.self c.loop-command.invariant.led
+    (one_leads g.K.Commit.kept g.K.Commit.takes g.K.Commit.fails c.loop-command.self c.answer.new.self None c.command-item.result
     c.answer.result c.answer.ensures.carried c.answer.ensures.taken)
 
 pub returns-in-Err-clause-network : goal.returns-in-Err-clause-network

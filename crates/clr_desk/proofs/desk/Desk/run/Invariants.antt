@@ -28,7 +28,7 @@ invariant-loop-command g l =
       ran : IsGood R → IsRun R (take l.command-index l.fn.commands.items) l.replies.items l.self.book.register;
       near : IsNearRun R (take l.command-index l.fn.commands.items) l.replies.items l.self.book.register;
       taken : TakesAll g.K.Commit.takes l.fn.self.store l.fn.commands.items l.replies.items l.self.store;
-      led : LeadsTo g.K.Commit.kept g.K.Commit.takes g.K.Commit.hears l.fn.self l.self;
+      led : LeadsTo g.K.Commit.kept g.K.Commit.takes l.fn.self l.self;
       network : l.self.book.network ≡ near_network_all R (take l.command-index l.fn.commands.items) l.fn.self.book.network;
       keeps : Keeps old R now l.self.book.register;
       unwritten : list_any is_accepted l.replies.items ≡ false → HasCleanDisk now → IsTrue now.is_open → now.now ≡ old.now;

@@ -22,7 +22,7 @@ returns-in-Some-clause-went g c = λ R place lines good answered come.
 
 pub returns-in-Some-clause-led : goal.returns-in-Some-clause-led
 returns-in-Some-clause-led g c =
-    rolls_by g.K.Commit.kept g.K.Commit.takes g.K.Commit.hears g.K.CommitAt.has_place c.args.self.desk c.carry_out-came.result.1.desk
+    rolls_by g.K.Commit.kept g.K.Commit.takes g.K.CommitAt.has_place c.args.self.desk c.carry_out-came.result.1.desk
     c.carry_out-came.ensures.led
 
 pub returns-in-None-clause-left : goal.returns-in-None-clause-left

@@ -15,7 +15,7 @@ returns-in-Carried-clause-went g c = λ R place lines rest good answered come.
     (c.close.ensures.went R place lines left good answered (carried_kept c.args.line.now _ rest c.in-Carried.is) come)
 
 pub returns-in-Withdrawn-clause-led : goal.returns-in-Withdrawn-clause-led
-returns-in-Withdrawn-clause-led g c = goes_itself g.K.Commit.kept g.K.Commit.takes g.K.Commit.hears g.K.CommitAt.has_place c.args.self.desk
+returns-in-Withdrawn-clause-led g c = goes_itself g.K.Commit.kept g.K.Commit.takes g.K.CommitAt.has_place c.args.self.desk
 
 pub returns-in-Carried-clause-left : goal.returns-in-Carried-clause-left
 returns-in-Carried-clause-left g c = λ rest.

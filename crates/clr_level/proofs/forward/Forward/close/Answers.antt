@@ -10,7 +10,7 @@ use Rattle.clr_level.proofs.Fronts.{keeps_itself}
 use Rattle.clr_level.proofs.forward.Forward.close.Goals as goal
 
 pub returns-in-None-clause-led : goal.returns-in-None-clause-led
-returns-in-None-clause-led g c = goes_itself g.K.Commit.kept g.K.Commit.takes g.K.Commit.hears g.K.CommitAt.has_place c.args.self.desk
+returns-in-None-clause-led g c = goes_itself g.K.Commit.kept g.K.Commit.takes g.K.CommitAt.has_place c.args.self.desk
 
 pub returns-in-Some-clause-went : goal.returns-in-Some-clause-went
 returns-in-Some-clause-went g c = λ R place lines rest good answered kept come.

@@ -13,6 +13,6 @@ pub returns-clause-taken : goal.returns-clause-taken
 returns-clause-taken g c =
     let noted = c.in_ok-note.ensures in
     refused_is g.K.Commit.takes g.K.Commit.kept g.K.CommitAt.has_place g.C.Clock.shows g.J.Journal.text g.J.Journal.found g.J.Journal.may_leave g.J.Journal.is_usable
-    c.args.self.now c.note.new.self _ c.args.command.now c.args.reply.now c.note_refused-2.result c.requires.refused
+    c.args.self.now c.note.new.self _ c.args.login c.args.command.now c.args.reply.now c.note_refused-2.result c.requires.refused
     (sym c.is_show.ensures ∙ c.if-is_show.false) noted.noted noted.settled c.note.ensures.sound c.note.ensures.safe c.note.ensures.withdrawn c.note.ensures.keeper
-    (record { journal = refl; clock = refl; login = refl; at = refl; synced = refl }) refl c.note_refused-2.ensures.taken c.note_refused-2.ensures.stays
+    (record { journal = refl; clock = refl; at = refl; synced = refl }) refl c.note_refused-2.ensures.taken c.note_refused-2.ensures.stays
