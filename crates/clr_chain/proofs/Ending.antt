@@ -148,14 +148,6 @@ within_tail place first tail links s found lines alike is h =
     rest_within place first tail found
     (subst (λ f. IsFoundWith (unfinished tail) found f) here (subst (λ r. IsFoundWith r found (found_by place first (ended_lines links) s)) alike h))
 
-pub within_whole : (bytes : List ℕ) (found : SeenFound) (is : Found) → IsFound bytes found is → rest_of found ≤ length bytes
-within_whole bytes (seen.OtherRules number) is h = omega arith
-within_whole bytes seen.OtherRegister is h = omega arith
-within_whole bytes seen.TooShort is h = omega arith
-within_whole bytes (seen.Differs number) is h = omega arith
-within_whole bytes (seen.BadLine number) is h = omega arith
-within_whole bytes (seen.Ahead lines) is (left, cut, h) = let count = cut.count in omega (arith, count)
-
 pub unread_within : (found : SeenFound) (other : Option ℕ) (len : ℕ) → found ≡ seen_unread other → rest_of found ≤ len
 unread_within found other len is = subst (λ (f : SeenFound). rest_of f ≤ len) (sym is) (by other)
   where

@@ -113,12 +113,6 @@ at_unmet place text rest rest' (Some entry) h =
     either_by (number == place.number) (sought_here own entry rest) (sought_here own entry rest') (sought_below place number rest) (sought_below place number rest')
     (here_unmet own entry rest rest') (below_by (nat_lt number place.number) number rest rest') h
 
-unmet_left : (place : Place) (kept left : List (List ℕ)) → sought place (kept ++ left) ≡ unmet → sought place left ≡ unmet
-unfolding sought
-unmet_left place [] left h = h
-unmet_left place (k ∷ kept) left h =
-    unmet_left place kept left (neither (sought place (kept ++ left)) (sought_at place k (kept ++ left) (read_line k)) h).0
-
 unmet_swap : (place : Place) (kept left others : List (List ℕ)) → sought place (kept ++ left) ≡ unmet → sought place others ≡ unmet → sought place (kept ++ others) ≡ unmet
 unfolding sought
 unmet_swap place [] left others h none = none

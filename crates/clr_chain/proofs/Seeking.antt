@@ -20,10 +20,6 @@ seeks_on place rest text after last last' here whole first is later so_far =
     ∙ ap (λ texts. or_earlier (sought place texts) last) (sym first)
     ∙ so_far
 
-pub all_sought : (place : Place) (rest : List ℕ) (last whole : Sought) → ended_lines rest ≡ [] → or_earlier (sought place (ended_lines rest)) last ≡ whole → last ≡ whole
-unfolding sought
-all_sought place rest last whole none so_far = ap (λ texts. or_earlier (sought place texts) last) (sym none) ∙ so_far
-
 none_earlier : (s : Sought) → or_earlier s unmet ≡ s
 none_earlier (met is_own turn after) = refl
 none_earlier (passed number after) = refl

@@ -36,10 +36,6 @@ is_none_of (Some obstacle) none = absurd (false≢true (sym none))
 pub some_or_none : (found : Option Obstacle) (first : List (Option Obstacle)) → found ≡ first_obstacle first → is_some found ≡ false → first_obstacle first ≡ None
 some_or_none found first is none = sym is ∙ is_none_of found none
 
-pub first_alone : (found : Option Obstacle) → first_obstacle (found ∷ []) ≡ found
-first_alone None = refl
-first_alone (Some obstacle) = refl
-
 module _ (R : Register) (u : Update) where
   abbrev S : Register
   S = updated R u

@@ -547,10 +547,6 @@ end_sought copied R at first place texts old some settled it = refused_short cop
     by (inl w) = still_sought copied R at first place texts old it settled w.0 w.1
     by (inr runs) = absurd (true≢false (sym (subst (λ (o : Option Place). IsSome o) runs.begun some)))
 
--- over the lines from the first no copy is sought
-pub none_sought : (began R : Register) (first place : Place) (texts : List (List ℕ)) (old : Checking) → IsSome old.from → CheckedTo began first place R old texts → ⊥
-none_sought began R first place texts old some it = true≢false (sym (subst (λ (o : Option Place). IsSome o) it.begun some))
-
 -- the open deed had another reply, or the tables differ
 pub end_else : (began R : Register) (first place : Place) (texts : List (List ℕ)) (old : Checking) (fault : CheckFault)
     → (old.from ≡ None → (entries : List Entry) → RanOver began first place R old entries → RefusesRun began first entries place R fault)

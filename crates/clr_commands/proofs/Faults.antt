@@ -1,20 +1,17 @@
 -- What a subcommand may answer is no fault of the output or of listening.
 use Rattle.std.proofs.Common.{◌≡◌, ◌∙◌, ap, inl, inr, refl, subst, sym, Bool, true, false, ℕ, List, Result, Ok, Err}
 use Rattle.std.specs.Prelude.{IfErr, IfSome, IsErrAnd, None, Option, Some, option_map}
-use Rattle.clr_net.specs.declared.name.NameFault.{NameFault}
 use Rattle.clr_net.specs.declared.name.NameFault.TheVariants as name
-use Rattle.clr_net.specs.declared.net_fault.NetFault.{NetFault}
 use Rattle.clr_net.specs.declared.net_fault.NetFault.TheVariants as net
 use Rattle.clr_csv.specs.declared.fault.CsvFault.{CsvFault}
 use Rattle.clr_csv.specs.declared.fault.CsvFault.TheVariants as csv
-use Rattle.clr_staff.specs.declared.staff_fault.StaffFault.{StaffFault}
 use Rattle.clr_staff.specs.declared.staff_fault.StaffFault.TheVariants as staff
 use Rattle.clr_load.specs.declared.fault.StoreFault.{StoreFault}
 use Rattle.clr_load.specs.declared.fault.StoreFault.TheVariants as store
 use Rattle.clr_desk.specs.declared.desk_fault.DeskFault.{DeskFault}
 use Rattle.clr_desk.specs.declared.desk_fault.DeskFault.TheVariants as desk
 use Rattle.clr_edge.specs.Database.{IsOfLine, IsOfStore}
-use Rattle.clr_edge.specs.Fault.{IsOfFile, of_desk, of_file, of_name, of_network, of_staff, of_store}
+use Rattle.clr_edge.specs.Fault.{IsOfFile, of_desk, of_file, of_store}
 use Rattle.clr_chain.specs.declared.fault.ChainFault.{ChainFault}
 use Rattle.clr_chain.specs.declared.fault.ChainFault.TheVariants as chain
 use Rattle.clr_chain.specs.declared.fault.NewFault.{NewFault}
@@ -60,29 +57,6 @@ plain fault is = (
 
 plain_as : (fault found : Fault) → fault ≡ found → is_plain found ≡ true → IsOfSubcommand fault
 plain_as fault found e is = plain fault (ap is_plain e ∙ is)
-
--- the causes, as they are reported
-pub of_network_plain : (cause : NetFault) → IsOfSubcommand (of_network cause)
-of_network_plain net.NoSections = plain _ refl
-of_network_plain net.TooLarge = plain _ refl
-of_network_plain (net.SectionTwice row) = plain _ refl
-of_network_plain (net.PointTwice row) = plain _ refl
-of_network_plain (net.UnknownEnd row) = plain _ refl
-of_network_plain (net.SameEnds row) = plain _ refl
-of_network_plain net.NoMemory = plain _ refl
-
-pub of_staff_plain : (cause : StaffFault) → IsOfSubcommand (of_staff cause)
-of_staff_plain (staff.Twice row) = plain _ refl
-of_staff_plain (staff.UnknownSupervisor row) = plain _ refl
-of_staff_plain (staff.OwnSupervisor row) = plain _ refl
-of_staff_plain staff.TooMany = plain _ refl
-of_staff_plain staff.NoMemory = plain _ refl
-
-pub of_name_plain : (cause : NameFault) → IsOfSubcommand (of_name cause)
-of_name_plain name.Empty = plain _ refl
-of_name_plain name.TooLong = plain _ refl
-of_name_plain (name.BadByte place) = plain _ refl
-of_name_plain name.NoMemory = plain _ refl
 
 pub of_store_plain : (cause : StoreFault) → IsOfSubcommand (of_store cause)
 of_store_plain store.Sql = plain _ refl

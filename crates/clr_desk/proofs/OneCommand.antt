@@ -1,6 +1,5 @@
 -- One command: what its answer changes in the register, in the tables and in what a crash leaves.
-use Rattle.std.proofs.Common.{◌≡◌, ◌∙◌, false, List, [], Result, sym, ap, subst}
-use Rattle.std.specs.Prelude.{OnOk}
+use Rattle.std.proofs.Common.{◌≡◌, ◌∙◌, false, List, [], sym, ap, subst}
 use Rattle.sqlite.specs.State.{State, Survives}
 use Rattle.sqlite.proofs.StateLemmas.{survives_weaker}
 use Rattle.clr_net.specs.Grid.{Grid}
@@ -13,7 +12,6 @@ use Rattle.clr_rules.specs.Register.{Register}
 use Rattle.clr_rules.specs.Run.{after}
 use Rattle.clr_rules.specs.declared.change.Edit.{Edit}
 use Rattle.clr_rules.specs.declared.command.Command.{Command}
-use Rattle.clr_rules.specs.declared.reply.Reply.{Reply}
 use Rattle.clr_rules.proofs.edits.PlainEdits.{answers_with_plain}
 use Rattle.clr_book.proofs.Enough.{own_rows_are_enough}
 use Rattle.clr_book.specs.Growth.{network_after_all}
@@ -59,10 +57,6 @@ near_is_whole R q good = sym (own_rows_are_enough R q good)
 
 pub near_after_is_after : (R : Register) (q : Command) → IsGood R → near_after R q ≡ after R q
 near_after_is_after R q good = ap (λ (a : Answer). after_edits a.edits R) (near_is_whole R q good)
-
-pub leaves_whole : (R S : Register) (q : Command) (result : Result Reply DeskFault) → IsGood R
-    → OnOk result (S ≡ near_after R q) → OnOk result (S ≡ after R q)
-leaves_whole R S q result good = subst (λ (X : Register). OnOk result (S ≡ X)) (near_after_is_after R q good)
 
 -- the edited tables are those of the register after the command
 pub tables_after : (R : Register) (q : Command) (edits : List Edit) → edits ≡ Answer.edits (asked_answer R q) → IsGood R

@@ -1,5 +1,5 @@
 -- Why a register is not taken up, and what comes of one that is.
-use Rattle.std.proofs.Common.{◌≡◌, ◌∙◌, ap, inl, inr, refl, sym, ℕ, List, Result, Ok, Err}
+use Rattle.std.proofs.Common.{◌≡◌, ◌∙◌, ap, inl, inr, sym, ℕ, List, Result, Ok, Err}
 use Rattle.std.specs.Borrow.{Bor}
 use Rattle.std.specs.Prelude.{IfErr, IsErrAnd, None, Option, Some}
 use Rattle.sqlite.specs.Held.{Held, state}
@@ -8,15 +8,13 @@ use Rattle.clr_load.specs.declared.fault.StoreFault.{StoreFault}
 use Rattle.clr_load.specs.declared.fault.StoreFault.TheVariants.{Sql}
 use Rattle.clr_desk.specs.declared.commit.Commit as commit
 use Rattle.clr_desk.specs.declared.desk.Desk.{Desk}
-use Rattle.clr_desk.specs.declared.desk_fault.DeskFault.{DeskFault}
 use Rattle.clr_desk.specs.declared.desk_fault.DeskFault.TheVariants as desk
-use Rattle.clr_level.specs.declared.fault.OpeningFault.{OpeningFault}
 use Rattle.clr_level.specs.declared.keeper.Keeper.{Keeper}
 use Rattle.clr_edge.specs.Database.{IsOfLine}
-use Rattle.clr_edge.specs.Fault.{of_desk, of_store}
+use Rattle.clr_edge.specs.Fault.{of_store}
 use Rattle.clr_edge.specs.Journals.{IsOfOpening}
 use Rattle.clr_keeping.specs.Keeping.{IsDoneOver, IsGone, IsLetGo, IsNotUp, IsNotUpWith, IsUp, IsUpWith, Keeping, StaysLevelOver, WorksEither, WorksIn, WorksWith, logged, logged_keeper, plain, plain_keeper, unlogged}
-use Rattle.clr_keeping.specs.TakenUp.{IsOfTakingUp, LacksPlace, Logs, MissesOne, of_opening, store_place}
+use Rattle.clr_keeping.specs.TakenUp.{IsOfTakingUp, LacksPlace, Logs, MissesOne, store_place}
 use Rattle.clr_keeping.specs.TakenUp.IsNotTakenUp.{refused}
 use Rattle.clr_edge.specs.Visit.{Comes, Done, Ending, Opening, Shutting}
 use Rattle.clr_edge.specs.declared.fault.Fault.{Fault}
@@ -41,9 +39,6 @@ of_missing g before fault after (inr one) = inr (inl one.0)
 -- a journal that was not opened, and one that does not go together with the register
 pub of_shut : (fault : Fault) → IsOfOpening fault → IsOfTakingUp fault
 of_shut fault is = inr (inr (inl is))
-
-pub of_apart : (cause : OpeningFault) (fault : Fault) → fault ≡ of_opening cause → IsOfTakingUp fault
-of_apart cause fault is = inr (inr (inr (cause, is)))
 
 -- why it is not taken up with a journal, or to be changed without one, where its database refused it
 pub refused_too : {M T J C : Type 0} (g : Ghosts T) (opens : Opening M T) (shuts : Shutting M) (ends : Ending M T) (path journal : List ℕ) (logs : Logs M J C)

@@ -112,10 +112,6 @@ walked-same end = refl
 
 -- ---- the parts
 
--- these parts are left of those
-abbrev pub AreLeft : Option (List (List ℕ)) → (List (List ℕ) → List (List ℕ) → Type 0) → Option (List (List ℕ)) → Type 0
-AreLeft left Is all = IfSome all (λ known. (rest : List (List ℕ)) × (left ≡ Some rest) × Is rest known)
-
 -- where all are known, the next is, and so are those after it
 pub known-next : (bytes : Option (List ℕ)) (left : List (Option (List ℕ))) (rest : List (List ℕ)) → all_known (bytes ∷ left) ≡ Some rest
     → (one : List ℕ) × (more : List (List ℕ)) × (bytes ≡ Some one) × (all_known left ≡ Some more) × (rest ≡ one ∷ more)

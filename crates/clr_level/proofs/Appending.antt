@@ -2,10 +2,10 @@
 use Rattle.std.proofs.Common.{◌≡◌, ◌∙◌, ◌<◌, ◌≤◌, ℕ, List, [], ◌∷◌, ◌++◌, length, take, get_or, sym, subst, ap, arith}
 use Rattle.std.proofs.Math.Seq.{take-length}
 use Rattle.std.proofs.lemmas.Grind.{same_number_lists}
-use Rattle.std.proofs.lemmas.List.{get_or-take, length-take, length-take-le, take-append-le}
-use Rattle.sqlite_disk.specs.Disk.{Follows, Only}
-use Rattle.clr_journal.specs.Journal.{BeginsWith, Grown, with_line}
-use Rattle.clr_level.specs.Journaling.{IsDurable, IsKept, IsSafe, StaySafe}
+use Rattle.std.proofs.lemmas.List.{get_or-take, length-take, length-take-le}
+use Rattle.sqlite_disk.specs.Disk.{Only}
+use Rattle.clr_journal.specs.Journal.{BeginsWith, Grown}
+use Rattle.clr_level.specs.Journaling.{IsDurable, IsSafe}
 
 pub begins_itself : (text : List ℕ) → BeginsWith text text
 begins_itself text = take-length text
@@ -30,13 +30,6 @@ front_kept before d c at n below begins grown =
     get_or-take (length before) c k 0 inside ∙ grown.below k there here ∙ sym (get_or-take (length before) d k 0 inside)
     ∙ ap (λ (xs : List ℕ). get_or xs k 0) begins)
 
--- where a crash left the bytes alone that there were
-pub append_keeps : (before found : List ℕ) (n : ℕ) (old new : List ℕ → Type 0) → BeginsWith before found → Only found old
-    → Follows (Grown (length before) n) old new → (bytes : List ℕ) → new bytes → BeginsWith before bytes
-append_keeps before found n old new begins only follows bytes left =
-    let from = follows bytes left in
-    front_kept before found bytes (length before) n (omega arith) begins (subst (λ (d : List ℕ). Grown (length before) n d bytes) (only from.0 from.1) from.2)
-
 pub only_keeps : (before found : List ℕ) (left : List ℕ → Type 0) → BeginsWith before found → Only found left
     → (bytes : List ℕ) → left bytes → BeginsWith before bytes
 only_keeps before found left begins only bytes is = subst (λ (d : List ℕ). BeginsWith before d) (sym (only bytes is)) begins
@@ -47,32 +40,3 @@ pub durable_safe : {J : Type 0} (text : J → List ℕ) (may_leave : J → List 
 durable_safe text may_leave front journal is durable =
     subst (λ (t : List ℕ). IsSafe text may_leave t journal) is
     (record { begins = begins_itself (text journal); kept = only_keeps (text journal) (text journal) (may_leave journal) (begins_itself (text journal)) durable })
-
--- ---- what was safe is after an append
-
-still_kept : {J : Type 0} (text : J → List ℕ) (may_leave : J → List ℕ → Type 0) (n : ℕ) (old new : J) (front : List ℕ)
-    → Follows (Grown (length (text old)) n) (may_leave old) (may_leave new) → IsSafe text may_leave front old → IsKept may_leave front new
-still_kept text may_leave n old new front follows safe bytes left =
-    let from = follows bytes left in
-    front_kept front from.0 bytes (length (text old)) n (front_length front (text old) safe.begins) (safe.kept from.0 from.1) from.2
-
-pub written_safe : {J : Type 0} (text : J → List ℕ) (may_leave : J → List ℕ → Type 0) (n : ℕ) (line : List ℕ) (old new : J) → text new ≡ with_line (text old) line
-    → Follows (Grown (length (text old)) n) (may_leave old) (may_leave new) → StaySafe text may_leave old new
-written_safe text may_leave n line old new is follows front safe = record {
-  begins = ap (take (length front)) is ∙ take-append-le (length front) (text old) (line ++ 10 ∷ []) (front_length front (text old) safe.begins) ∙ safe.begins;
-  kept = still_kept text may_leave n old new front follows safe;
-}
-
-pub unwritten_safe : {J : Type 0} (text : J → List ℕ) (may_leave : J → List ℕ → Type 0) (n : ℕ) (old new : J) → text new ≡ text old
-    → Follows (Grown (length (text old)) n) (may_leave old) (may_leave new) → StaySafe text may_leave old new
-unwritten_safe text may_leave n old new is follows front safe = record {
-  begins = ap (take (length front)) is ∙ safe.begins;
-  kept = still_kept text may_leave n old new front follows safe;
-}
-
-pub synced_safe : {J : Type 0} (text : J → List ℕ) (may_leave : J → List ℕ → Type 0) (old new : J) → text new ≡ text old
-    → ((bytes : List ℕ) → may_leave new bytes → may_leave old bytes) → StaySafe text may_leave old new
-synced_safe text may_leave old new is less front safe = record {
-  begins = ap (take (length front)) is ∙ safe.begins;
-  kept = λ bytes left. safe.kept bytes (less bytes left);
-}

@@ -1,9 +1,8 @@
 -- One command at a keeper with one place for each change.
-use Rattle.std.proofs.Common.{◌≡◌, ◌∙◌, true, List, [], ◌∷◌, Result, Ok, Err, inl, inr, refl, ap, subst, sym}
-use Rattle.std.specs.Prelude.{IfOk, OnErr, OnOk}
+use Rattle.std.proofs.Common.{◌≡◌, ◌∙◌, ℕ, List, [], ◌∷◌, Option, None, Result, Ok, Err, inl, inr, refl, ap, subst, sym}
+use Rattle.std.specs.Prelude.{OnErr, OnOk}
 use Rattle.sqlite.specs.State.{HasCleanDisk, State, Survives}
 use Rattle.sqlite.proofs.StateLemmas.{survives_weaker}
-use Rattle.clr_answer.specs.Decision.{is_accepted}
 use Rattle.clr_rules.specs.Answer.{Answer}
 use Rattle.clr_rules.specs.Good.{IsGood}
 use Rattle.clr_rules.specs.Register.{Register}
@@ -18,22 +17,20 @@ use Rattle.clr_load.specs.Stored.{HasTables}
 use Rattle.clr_book.specs.Own.{asked_answer}
 use Rattle.clr_desk.specs.Asking.{near_after}
 use Rattle.clr_desk.specs.Carrying.{CarriesOut}
-use Rattle.clr_desk.specs.Commit.{Stays}
 use Rattle.clr_desk.specs.Crash.{AreAfter}
-use Rattle.clr_desk.specs.Given.{AreGiven, LeadsTo, command}
+use Rattle.clr_desk.specs.Given.{AreGiven, LeadsTo}
 use Rattle.clr_desk.specs.Kept.{Keeps}
-use Rattle.clr_desk.specs.Taking.{Came, Taking, Takes, TakesOne, is_refused}
+use Rattle.clr_desk.specs.Taking.{Came, Taking, Takes, TakesOne}
 use Rattle.clr_desk.specs.declared.desk.Desk.{Desk}
 use Rattle.clr_desk.specs.declared.desk_fault.DeskFault.{DeskFault}
 use Rattle.clr_desk.proofs.Keeping.{one_keeps}
-use Rattle.clr_desk.proofs.Staying.{stays_left}
 use Rattle.clr_level.specs.Crash.{AreAfterAt, KeepsTables}
 use Rattle.clr_level.specs.Forward.{Carries}
 use Rattle.clr_desk.specs.Placing.{AreEditedAt, CommitsAt, Placing}
-use Rattle.clr_level.specs.Placing.{ArePlacedAt, ComesTo, StaysShown}
+use Rattle.clr_level.specs.Placing.{ArePlacedAt, StaysShown}
 use Rattle.clr_level.specs.declared.placing.Placed.{Placed}
 use Rattle.clr_level.proofs.Crashes.{left_both, left_itself}
-use Rattle.clr_level.proofs.Places.{comes, shows_still, shown_itself, stays_shown}
+use Rattle.clr_level.proofs.Places.{comes, shows_still, shown_itself}
 
 -- ---- what a keeper with a place takes
 
@@ -63,23 +60,6 @@ module _ {K : Type 0} (takes : Taking K) (kept : K → State) (has_place : Placi
     crash = left_placed old new edits (Err cause) commits;
   }
 
-  not_both : (reply : Reply) → is_refused reply ≡ true → is_accepted reply ≡ true → ⊥
-  not_both (Accepted card) refused accepted = absurd (cc refused)
-  not_both (Shown view) refused accepted = absurd (cc refused)
-  not_both (Refused refusal) refused accepted = absurd (cc accepted)
-  not_both (Added point) refused accepted = absurd (cc refused)
-
-  pub noted_carries : (old new : Placed K) (login : Option (List ℕ)) (q : Command) (reply : Reply) (came : Came) → is_refused reply ≡ true
-      → Stays (kept old.keeper) (kept new.keeper) → takes old.keeper None q reply came new.keeper → new.place ≡ old.place
-      → Carries takes kept has_place old login q reply came new
-  noted_carries old new login q reply came refused stays taken same = record {
-    taken = taken;
-    same = same;
-    placed = λ is accepted. absurd (not_both reply refused accepted);
-    stays = λ fault is. stays_shown (kept old.keeper) (kept new.keeper) stays;
-    crash = stays_left (kept old.keeper) (kept new.keeper) (ArePlacedAt has_place (kept old.keeper).now old.place) stays;
-  }
-
   -- ---- what comes of one command
 
   takes_below : (old new : Placed K) (q : Command) (reply : Reply) (came : Came)
@@ -106,19 +86,6 @@ module _ {K : Type 0} (takes : Taking K) (kept : K → State) (has_place : Placi
   same_place R old new q (Ok reply) taken = takes_place old new q reply (Ok tt) taken
   same_place R old new q (Err fault) (inl out) = ap (λ (it : Placed K). it.place) out.1
   same_place R old new q (Err fault) (inr taken) = takes_place old new q (Answer.reply (asked_answer R q)) (Err fault) taken
-
-  takes_comes : (old new : Placed K) (q : Command) (reply : Reply) → is_accepted reply ≡ true → Takes (Carries takes kept has_place) old None q reply (Ok tt) new
-      → ComesTo has_place (kept old.keeper) (kept new.keeper) old.place
-  takes_comes old new q (Accepted card) accepted taken = taken.placed refl refl
-  takes_comes old new q (Shown view) accepted taken = absurd (cc accepted)
-  takes_comes old new q (Refused refusal) accepted taken = absurd (cc accepted)
-  takes_comes old new q (Added point) accepted taken = taken.placed refl refl
-
-  -- the place is that of the command, where it is accepted
-  pub one_comes : (R : Register) (old new : Placed K) (q : Command) (result : Result Reply DeskFault) → TakesOne (Carries takes kept has_place) R old None q result new
-      → IfOk result (λ reply. is_accepted reply ≡ true → ComesTo has_place (kept old.keeper) (kept new.keeper) old.place)
-  one_comes R old new q (Ok reply) taken = λ accepted. takes_comes old new q reply accepted taken
-  one_comes R old new q (Err fault) taken = tt
 
   takes_stays : (old new : Placed K) (q : Command) (reply : Reply) (fault : DeskFault) → Takes (Carries takes kept has_place) old None q reply (Err fault) new
       → StaysShown (kept old.keeper) (kept new.keeper)

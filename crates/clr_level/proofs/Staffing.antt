@@ -1,5 +1,5 @@
 -- A desk that is rolled forward stays fit: good and staffed.
-use Rattle.std.proofs.Common.{◌∙◌, List, [], ◌∷◌, Ok, Err, Result, inl, inr, refl, subst, sym}
+use Rattle.std.proofs.Common.{◌∙◌, ℕ, List, [], ◌∷◌, Ok, Err, Option, Result, inl, inr, refl, subst, sym}
 use Rattle.std.specs.Prelude.{⊤}
 use Rattle.sqlite.specs.State.{State}
 use Rattle.clr_book.specs.Book.{Shelved}

@@ -12,12 +12,11 @@ use Rattle.clr_desk.specs.Commit.{Stays}
 use Rattle.clr_desk.specs.Taking.{Came, Taking, is_refused}
 use Rattle.clr_desk.specs.declared.desk_fault.DeskFault.{DeskFault}
 use Rattle.clr_desk.specs.declared.desk_fault.DeskFault.TheVariants.{Journal, NoMemory, Store}
-use Rattle.clr_level.specs.Journaling.{DoubtHasCause, HasText, IsAsItWas, IsBeside, IsDurable, IsNoted, IsSafe, IsSound, IsUnwritten, IsWithdrawn, Journals, Misses, StaySafe, has_line, is_show, left, left_by, said, unasked, unkept, unwritten}
+use Rattle.clr_level.specs.Journaling.{HasText, IsBeside, IsDurable, IsNoted, IsSafe, IsSound, IsWithdrawn, Journals, Misses, StaySafe, has_line, is_show, left, left_by, said, unkept}
 use Rattle.clr_desk.specs.Placing.{CommitsAt, Placing}
 use Rattle.clr_level.specs.Placing.{ComesTo, StaysShown}
 use Rattle.clr_level.specs.declared.keeper.Keeper.{Keeper}
-use Rattle.clr_level.specs.declared.last.Last.{Last}
-use Rattle.clr_level.specs.declared.last.Last.TheVariants.{Owed, Settled}
+use Rattle.clr_level.specs.declared.last.Last.TheVariants.{Settled}
 use Rattle.clr_level.proofs.Places.{comes, shows_still, stays_shown}
 
 true_false : {A : Type 0} (b : Bool) → b ≡ true → b ≡ false → A
@@ -37,9 +36,6 @@ refused_reply (Accepted card) is = absurd (cc is)
 refused_reply (Shown view) is = absurd (cc is)
 refused_reply (Refused refusal) is = refl
 refused_reply (Added point) is = absurd (cc is)
-
-owed_not_settled : {A : Type 0} (it : Last) → it ≡ Owed → it ≡ Settled → A
-owed_not_settled it owed settled = absurd (cc (owed, settled))
 
 never_settled : {A : Type 0} (fault : DeskFault) → left_by fault ≡ Settled → A
 never_settled NoMemory is = absurd (cc is)
@@ -74,25 +70,6 @@ module _ {K J C : Type 0} (takes : Taking K) (kept : K → State) (has_place : P
   withdrawn_as : (old mid new : Keeper K J C) → IsBeside mid new → new.last ≡ mid.last → IsWithdrawn text may_leave old mid → IsWithdrawn text may_leave old new
   withdrawn_as old mid new beside last was owed settled =
       subst (λ (j : J). IsSafe text may_leave (said text old) j) (sym beside.journal) (was owed (sym last ∙ settled))
-
-  pub unwritten_is : (old : Keeper K J C) (login : Option (List ℕ)) (q : Command) (reply : Reply) (fault : DeskFault) (new : Keeper K J C)
-      → IsUnwritten shows text found may_leave old login q reply fault new → DoubtHasCause is_usable old new → new.keeper ≡ old.keeper
-      → (IsSound text found may_leave old → IsSound text found may_leave new) → StaySafe text may_leave old.journal new.journal
-      → IsWithdrawn text may_leave old new → Journals takes kept has_place shows text found may_leave is_usable old login q reply (Err fault) new
-  unwritten_is old login q reply fault new un cause same sound safe withdrawn = record {
-    noted = λ ok. absurd (cc ok);
-    asked = λ ok. absurd (cc ok);
-    durable = λ ok. absurd (cc ok);
-    placed = λ ok. absurd (cc ok);
-    stays = λ ok. absurd (cc ok);
-    taken = λ ok. absurd (cc ok);
-    missed = λ f is.
-        let same_fault : fault ≡ f = cc is in
-        subst (λ (g : DeskFault). Misses takes kept shows text found may_leave is_usable old login q reply g new) same_fault (unwritten un cause same);
-    sound = sound;
-    safe = safe;
-    withdrawn = withdrawn;
-  }
 
   -- an accepted command, whose line is durable
   pub kept_is : (old mid new : Keeper K J C) (login : Option (List ℕ)) (q : Command) (reply : Reply) (edits : List Edit) → is_accepted reply ≡ true → IsNoted shows text old login q reply mid
@@ -168,27 +145,4 @@ module _ {K J C : Type 0} (takes : Taking K) (kept : K → State) (has_place : P
         sound = λ was. sound_as mid new beside (sound was);
         safe = λ front was. safe_as mid new beside front (safe front was);
         withdrawn = withdrawn_as old mid new beside last withdrawn;
-      }
-
-  -- one that asks
-  pub asked_is : (old new : Keeper K J C) (login : Option (List ℕ)) (q : Command) (reply : Reply) (came : Came) → is_refused reply ≡ true → is_show q.kind ≡ true
-      → IsBeside old new → new.last ≡ old.last → takes old.keeper None q reply came new.keeper
-      → Stays (kept old.keeper) (kept new.keeper) → Journals takes kept has_place shows text found may_leave is_usable old login q reply came new
-  asked_is old new login q reply came refused asks beside last taken stays =
-      let refusal : is_accepted reply ≡ false = refused_reply reply refused in
-      let shown : StaysShown (kept old.keeper) (kept new.keeper) = stays_shown (kept old.keeper) (kept new.keeper) stays in
-      let same : IsAsItWas old new =
-      record { journal = beside.journal; clock = beside.clock; at = beside.at; last = last } in
-      record {
-        noted = λ ok has. true_false (has_line q reply) has (has_none q reply asks refusal);
-        asked = λ ok none. same;
-        durable = λ ok accepted. true_false (is_accepted reply) accepted refusal;
-        placed = λ ok accepted. true_false (is_accepted reply) accepted refusal;
-        stays = λ ok refused_too. shown;
-        taken = λ ok. subst (λ (c : Came). takes old.keeper None q reply c new.keeper) ok taken;
-        missed = λ f is.
-            unasked (has_none q reply asks refusal) same (subst (λ (c : Came). takes old.keeper None q reply c new.keeper) is taken) shown;
-        sound = λ was. sound_as old new beside was;
-        safe = λ front was. safe_as old new beside front was;
-        withdrawn = λ owed settled. owed_not_settled old.last owed (sym last ∙ settled);
       }

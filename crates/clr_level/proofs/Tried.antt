@@ -72,9 +72,6 @@ pub record Passed (lines left : List Entry) : Type 0 where
   pub all_is : lines ≡ before ++ left
   pub out : carried_out lines ≡ carried_out left
 
-pub passed_none : (lines : List Entry) → Passed lines lines
-passed_none lines = record { before = []; all_is = refl; out = refl }
-
 -- the first line of those that are left
 pub passed_at : (lines : List Entry) (left : List Line) (one : Line) (rest : List Line) → left ≡ one ∷ rest → Passed lines (map entry_of left)
     → Passed lines (entry_of one ∷ map entry_of rest)

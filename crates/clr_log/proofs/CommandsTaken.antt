@@ -1,15 +1,15 @@
 -- The commands of a chain, line by line.
 use Rattle.std.proofs.Common.{◌≡◌, ◌∙◌, ℕ, Bool, true, false, ◌&&◌, if◌then◌else◌, List, [], ◌∷◌, ◌++◌, map, Option, None, Some, IfSome, Result, Ok, Err, OnOk, refl, ap, sym, append_assoc}
-use Rattle.std.proofs.lemmas.List.{append-nil, map-append}
+use Rattle.std.proofs.lemmas.List.{append-nil}
 use Rattle.std.specs.Prelude.{not}
 use Rattle.serde_json.specs.Data.{Data}
 use Rattle.serde_json.specs.View.{view}
 use Rattle.clr_changes.specs.Deeds.{Deed, commands_among, deed_of}
 use Rattle.clr_rules.specs.Id.{Id}
-use Rattle.clr_journal.specs.Journals.{carried_out, onto_some, own_pair, withdraws}
+use Rattle.clr_journal.specs.Journals.{carried_out, onto_some, withdraws}
 use Rattle.clr_journal.specs.Line.{Entry, carried, withdrawn, is_accepted}
 use Rattle.clr_journal.specs.declared.line.Carried.{Carried}
-use Rattle.clr_verify.specs.Replay.{Answered, IsAccepted, answered_in, answered_of, open_entries, own_answered}
+use Rattle.clr_verify.specs.Replay.{Answered, IsAccepted, answered_in, answered_of, open_entries}
 use Rattle.clr_chain.specs.Walking.{holds, seen_step}
 use Rattle.clr_chain.specs.declared.walk.Step.{Step as SeenStep}
 use Rattle.clr_log.specs.About.{clearance_of, is_wanted}
@@ -41,11 +41,6 @@ one_alone wanted deed reply = one_wanted wanted deed reply [] ∙ append-nil _
 text_over-cons : (wanted : Option Id) (one : Answered) (rest : List Answered) → text_over wanted (one ∷ rest) ≡ text_over wanted (one ∷ []) ++ text_over wanted rest
 text_over-cons wanted one rest =
     one_wanted wanted one.deed one.reply (map pair_of rest) ∙ ap (λ text. text ++ text_over wanted rest) (sym (one_alone wanted one.deed one.reply))
-
--- a command was written, if there was one and it is wanted
-pub push_none : (wanted : Option Id) (text : List ℕ) → text ≡ text ++ text_over wanted []
-unfolding commands_among
-push_none wanted text = sym (append-nil text)
 
 pub push_some : (wanted : Option Id) (one : Carried) → if_wanted (is_wanted wanted (clearance_of (deed_of one.deed) (view one.reply))) (text_of_deed (deed_of one.deed)) ≡ text_over wanted (answered_of (Some one))
 push_some wanted one = sym (one_alone wanted (deed_of one.deed) (view one.reply))

@@ -16,7 +16,7 @@ use Rattle.sqlite.specs.Edit.{edit_of, put_all, are_fresh, is_taken, have_rowids
 use Rattle.sqlite.specs.Effect.{Database}
 use Rattle.sqlite.specs.Kind.TheVariants as kind
 use Rattle.sqlite.specs.Listing.{understood}
-use Rattle.sqlite.specs.Order.{Row, column, row_cmp, value_cmp}
+use Rattle.sqlite.specs.Order.{Row, column, value_cmp}
 use Rattle.sqlite.specs.Ops.{binary, is_true}
 use Rattle.sqlite.specs.Program.{overlay}
 use Rattle.sqlite.specs.Query.{Query, IsAnswer}
@@ -56,7 +56,7 @@ use Rattle.clr_load.proofs.AllRead.{same_value}
 use Rattle.clr_load.proofs.Columns.{both_true, cast_fits, equal_is, fits_length, says, sets_from, values_all, values_from}
 use Rattle.clr_load.proofs.Texts.{key_tests, replace_is, replaced, replacing, terms_from, tests_from, width_of}
 use Rattle.clr_store.proofs.Effects.{AreUnique, are_unique, ids_listed, is_met, no_reference, one_write, shown_rows, task_on, went, wrote}
-use Rattle.clr_store.proofs.Inside.{changed_to, in_any_order, met_is, put_again, runs_inside, taken_away}
+use Rattle.clr_store.proofs.Inside.{changed_to, in_any_order, put_again, runs_inside, taken_away}
 use Rattle.clr_store.proofs.Layouts.{at_place, in_two, rows_in_two}
 use Rattle.clr_store.proofs.RowLemmas.{put_fresh, removed}
 use Rattle.clr_store.proofs.Updates.{fresh_parts, given_numbers, put_all_fresh}
@@ -173,10 +173,6 @@ module _ (name : TableName) (row : Row) (fits : fits_columns (columns_in name) r
 
   met : Row → Bool
   met = is_met (key_tests name) row
-
-  met_row : (r : Row) → met r ≡ is_eq (row_cmp (take (keys_in name) (drop 1 r)) key)
-  unfolding met key
-  met_row r = sym (tests_taken (keys_in name) 0 (keys_in name) row r (omega arith)) ∙ met_is name (take (keys_in name) row) r is set
 
   set_row : sets_from 0 (keys_in name) row ≡ true
   set_row = sets_taken (keys_in name) 0 (keys_in name) row (omega arith) set

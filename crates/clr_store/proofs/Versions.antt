@@ -13,7 +13,7 @@ use Rattle.clr_load.specs.Cause.{fault_of}
 use Rattle.clr_load.specs.Contract.{RefusesPoints, TellsVersion, old_points}
 use Rattle.clr_load.specs.Fault.{IsOfDatabase, IsOfExpected, IsOfPoints}
 use Rattle.clr_store.specs.Contract.{IsOfOpening, RefusesOpening, RefusesVersion}
-use Rattle.clr_store.specs.Moving.{IsOfMove, RefusesMove, RefusesToMove}
+use Rattle.clr_store.specs.Moving.{RefusesMove, RefusesToMove}
 use Rattle.clr_load.specs.declared.fault.StoreFault.{StoreFault}
 use Rattle.clr_load.proofs.Causes.{told_of_database}
 use Rattle.clr_load.specs.declared.fault.StoreFault.TheVariants.{Sql, WrongVersion, BadRow, NoMemory, OtherTables}
@@ -76,13 +76,6 @@ old_unread t NoMemory is other h = tt
 old_unread t (BadRow table) is other h = subst (λ name. RefusesMove t (BadRow name)) (sym is) (subst (λ name. read_version t.meta ≡ Err name) is h)
 old_unread t (WrongVersion n) is other h = absurd h
 
-pub move_of_version : (fault : StoreFault) → IsOfExpected fault → IsOfMove fault
-move_of_version OtherTables is = tt
-move_of_version Sql is = tt
-move_of_version NoMemory is = tt
-move_of_version (BadRow table) is = subst (λ t. IsOfMove (BadRow t)) (sym is) tt
-move_of_version (WrongVersion n) is = absurd is
-
 pub old_stopped : (t : Tables) (fault : StoreFault) → IsOfPoints fault → read_version t.meta ≡ Ok (pos 1) → RefusesPoints (old_points t) fault → RefusesMove t fault
 old_stopped t Sql is one h = tt
 old_stopped t NoMemory is one h = tt
@@ -96,13 +89,6 @@ old_failed t NoMemory h = tt
 old_failed t (BadRow table) h = absurd h
 old_failed t (WrongVersion n) h = absurd h
 old_failed t OtherTables h = absurd h
-
-pub move_of_points : (fault : StoreFault) → IsOfPoints fault → IsOfMove fault
-move_of_points Sql is = tt
-move_of_points NoMemory is = tt
-move_of_points (BadRow table) is = subst (λ t. IsOfMove (BadRow t)) (sym is) tt
-move_of_points (WrongVersion n) is = absurd is
-move_of_points OtherTables is = absurd is
 
 -- a fault of the database stops a move with no word on the points
 pub database_stops : (t : Tables) (fault : StoreFault) → IsOfDatabase fault → RefusesPoints (old_points t) fault

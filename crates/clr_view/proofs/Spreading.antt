@@ -12,9 +12,6 @@ pub record Spreading (links : List Link) (i : ℕ) (old new : List Bool) (more :
   pub same : more ≡ false → new ≡ old
   pub fewer : more ≡ true → unmarked new < unmarked old
 
-pub nothing_spread : (links : List Link) (old : List Bool) → Spreads links old old
-nothing_spread links old = record { size = refl; kept = λ place h. h; least = λ test none within. within }
-
 pub spread_then : (links : List Link) (old between new : List Bool) → Spreads links old between → Spreads links between new → Spreads links old new
 spread_then links old between new first second = record {
   size = second.size ∙ first.size;

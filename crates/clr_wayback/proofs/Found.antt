@@ -1,5 +1,5 @@
 -- What is found in lists of rows, and in lists of references to rows.
-use Rattle.std.proofs.Common.{◌≡◌, ◌∙◌, ◌==◌, Bool, true, false, ◌&&◌, ℕ, List, [], ◌∷◌, ◌++◌, map, filter, find, refl, ap, sym, Bor, option_map, Option, Some, None, slice_get, is_some, option_copied, length}
+use Rattle.std.proofs.Common.{◌≡◌, ◌∙◌, ◌==◌, Bool, true, false, ◌&&◌, ℕ, List, [], ◌∷◌, ◌++◌, map, filter, find, refl, ap, sym, Bor, option_map, Option, slice_get, is_some, option_copied, length}
 use Rattle.std.specs.List.{list_any, flat_map}
 use Rattle.std.proofs.lemmas.List.{map-append}
 use Rattle.clr_order.proofs.Finds.{find_behind}
@@ -86,11 +86,6 @@ steps_undoing (h ∷ held) =
     map-append task (leaving h) (flat_map leaving held)
     ∙ ap (λ later. map task (leaving h) ++ later) (steps_undoing held)
     ∙ ap (λ first. first ++ undoing_steps held) (waiting_tasks (at_held_point h (undoing h Leave)))
-
--- a value is there where the reference to it is
-pub some_copied : {X : Type 0} (found : Option (Bor X)) → is_some (option_copied found) ≡ is_some found
-some_copied None = refl
-some_copied (Some x) = refl
 
 -- the points of the first round of a clearance's steps, of which there are references
 pub points_lent : (lent : List (Bor StepRow)) (steps : List StepRow) (c : Id) → map (λ (row : Bor StepRow). row.now) lent ≡ steps_of steps c

@@ -5,7 +5,7 @@ use Rattle.clr_shelf.proofs.Groups.{row_of-filter}
 use Rattle.clr_shelf.proofs.KeyOrder.{in_key_order-filter}
 use Rattle.clr_shelf.specs.Rows.{in_key_order}
 use Rattle.clr_shelf.proofs.SameRows.{same_from_reading}
-use Rattle.clr_rules.proofs.Common.{false≢true, one_id, record_id, same_Some}
+use Rattle.clr_rules.proofs.Common.{one_id, record_id, same_Some}
 use Rattle.clr_rules.proofs.edits.EditedLists.{edited_all-in_order}
 use Rattle.clr_rules.proofs.isolation.ClosedSteps.{closed_after}
 use Rattle.clr_rules.proofs.keeps.EveryKind.{commands_keep_good}
@@ -19,7 +19,6 @@ use Rattle.clr_rules.specs.Command.{named_clearance}
 use Rattle.clr_rules.specs.Commands.{Known, checks, edits_of}
 use Rattle.clr_rules.specs.Edits.{after_edit, after_edits}
 use Rattle.clr_rules.specs.Fences.{clearance_fence, found_fence, found_order_fence, order_fence, touching_names, work_fence}
-use Rattle.clr_rules.specs.Good.{IsGood}
 use Rattle.clr_rules.specs.Holds.{is_near_hold}
 use Rattle.clr_rules.specs.Id.{Id, id_cmp, id_cmp_total, same_id}
 use Rattle.clr_rules.specs.Near.{Near, is_asked, near_of, near_part, part, switched_by, switched_points}
@@ -250,13 +249,3 @@ answered_alike gone R S lacks q names = at (named_clearance q.kind) refl names
     at : (o : Option Id) → named_clearance q.kind ≡ o → NamesAnother gone o → answer_with (Near.known (near_of S q)) (Near.rows (near_of S q)) q ≡ answer R q
     at None named names = absurd names
     at (Some c) named kept = seen_alike gone R S lacks q c named kept
-
--- a register lacks nothing of itself
-pub lacks_nothing : (R : Register) → IsGood R → LacksOnly (λ c. false) R R
-lacks_nothing R good = record {
-  good = good;
-  closed = λ c is. absurd (false≢true is);
-  in_order = good.said.in_order;
-  rest = refl;
-  own = λ c kept. record { staff = refl; own_record = refl; own_steps = refl; own_holds = refl };
-}

@@ -32,7 +32,7 @@ use Rattle.clr_rules.specs.Records.{is_closed, is_open, record_key, record_of}
 use Rattle.clr_rules.specs.Register.{Register, opening}
 use Rattle.clr_rules.specs.StepKey.{step_key, step_key_cmp, step_key_cmp_total}
 use Rattle.clr_rules.specs.Steps.{steps_of}
-use Rattle.clr_rules.specs.WayBack.{moves_in, next_moves, way_back}
+use Rattle.clr_rules.specs.WayBack.{moves_in, next_moves}
 use Rattle.clr_rules.specs.declared.phase.Phase.{Phase}
 use Rattle.clr_rules.specs.declared.phase.Phase.TheVariants.{Closed}
 use Rattle.clr_rules.specs.declared.point_state.PointState.{PointState}
@@ -162,7 +162,3 @@ over_is_done R c r read over =
     ends : (r : Record) (phase : Phase) → is_closed phase ≡ true → moves_in R r phase ≡ []
     ends r Closed is = refl
     ends r _ is = cc is
-
--- the answer of any other
-pub open_is_walked : (R : Register) (c : Id) (r : Record) → record_of R.records c ≡ Some r → way_back_answer R c ≡ commands_or_no_way (tried R (way_back R c))
-open_is_walked R c r read = rw read refl
