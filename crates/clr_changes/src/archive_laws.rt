@@ -1,7 +1,9 @@
 //! Laws of archives: the contract of each function is the law, and its body is empty.
-ghost use Rattle.clr_changes.specs.ArchiveLaws.{ActsAreAnsweredAsCommands, ActsKeepGood, ArchivesAddUp};
+ghost use Rattle.clr_changes.specs.ArchiveLaws.{ActsAreAnsweredAsCommands, ActsKeepGood};
+ghost use Rattle.clr_changes.specs.ArchiveLaws.{ArchivesAddUp};
 ghost use Rattle.clr_changes.specs.ArchiveLaws.{ArchivesKeepAgreement, ArchivesKeepGood};
-ghost use Rattle.clr_changes.specs.ArchiveLaws.{ArchivesTakeClosedSteps, NoStepIsLost, OnlyShowsDiffer};
+ghost use Rattle.clr_changes.specs.ArchiveLaws.{ArchivesTakeClosedSteps, NoStepIsLost};
+ghost use Rattle.clr_changes.specs.ArchiveLaws.{OnlyShowsDiffer};
 
 /// An archive keeps a good register good, and a staffed one staffed.
 pub fn archives_keep_good()

@@ -1,7 +1,9 @@
 //! Laws of the definitions: the contract of each function is the law.
 ghost use Rattle.clr_changes.specs.DeedLaws.{CommandsAreARun, CommandsShowAlike};
-ghost use Rattle.clr_changes.specs.DeedLaws.{CrewsWorkSafelyOverDeeds, DeedsKeepGood, NoDeedTakesAway};
-ghost use Rattle.clr_changes.specs.DeedLaws.{SafeOverCommands, SameSightsSameAnswers, UnseenDeedsAgree};
+ghost use Rattle.clr_changes.specs.DeedLaws.{CrewsWorkSafelyOverDeeds, DeedsKeepGood};
+ghost use Rattle.clr_changes.specs.DeedLaws.{NoDeedTakesAway};
+ghost use Rattle.clr_changes.specs.DeedLaws.{SafeOverCommands, SameSightsSameAnswers};
+ghost use Rattle.clr_changes.specs.DeedLaws.{UnseenDeedsAgree};
 
 /// Deeds keep a good register good, and a staffed one staffed, whoever says them; and commands
 /// alone are a run.

@@ -211,7 +211,8 @@ fn names_gone(
     network: &Network,
 ) -> Result<Vec<Name>, AllocError>
     ensures { IfOk result (λ found. found.items
-        ≡ filter (λ p. not (has_name (point_names network.now.points) p)) (point_names points.now)) }
+        ≡ filter (λ p. not (has_name (point_names network.now.points) p))
+        (point_names points.now)) }
 {
     let mut gone = Vec::new(alloc);
     for point in points {

@@ -34,8 +34,8 @@ pub(crate) fn staying(
     jumpers: &[PointRow],
 ) -> Result<Vec<PointRow>, AllocError>
     ensures { IfOk result (λ found. found.items
-        ≡ filter (λ p. not (is_filed (as_update update.now) p.name || has_name update.now.without.items p.name))
-        jumpers.now) }
+        ≡ filter (λ p. not (is_filed (as_update update.now) p.name
+        || has_name update.now.without.items p.name)) jumpers.now) }
 {
     let mut found = Vec::new(alloc);
     for point in jumpers {

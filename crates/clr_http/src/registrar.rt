@@ -44,8 +44,8 @@ pub trait Registrar {
     fn faults(&self) -> u64
         ensures { result ≡ (keeper self.now).faults };
 
-    /// Answers a command that is given at a login, or at none, and makes its change. `None`, and one
-    /// more in `faults`, where the store or memory refused.
+    /// Answers a command that is given at a login, or at none, and makes its change. `None`, and
+    /// one more in `faults`, where the store or memory refused.
     fn answer(&mut self, login: Option<Text>, command: Command) -> Option<Reply>
         ensures reply { IsGood (keeper self.old).register → IfSome result (λ reply.
             reply ≡ Answer.reply (answer (keeper self.old).register command)) }

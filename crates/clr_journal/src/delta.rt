@@ -2,7 +2,8 @@
 ghost use Rattle.std.specs.Prelude.{◌≡◌, IfOk, IsTrue, option_map};
 ghost use Rattle.std.specs.List.{list_all};
 ghost use Rattle.serde_json.specs.View.{view};
-ghost use Rattle.clr_journal.specs.Delta.{both_data, both_in, can_be_said, changes_data, changes_in};
+ghost use Rattle.clr_journal.specs.Delta.{both_data, both_in, can_be_said, changes_data};
+ghost use Rattle.clr_journal.specs.Delta.{changes_in};
 ghost use Rattle.clr_journal.specs.Delta.{list_in};
 ghost use Rattle.clr_journal.specs.DeltaRows.{at_key, is_open};
 ghost use Rattle.clr_text.specs.Json.{list_data};

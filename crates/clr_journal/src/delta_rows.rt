@@ -2,9 +2,11 @@
 ghost use Rattle.std.specs.Prelude.{◌≡◌, IfOk, IsTrue, codes};
 ghost use Rattle.serde_json.specs.Find.{as_bool};
 ghost use Rattle.serde_json.specs.View.{view};
-ghost use Rattle.clr_journal.specs.DeltaRows.{at_key, employee_data, employee_in, gone_data, gone_in};
+ghost use Rattle.clr_journal.specs.DeltaRows.{at_key, employee_data, employee_in, gone_data};
+ghost use Rattle.clr_journal.specs.DeltaRows.{gone_in};
 ghost use Rattle.clr_journal.specs.DeltaRows.{is_said_employee, is_said_point, is_said_section};
-ghost use Rattle.clr_journal.specs.DeltaRows.{point_data, point_in, position_in, position_named, role_in};
+ghost use Rattle.clr_journal.specs.DeltaRows.{point_data, point_in, position_in, position_named};
+ghost use Rattle.clr_journal.specs.DeltaRows.{role_in};
 ghost use Rattle.clr_journal.specs.DeltaRows.{role_named, section_data, section_in};
 ghost use Rattle.clr_journal.specs.DeltaRows.{supervisor_in};
 ghost use Rattle.clr_net.specs.Name.{is_name};
