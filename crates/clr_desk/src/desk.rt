@@ -313,7 +313,26 @@ impl<K: Commit> Desk<K> {
         ensures taken { TakesOne K.takes self.old.book.register self.old.store login command result
             self.new.store }
         ensures led { LeadsTo K.kept K.takes self.old self.new }
+        ensures ran { IsGood self.old.book.register
+            → IsRun self.old.book.register
+            (with_reply (command ∷ []) (replies_of result)) (replies_of result)
+            self.new.book.register }
+        ensures headline { OthersChangeNoReply self.old.book.register
+            (with_reply (command ∷ []) (replies_of result)) (replies_of result)
+            self.new.book.register }
+        ensures untouched { OthersTakeNothing self.old.book.register
+            (with_reply (command ∷ []) (replies_of result)) }
+        ensures alone { OwnStandAlone self.old.book.register
+            (with_reply (command ∷ []) (replies_of result)) (replies_of result) }
+        ensures safe { CrewsWorkSafely self.old.book.register
+            (with_reply (command ∷ []) (replies_of result)) self.new.book.register }
         ensures faults { self.new.faults ≡ count_after (fault_of result) self.old.faults }
+        ensures keeps { Keeps (K.kept self.old.store) self.old.book.register
+            (K.kept self.new.store) self.new.book.register }
+        ensures crash { HasCleanDisk (K.kept self.new.store)
+            → LeavesSome (K.kept self.old.store)
+            (K.kept self.new.store) self.old.book.register (command ∷ [])
+            (length (replies_of result)) }
     {
         self.answer(login, &command)
     }

@@ -47,11 +47,11 @@ impl Moments {
 
     /// Adds what a call left. A sync begins the contents again.
     fn note(&mut self, alloc: Global, left: &Left) -> Result<(), Fail> {
-        if self.contents.first() != Some(&left.synced) {
+        if !has(self.contents.first(), &left.synced) {
             self.contents.clear();
             self.contents.push(left.synced.to_vec(alloc)?)?;
         }
-        if self.contents.last() != Some(&left.seen) {
+        if !has(self.contents.last(), &left.seen) {
             self.contents.push(left.seen.to_vec(alloc)?)?;
         }
         Ok(())
@@ -61,16 +61,16 @@ impl Moments {
     fn written(&self, alloc: Global) -> Result<Vec<usize>, Fail> {
         let mut places = Vec::new(alloc);
         for place in 0..self.longest().len().div_ceil(SECTOR) {
-            if self.is_written(place.saturating_mul(SECTOR)) {
+            let start = place.saturating_mul(SECTOR);
+            if self.differs(start, start.saturating_add(SECTOR)) {
                 places.push(place)?;
             }
         }
         Ok(places)
     }
 
-    /// Whether the contents differ in the sector at this offset.
-    fn is_written(&self, start: usize) -> bool {
-        let end = start.saturating_add(SECTOR);
+    /// Whether the bytes from `start` to `end` were not the same at all moments.
+    fn differs(&self, start: usize, end: usize) -> bool {
         let Some(first) = self.contents.first() else {
             return false;
         };
@@ -151,19 +151,15 @@ impl Moments {
                 return;
             };
             if is_noise {
-                if self.differs(at) {
+                if self.differs(at, at.saturating_add(1)) {
                     *cell = dice.roll(256) as u8;
                 }
-            } else if let Some(byte) = moment.and_then(|bytes| bytes.get(at)) {
-                *cell = *byte;
+            } else if let Some(bytes) = moment
+                && at < bytes.len()
+            {
+                *cell = bytes[at];
             }
         }
-    }
-
-    /// Whether the byte at this offset was not the same at all moments.
-    fn differs(&self, at: usize) -> bool {
-        let first = self.contents.first().and_then(|bytes| bytes.get(at));
-        self.contents.iter().any(|bytes| bytes.get(at) != first)
     }
 }
 
@@ -194,20 +190,33 @@ impl Crashes {
 
     /// What n crashes leave. None where all that was written is synced.
     pub fn some(&self, alloc: Global, count: u64) -> Result<Vec<Held>, Fail> {
-        let mut left = Vec::new(alloc);
         let log = self.log.written(alloc)?;
         let db = self.db.written(alloc)?;
-        if log.is_empty() && db.is_empty() {
-            return Ok(left);
-        }
+        let is_synced = log.is_empty() && db.is_empty();
+        let mut left = Vec::new(alloc);
+        let count = if is_synced { 0 } else { count };
         for seed in 0..count {
-            let mut dice = Dice::new(seed);
-            left.push(Held {
-                log: self.log.crashed(alloc, log.as_slice(), &mut dice)?,
-                db: self.db.crashed(alloc, db.as_slice(), &mut dice)?,
-            })?;
+            left.push(self.one(alloc, &log, &db, seed)?)?;
         }
         Ok(left)
+    }
+
+    /// What one crash leaves, by the written sectors of both files.
+    fn one(&self, alloc: Global, log: &[usize], db: &[usize], seed: u64) -> Result<Held, Fail> {
+        let mut dice = Dice::new(seed);
+        let log = self.log.crashed(alloc, log, &mut dice)?;
+        Ok(Held {
+            log,
+            db: self.db.crashed(alloc, db, &mut dice)?,
+        })
+    }
+}
+
+/// Whether a file had these bytes at a moment.
+fn has(moment: Option<&Vec<u8>>, bytes: &[u8]) -> bool {
+    match moment {
+        Some(held) => held.as_slice() == bytes,
+        None => false,
     }
 }
 
