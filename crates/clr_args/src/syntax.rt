@@ -22,7 +22,8 @@ const AFTER_HELP: &str = "Files are CSV, each with its header:\n  \
     STAFF     employee,role,supervisor\n\
     Rows and columns count from 1 below the header, so row 3 is line 4 in a spreadsheet.\n\
     Places in a name count from 0. Write -- before a name that begins with -.\n\n\
-    Status: 0 done; 1 a fault, with a line on standard error; 2 the command line does not parse.\n\n\
+    Status: 0 done; 1 a fault, with a line on standard error; \
+    2 the command line does not parse.\n\n\
     Example: gridclear fence sections.csv points.csv L2 S2 S3";
 
 /// The version, which `--version` prints.

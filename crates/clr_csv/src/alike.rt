@@ -30,8 +30,8 @@ fn push_alike_to(
     name: Name,
     later: &[Name],
 ) -> Result<(), AllocError>
-    ensures { OnOk result (warnings.new.items
-        ≡ warnings.old.items ++ map (Alike of name) (filter (differ_by_one_letter name) later.now)) }
+    ensures { OnOk result (warnings.new.items ≡ warnings.old.items
+        ++ map (Alike of name) (filter (differ_by_one_letter name) later.now)) }
 {
     let text = name.as_str();
     for other in later {

@@ -2,8 +2,8 @@
 ghost use Rattle.std.specs.Prelude.{◌≡◌, ◌↔◌, ◌≤◌, ◌⊎◌, [], IfErr, IfOk, IsTrue, false, ⊤};
 ghost use Rattle.sqlite.specs.Files.{FailsToOpenFiles, IsCleanLeft, IsTooLong, LeavesFiles};
 ghost use Rattle.sqlite.specs.Files.{faults_of, image_of, tally_left};
-ghost use Rattle.sqlite.specs.Opening.{FailsFor, FailsToMake, IsMade, blurred, is_open_error, probed};
-ghost use Rattle.sqlite.specs.Opening.{renamed, reported};
+ghost use Rattle.sqlite.specs.Opening.{FailsFor, FailsToMake, IsMade, blurred, is_open_error};
+ghost use Rattle.sqlite.specs.Opening.{probed, renamed, reported};
 ghost use Rattle.sqlite.specs.State.{store_error};
 ghost use Rattle.sqlite_pool.specs.Stored.{used_size};
 ghost use Rattle.sqlite_store.specs.FileStore.{is_shielded, view};

@@ -141,7 +141,8 @@ pub trait System {
 
     /// Listens on an address.
     fn listener(&mut self, address: SocketAddr) -> io::Result<TcpListener>
-        ensures listens { IfOk result (λ listener. Self.listens self.old address listener self.new) }
+        ensures listens { IfOk result (λ listener.
+            Self.listens self.old address listener self.new) }
         ensures refuses { IfErr result (λ error.
             Self.refuses self.old address (error_kind error) self.new) };
 }

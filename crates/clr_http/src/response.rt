@@ -215,6 +215,7 @@ fn without_body(alloc: Global, method: Method) -> Result<String, AllocError>
 {
     let word = method.word();
     format!(in alloc;
-        "HTTP/1.1 405 Method Not Allowed\r\nAllow: {word}\r\nContent-Length: 0\r\nConnection: close\r\n\r\n"
+        "HTTP/1.1 405 Method Not Allowed\r\nAllow: {word}\r\n\
+        Content-Length: 0\r\nConnection: close\r\n\r\n"
     )
 }

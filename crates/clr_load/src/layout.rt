@@ -1,6 +1,7 @@
 //! How the tables of a register lie in a database.
 ghost use Rattle.std.specs.Prelude.{◌≡◌, ◌<◌};
 ghost use Rattle.clr_load.specs.Layout.{has_table, is_moved, names_in, tree_in, version_of};
+ghost use Rattle.clr_load.specs.declared.layout.Layout.TheVariants.{AsMadeLogged, AsMovedLogged};
 ghost use Rattle.clr_load.specs.declared.table_name.TableName.TheVariants.{Journal};
 
 use crate::TableName;
@@ -85,27 +86,8 @@ impl Layout {
                 TableName::Hold,
                 TableName::NetworkPoint,
             ],
-            Layout::AsMadeLogged => &[
-                TableName::Meta,
-                TableName::Section,
-                TableName::NetworkPoint,
-                TableName::Staff,
-                TableName::Clearance,
-                TableName::Step,
-                TableName::Hold,
-                TableName::Journal,
-            ],
-            Layout::AsMovedLogged => &[
-                TableName::Meta,
-                TableName::Section,
-                TableName::Point,
-                TableName::Staff,
-                TableName::Clearance,
-                TableName::Step,
-                TableName::Hold,
-                TableName::NetworkPoint,
-                TableName::Journal,
-            ],
+            Layout::AsMadeLogged => made_logged(),
+            Layout::AsMovedLogged => moved_logged(),
         }
     }
 
@@ -128,4 +110,37 @@ impl Layout {
             (_, TableName::Journal) => 16,
         }
     }
+}
+
+/// The tables as made, and that of the register's place in its journal.
+fn made_logged() -> &'static [TableName]
+    ensures { result.now ≡ names_in AsMadeLogged }
+{
+    &[
+        TableName::Meta,
+        TableName::Section,
+        TableName::NetworkPoint,
+        TableName::Staff,
+        TableName::Clearance,
+        TableName::Step,
+        TableName::Hold,
+        TableName::Journal,
+    ]
+}
+
+/// The tables as moved, and that of the register's place in its journal.
+fn moved_logged() -> &'static [TableName]
+    ensures { result.now ≡ names_in AsMovedLogged }
+{
+    &[
+        TableName::Meta,
+        TableName::Section,
+        TableName::Point,
+        TableName::Staff,
+        TableName::Clearance,
+        TableName::Step,
+        TableName::Hold,
+        TableName::NetworkPoint,
+        TableName::Journal,
+    ]
 }

@@ -1,6 +1,6 @@
 //! A shelf over a list of rows in key order.
-ghost use Rattle.std.specs.Prelude.{◌≡◌, ◌-◌, ◌++◌, IsTrue, IfOk, IfErr, OnOk, vec_len, vec_capacity};
-ghost use Rattle.std.specs.Prelude.{filter, map};
+ghost use Rattle.std.specs.Prelude.{◌≡◌, ◌-◌, ◌++◌, IsTrue, IfOk, IfErr, OnOk};
+ghost use Rattle.std.specs.Prelude.{filter, map, vec_capacity, vec_len};
 ghost use Rattle.std.proofs.lemmas.List.Sorted.{IsPermutation-refl};
 ghost use Rattle.clr_shelf.specs.Rows.{in_key_order};
 ghost use Rattle.clr_shelf.specs.Places.{IsPlaceOf, IsGapFor};

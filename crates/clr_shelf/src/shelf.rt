@@ -1,6 +1,6 @@
 //! Shelves: finite maps from a key to its row.
-ghost use Rattle.std.specs.Prelude.{◌≡◌, ℕ, ◌+◌, ◌++◌, ◌<◌, ◌≤◌, List, [], Option, Some, length, map};
-ghost use Rattle.std.specs.Prelude.{filter, slice_get, IsTrue, IsOk, OnOk, OnErr, IfOk, OnSome};
+ghost use Rattle.std.specs.Prelude.{◌≡◌, ℕ, ◌+◌, ◌++◌, ◌<◌, ◌≤◌, List, [], Option, Some, length};
+ghost use Rattle.std.specs.Prelude.{filter, map, slice_get, IsTrue, IsOk, OnOk, OnErr, IfOk, OnSome};
 ghost use Rattle.std.specs.Prelude.{IfNone, option_copied};
 ghost use Rattle.std.specs.List.{flat_map, last_or};
 ghost use Rattle.std.specs.List.Sorted.{IsPermutation, IsStrictlySortedBy};

@@ -1,6 +1,6 @@
 //! A shelf over a list of rows by group and then key.
-ghost use Rattle.std.specs.Prelude.{◌≡◌, ◌≤◌, ◌+◌, ℕ, true, false, length, map, filter, IsTrue, IfOk};
-ghost use Rattle.std.specs.Prelude.{get_or};
+ghost use Rattle.std.specs.Prelude.{◌≡◌, ◌≤◌, ◌+◌, ℕ, true, false, length, map, filter};
+ghost use Rattle.std.specs.Prelude.{IfOk, IsTrue, get_or};
 ghost use Rattle.std.specs.List.{flat_map};
 ghost use Rattle.std.specs.List.Sorted.{IsStrictlySortedBy};
 ghost use Rattle.std.specs.Prelude.{IfErr};
