@@ -12,7 +12,7 @@ use Rattle.clr_staff.specs.declared.employee.Role.{Role}
 use Rattle.clr_changes.proofs.ArchiveCommon.{Answer, AreClosed, AreOneBut, Closed, Command, Id, IsGood, Kind, NamesNoneOf, Phase, Record, Register, after, answer, both_ways, false≢true, is_closed, named_clearance}
 use Rattle.clr_changes.proofs.ArchiveCommon.{record_of, same_Some, without_steps_of}
 use Rattle.clr_changes.proofs.Kept.{closed_not_open}
-use Rattle.clr_changes.specs.Acts.{ShowsNoneOf, is_show}
+use Rattle.clr_changes.specs.Unarchived.{ShowsNoneOf, is_show}
 use Rattle.clr_rules.specs.declared.refusal.Refusal.{Refusal}
 use Rattle.clr_rules.specs.declared.reply.Reply.TheVariants.{Refused}
 use Rattle.clr_rules.specs.declared.command.Kind.TheVariants.{Order, Instruct, Repeat, Report, Grant, Transfer, Cancel, Restore, Amend, Show, Request, Switch, Jumper}

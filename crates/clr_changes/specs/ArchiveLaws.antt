@@ -1,16 +1,18 @@
--- THE LAWS OF ARCHIVES. Each is proved, by a law in src/laws.rt.
+-- THE LAWS OF ARCHIVES. Each is proved, by a law in src/archive_laws.rt.
 use Rattle.std.specs.Prelude.{◌≡◌, ◌⊎◌, ◌≤◌, ℕ, Bool, true, false, List, [], Contains, Some}
 use Rattle.clr_rules.specs.Agreement.{Agree}
 use Rattle.clr_rules.specs.Answer.{answer}
 use Rattle.clr_rules.specs.Fences.{clearance_fence}
 use Rattle.clr_rules.specs.Good.{IsGood}
 use Rattle.clr_rules.specs.Isolation.{LeftAlone}
-use Rattle.clr_rules.specs.Prelude.{Id, Register, record_of, steps_of}
+use Rattle.clr_rules.specs.Prelude.{Id, Register, list_any, record_of, steps_of}
 use Rattle.clr_rules.specs.Records.{is_open}
 use Rattle.clr_rules.specs.Staffed.{IsStaffed}
-use Rattle.clr_changes.specs.Acts.{Act, ShowNoneGone, ShowsNoneOf, answers, answers_among}
-use Rattle.clr_changes.specs.Acts.{after_acts, commands_among}
+use Rattle.clr_rules.specs.laws.ClosedSteps.{AreOneBut}
 use Rattle.clr_changes.specs.Archive.{archived, gives_up, printed_records}
+use Rattle.clr_changes.specs.Deeds.{Deed, after_deeds}
+use Rattle.clr_changes.specs.Unarchived.{AreMade, ShowNoneGone, ShowsNoneOf, answers_among}
+use Rattle.clr_changes.specs.Unarchived.{is_update, unarchived}
 use Rattle.clr_rules.specs.declared.command.Command.{Command}
 use Rattle.clr_rules.specs.declared.record.Record.{Record}
 use Rattle.clr_rules.specs.declared.step_row.StepRow.{StepRow}
@@ -46,19 +48,25 @@ OnlyShowsDiffer =
     (before : ℕ) (R : Register) (q : Command) → IsGood R → ShowsNoneOf (gives_up before R) q.kind
     → answer (archived before R) q ≡ answer R q
 
--- ALL COMMANDS ARE ANSWERED AS IF NOTHING WERE ARCHIVED, whenever that is done, if none of them
--- shows a clearance that gave up its steps.
--- No update is among them: it changes what is answered. The headline of clr_deeds has all three
-abbrev pub ActsAreAnsweredAsCommands : Type 0
-ActsAreAnsweredAsCommands =
-    (R : Register) (acts : List Act) → IsGood R → ShowNoneGone (λ c. false) R acts
-    → answers_among R acts ≡ answers R (commands_among acts)
+-- AS IF NOTHING WERE ARCHIVED: the commands among deeds have the same answers, and at the end the
+-- registers are one but for the steps of records that are closed
+pub record GoAsUnarchived (R : Register) (deeds : List Deed) : Type 0 where
+  pub answers : answers_among R deeds ≡ answers_among R (unarchived deeds)
+  pub gone : Id → Bool
+  pub rest : AreOneBut gone (after_deeds R deeds) (after_deeds R (unarchived deeds))
 
--- and every register that they reach from a good and staffed one is good and staffed
-abbrev pub ActsKeepGood : Type 0
-ActsKeepGood =
-    (R : Register) (acts : List Act) → IsGood R
-    → IsGood (after_acts R acts) × (IsStaffed R → IsStaffed (after_acts R acts))
+-- DEEDS GO AS IF NOTHING WERE ARCHIVED, whenever that is done, if no command among them shows a
+-- clearance that gave up its steps, and each update can be made with those steps and without them
+abbrev pub DeedsGoAsUnarchived : Type 0
+DeedsGoAsUnarchived =
+    (R : Register) (deeds : List Deed) → IsGood R → ShowNoneGone (λ c. false) R deeds
+    → AreMade R deeds → AreMade R (unarchived deeds) → GoAsUnarchived R deeds
+
+-- of commands and archives alone nothing has to be made
+abbrev pub WithoutUpdatesAreMade : Type 0
+WithoutUpdatesAreMade =
+    (R : Register) (deeds : List Deed) → list_any is_update deeds ≡ false
+    → AreMade R deeds × AreMade R (unarchived deeds)
 
 -- AGREEMENT NEAR A CLEARANCE IS KEPT by an archive on either side, as long as the clearance does
 -- not give up its steps: in each register it has the same of itself and of what is near

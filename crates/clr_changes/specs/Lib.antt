@@ -10,8 +10,8 @@ pub mod Lines
 pub mod Report
 pub mod Made
 pub mod Archive
-pub mod Acts
-pub mod ArchiveLaws
 pub mod Deeds
 pub mod Sights
+pub mod Unarchived
+pub mod ArchiveLaws
 pub mod DeedLaws

@@ -1,9 +1,8 @@
 //! Laws of archives: the contract of each function is the law, and its body is empty.
-ghost use Rattle.clr_changes.specs.ArchiveLaws.{ActsAreAnsweredAsCommands, ActsKeepGood};
-ghost use Rattle.clr_changes.specs.ArchiveLaws.{ArchivesAddUp};
-ghost use Rattle.clr_changes.specs.ArchiveLaws.{ArchivesKeepAgreement, ArchivesKeepGood};
-ghost use Rattle.clr_changes.specs.ArchiveLaws.{ArchivesTakeClosedSteps, NoStepIsLost};
-ghost use Rattle.clr_changes.specs.ArchiveLaws.{OnlyShowsDiffer};
+ghost use Rattle.clr_changes.specs.ArchiveLaws.{ArchivesAddUp, ArchivesKeepAgreement};
+ghost use Rattle.clr_changes.specs.ArchiveLaws.{ArchivesKeepGood, ArchivesTakeClosedSteps};
+ghost use Rattle.clr_changes.specs.ArchiveLaws.{DeedsGoAsUnarchived, NoStepIsLost, OnlyShowsDiffer};
+ghost use Rattle.clr_changes.specs.ArchiveLaws.{WithoutUpdatesAreMade};
 
 /// An archive keeps a good register good, and a staffed one staffed.
 pub fn archives_keep_good()
@@ -21,11 +20,12 @@ pub fn only_shows_differ()
     ensures { OnlyShowsDiffer }
 {}
 
-/// Over commands and archives, all commands that show no such record are answered as if nothing
-/// were archived, and the register stays good and staffed.
-pub fn acts_are_answered_as_commands()
-    ensures answers { ActsAreAnsweredAsCommands }
-    ensures good { ActsKeepGood }
+/// Over commands, updates and archives, all commands that show no such record are answered as if
+/// nothing were archived, if the updates can be made with the steps that went and without them.
+/// Of commands and archives alone nothing has to be made.
+pub fn deeds_go_as_unarchived()
+    ensures answers { DeedsGoAsUnarchived }
+    ensures commands { WithoutUpdatesAreMade }
 {}
 
 /// Two registers that agree near a clearance agree near it after archives.

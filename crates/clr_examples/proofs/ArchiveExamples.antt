@@ -4,10 +4,13 @@ use Rattle.clr_rules.proofs.Common.{IsReached, after_all, after_edits, in_fence,
 use Rattle.clr_rules.proofs.Common.{has_any_hold, has_some_hold, held_among, hindering_hold, new_steps, places_of}
 use Rattle.clr_rules.proofs.keeps.EveryKind.{reached_are_good}
 use Rattle.clr_rules.proofs.staffed.EveryKind.{reached_are_staffed}
-use Rattle.clr_changes.specs.Acts.{ShowNoneGone}
+use Rattle.clr_changes.specs.Unarchived.{AreMade, ShowNoneGone, unarchived}
+use Rattle.clr_update.proofs.Delta.{changes_say_all}
 use Rattle.clr_changes.specs.Archive.{gives_up}
 use Rattle.clr_examples.proofs.ReachedExamples.{worked_is_network, worked_is_staff}
-use Rattle.clr_examples.specs.Archives.{CommandsGoOn, TheLawsSpeakOfIt, beside_kim, one_closed}
+use Rattle.clr_examples.proofs.UpdateExamples.{is_accepted}
+use Rattle.clr_examples.specs.Archives.{CommandsGoOn, TheLawsSpeakOfIt, UpdatesAreMade, beside_kim, one_closed}
+use Rattle.clr_examples.specs.Updates.{at_work, is_built}
 use Rattle.clr_examples.specs.Worked.{from_moment, jones_1, kim_1, worked_net, worked_staff}
 
 beside_is_reached : IsReached beside_kim
@@ -39,3 +42,9 @@ laws_speak_of_it = record {
 pub commands_go_on : CommandsGoOn
 unfolding ShowNoneGone in_fence reaches row_of with_row without_row new_steps holds_of places_of has_some_hold has_any_hold hindering_hold held_among first_of_each steps_in steps_of greatest_number touching_names after_edits after_all
 commands_go_on = (inr refl, (inl refl, (inl refl, (inr refl, tt))))
+
+pub updates_are_made : UpdatesAreMade
+unfolding AreMade unarchived
+updates_are_made =
+    let made = changes_say_all.made at_work is_built is_accepted.0 in
+    ((made, tt), (made, tt))

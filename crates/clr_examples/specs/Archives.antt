@@ -10,9 +10,13 @@ use Rattle.clr_rules.specs.declared.phase.Phase.TheVariants.{Requested, Closed}
 use Rattle.clr_rules.specs.declared.refusal.Refusal.TheVariants.{WrongPhase}
 use Rattle.clr_rules.specs.declared.reply.Reply.TheVariants.{Accepted, Shown}
 use Rattle.clr_rules.specs.declared.step_row.StepRow.{StepRow}
-use Rattle.clr_changes.specs.Acts.{Act, ShowNoneGone}
 use Rattle.clr_changes.specs.Archive.{archived, gives_up, printed_records}
+use Rattle.clr_changes.specs.Deeds.{Deed}
+use Rattle.clr_changes.specs.Unarchived.{AreMade, ShowNoneGone, unarchived}
+use Rattle.clr_update.specs.Changes.{changes}
+use Rattle.clr_update.specs.Update.{updated}
 use Rattle.clr_examples.specs.Runs.{giving_up}
+use Rattle.clr_examples.specs.Updates.{at_work, is_built}
 use Rattle.clr_examples.specs.Worked.{JONES, KIM, L2, OPS, Saying, jones_1, kim_1}
 use Rattle.clr_examples.specs.Worked.{kim_is_ordered, refused, register_after, s2_opened, said_at}
 use Rattle.clr_examples.specs.Worked.{does, says, step_runs, S3, S4, T1}
@@ -97,12 +101,21 @@ pub record TheLawsSpeakOfIt : Type 0 where
   pub gone : gives_up 117 beside_kim jones_1 ≡ true
   pub kept : gives_up 117 beside_kim kim_1 ≡ false
 
-abbrev pub goes_on : List Act
+abbrev pub goes_on : List Deed
 goes_on =
-    Act.command (said_at 150 (says KIM (Show kim_1))) ∷ Act.archive 117
-    ∷ Act.command (said_at 200 (says OPS (Instruct kim_1 1)))
-    ∷ Act.command (said_at 200 (says OPS (Instruct jones_1 1)))
-    ∷ Act.command (said_at 200 (says KIM (Show kim_1))) ∷ []
+    Deed.command (said_at 150 (says KIM (Show kim_1))) ∷ Deed.archive 117
+    ∷ Deed.command (said_at 200 (says OPS (Instruct kim_1 1)))
+    ∷ Deed.command (said_at 200 (says OPS (Instruct jones_1 1)))
+    ∷ Deed.command (said_at 200 (says KIM (Show kim_1))) ∷ []
 
 abbrev pub CommandsGoOn : Type 0
 CommandsGoOn = ShowNoneGone (λ c. false) beside_kim goes_on
+
+-- and an update among them can be made, with what an archive takes and without it
+abbrev pub built_then_archived : List Deed
+built_then_archived =
+    Deed.update (changes at_work (updated at_work is_built)) ∷ Deed.archive 117 ∷ []
+
+abbrev pub UpdatesAreMade : Type 0
+UpdatesAreMade =
+    AreMade at_work built_then_archived × AreMade at_work (unarchived built_then_archived)

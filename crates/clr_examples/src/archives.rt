@@ -2,7 +2,7 @@
 ghost use Rattle.clr_examples.specs.Archives.{CommandsGoOn, JonesIsPrinted, KimKeepsHerSteps};
 ghost use Rattle.clr_examples.specs.Archives.{NothingIsPastAtItsMoment, NumbersGoOn, RecordsStay};
 ghost use Rattle.clr_examples.specs.Archives.{RefusedAsBefore, ReleasedRecordsKeepTheirs};
-ghost use Rattle.clr_examples.specs.Archives.{ShownWithoutSteps, TheLawsSpeakOfIt};
+ghost use Rattle.clr_examples.specs.Archives.{ShownWithoutSteps, TheLawsSpeakOfIt, UpdatesAreMade};
 
 /// Which record is printed, and what is left.
 pub fn beside_kim()
@@ -24,4 +24,5 @@ pub fn after_it()
 pub fn archive_premises()
     ensures register { TheLawsSpeakOfIt }
     ensures commands { CommandsGoOn }
+    ensures updates { UpdatesAreMade }
 {}

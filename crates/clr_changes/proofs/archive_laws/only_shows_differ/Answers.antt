@@ -1,4 +1,4 @@
-use Rattle.clr_changes.proofs.Acting.{only_shows_differ}
+use Rattle.clr_changes.proofs.Unarchived.{only_shows_differ}
 use Rattle.clr_changes.proofs.archive_laws.only_shows_differ.Goals as goal
 
 pub returns : goal.returns
