@@ -1,16 +1,19 @@
 -- What a desk was given, one part after the other.
-use Rattle.std.proofs.Common.{◌≡◌, ◌++◌, ℕ, List, [], ◌∷◌, Option, Result, refl, subst, sym}
+use Rattle.std.proofs.Common.{◌≡◌, ◌++◌, ℕ, IsTrue, List, [], ◌∷◌, Option, Result, refl, subst, sym}
+use Rattle.sqlite.specs.Effect.{Database}
 use Rattle.sqlite.specs.State.{State}
+use Rattle.sqlite.specs.Tree.{Trees}
 use Rattle.clr_rules.specs.Register.{Register}
 use Rattle.clr_rules.specs.declared.command.Command.{Command}
 use Rattle.clr_rules.specs.declared.reply.Reply.{Reply}
 use Rattle.clr_desk.specs.Carrying.{CarriesOut}
-use Rattle.clr_desk.specs.Given.{AreGiven, Given, LeadsTo}
+use Rattle.clr_desk.specs.Given.{AreGiven, Given, LaterDesksSurvive, LeadsTo}
 use Rattle.clr_desk.specs.Kept.{Keeps}
 use Rattle.clr_desk.specs.Taking.{Taking, TakesOne}
 use Rattle.clr_desk.specs.declared.desk.Desk.{Desk}
 use Rattle.clr_desk.specs.declared.desk_fault.DeskFault.{DeskFault}
 use Rattle.clr_desk.proofs.Keeping.{keeps_itself, keeps_on, one_keeps}
+use Rattle.clr_desk.proofs.RunSteps.{stands}
 
 module _ {K : Type 0} (kept : K → State) (takes : Taking K) where
   given_on : (R X S : Register) (k m l : K) (first later : List Given) → AreGiven takes R k first X m
@@ -69,3 +72,11 @@ module _ {K : Type 0} (kept : K → State) (takes : Taking K) where
       (refl, refl),
     );
   }
+
+-- ---- what a crash leaves of a later desk
+
+pub later_desks_survive : {K : Type 0} (kept : K → State) (takes : Taking K)
+    → ((k : K) (trees : Trees) → IsTrue (State.is_open (kept k)) → State.may_leave (kept k) trees → trees ≡ Database.trees (State.committed (kept k)))
+    → LaterDesksSurvive kept takes
+later_desks_survive kept takes settled old new led clean shown saved good has trees may =
+    stands (kept new.store) new.book.register trees (led.keeps.saved clean shown saved) (led.keeps.tables clean shown good has) (settled new.store trees shown may)

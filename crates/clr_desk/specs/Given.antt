@@ -1,10 +1,15 @@
 -- WHAT A DESK WAS GIVEN: commands one after the other, at which logins, and what came of each.
-use Rattle.std.specs.Prelude.{◌≡◌, ℕ, false, List, [], ◌∷◌, Option, IfOk, OnOk, Result}
-use Rattle.sqlite.specs.State.{State}
+use Rattle.std.specs.Prelude.{◌≡◌, ℕ, false, List, [], ◌∷◌, Option, IfOk, IsTrue, OnOk, Result}
+use Rattle.sqlite.specs.State.{HasCleanDisk, State}
+use Rattle.sqlite.specs.Tree.{Trees}
 use Rattle.clr_rules.specs.Answer.{Answer}
+use Rattle.clr_rules.specs.Good.{IsGood}
 use Rattle.clr_rules.specs.Register.{Register}
 use Rattle.clr_rules.specs.declared.command.Command.{Command}
 use Rattle.clr_rules.specs.declared.reply.Reply.{Reply}
+use Rattle.clr_load.specs.Contract.{IsSaved}
+use Rattle.clr_load.specs.Stored.{AreTables, HasTables}
+use Rattle.clr_load.specs.Tables.{tables_of}
 use Rattle.clr_desk.specs.Answering.{has_accepted}
 use Rattle.clr_book.specs.Own.{asked_answer}
 use Rattle.clr_desk.specs.Asking.{near_after}
@@ -46,3 +51,13 @@ pub record LeadsTo {K : Type 0} (kept : K → State) (takes : Taking K) (old new
   pub given : List Given
   pub are_given : AreGiven takes old.book.register old.store given new.book.register
       new.store
+
+-- A LATER DESK SURVIVES A CRASH: where a saved store had the tables of a good register, what keeps
+-- the changes later leaves the tables of the register then, while it is open and no disk failed
+abbrev pub LaterDesksSurvive : {K : Type 0} → (K → State) → Taking K → Type 0
+LaterDesksSurvive {K} kept takes = (old new : Desk K) → LeadsTo kept takes old new
+    → HasCleanDisk (kept new.store) → IsTrue (kept new.store).is_open
+    → IsSaved (kept old.store) → IsGood old.book.register
+    → HasTables (kept old.store).now (tables_of old.book.register)
+    → (trees : Trees) → (kept new.store).may_leave trees
+    → AreTables trees (tables_of new.book.register)
