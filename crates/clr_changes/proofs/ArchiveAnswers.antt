@@ -109,7 +109,7 @@ refused_stays R q refusal is = ap (λ (a : Answer). after_edits a.edits R) is
 
 -- ---- in two registers that are one but for steps of closed records
 
-closed_in_second : (gone : Id → Bool) (R S : Register) → AreOneBut gone R S → AreClosed gone S
+pub closed_in_second : (gone : Id → Bool) (R S : Register) → AreOneBut gone R S → AreClosed gone S
 closed_in_second gone R S one c is =
     let (r, read, over) = one.closed c is in
     (r, ap (λ (T : Register). record_of T.records c) (sym one.rest) ∙ read, over)

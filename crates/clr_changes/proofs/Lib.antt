@@ -7,6 +7,7 @@ pub mod ArchiveCommon
 pub mod Kept
 pub mod Agreeing
 pub mod ArchiveAnswers
+pub mod UpdatesAlike
 pub mod Unarchived
 pub mod LastStep
 pub mod Deeds

@@ -12,6 +12,7 @@ use Rattle.clr_update.specs.Changes.{Changes}
 use Rattle.clr_update.specs.Delta.{after_changes, can_be_made, update_of}
 unfoldable use Rattle.clr_update.specs.Update.{filed}
 use Rattle.clr_update.specs.Update.{updated}
+use Rattle.clr_changes.proofs.UpdatesAlike.{made_in_both}
 use Rattle.clr_changes.specs.ArchiveLaws.{DeedsGoAsUnarchived, OnlyShowsDiffer, WithoutUpdatesAreMade}
 use Rattle.clr_changes.specs.Deeds.{Deed, archive, command, update}
 unfoldable use Rattle.clr_changes.specs.Deeds.{after_deeds}
@@ -81,38 +82,38 @@ record GoAlike (R S : Register) (deeds : List Deed) : Type 0 where
   rest : AreOneBut gone (after_deeds R deeds) (after_deeds S (unarchived deeds))
 
 go_alike : (deeds : List Deed) (gone : Id → Bool) (R S : Register) → IsGood R → IsGood S → AreOneBut gone R S → ShowNoneGone gone R deeds
-    → AreMade R deeds → AreMade S (unarchived deeds) → GoAlike R S deeds
+    → AreMade R deeds → GoAlike R S deeds
 unfolding ShowNoneGone AreMade all_along unarchived after_deeds
-go_alike [] gone R S good other one free made too = record { answers = refl; gone = gone; rest = one }
-go_alike (command q ∷ deeds) gone R S good other one free made too =
+go_alike [] gone R S good other one free made = record { answers = refl; gone = gone; rest = one }
+go_alike (command q ∷ deeds) gone R S good other one free made =
     let both = alike gone R S good other one q free.0 in
-    let later = go_alike deeds gone (after R q) (after S q) (commands_keep_good R q good) (commands_keep_good S q other) both.again free.1 made too in
+    let later = go_alike deeds gone (after R q) (after S q) (commands_keep_good R q good) (commands_keep_good S q other) both.again free.1 made in
     record { answers = λ i. both.answers i ∷ later.answers i; gone = later.gone; rest = later.rest }
-go_alike (update of ∷ deeds) gone R S good other one free made too =
+go_alike (update of ∷ deeds) gone R S good other one free made =
     let later = go_alike deeds gone (after_changes R of) (after_changes S of) (changes_keep_good.good R of good) (changes_keep_good.good S of other)
-    (made_alike gone R S of one made.0 too.0) free made.1 too.1 in
+    (made_alike gone R S of one made.0 (made_in_both gone R S of good other one made.1 made.0)) free made.2 in
     record { answers = later.answers; gone = later.gone; rest = later.rest }
-go_alike (archive before ∷ deeds) gone R S good other one free made too =
+go_alike (archive before ∷ deeds) gone R S good other one free made =
     let later = go_alike deeds (λ c. gone c || gives_up before R c) (archived before R) S (archives_keep_good.good before R good) other
-    (widened gone before R S one) free made too in
+    (widened gone before R S one) free made in
     record { answers = later.answers; gone = later.gone; rest = later.rest }
 
 nothing_gone : (R : Register) → AreOneBut (λ c. false) R R
 nothing_gone R = record { closed = λ c is. absurd (false≢true is); rest = refl }
 
 pub deeds_go_as_unarchived : DeedsGoAsUnarchived
-deeds_go_as_unarchived R deeds good free made too =
-    let all = go_alike deeds (λ c. false) R R good good (nothing_gone R) free made too in
+deeds_go_as_unarchived R deeds good free made =
+    let all = go_alike deeds (λ c. false) R R good good (nothing_gone R) free made in
     record { answers = all.answers; gone = all.gone; rest = all.rest }
 
 -- ---- without updates
 
-none_to_make : (deeds : List Deed) (R S : Register) → list_any is_update deeds ≡ false → AreMade R deeds × AreMade S (unarchived deeds)
-unfolding AreMade unarchived
-none_to_make [] R S none = (tt, tt)
-none_to_make (command q ∷ deeds) R S none = none_to_make deeds (after R q) (after S q) none
-none_to_make (update of ∷ deeds) R S none = absurd (false≢true (sym none))
-none_to_make (archive before ∷ deeds) R S none = none_to_make deeds (archived before R) S none
+none_to_make : (deeds : List Deed) (R : Register) → list_any is_update deeds ≡ false → AreMade R deeds
+unfolding AreMade
+none_to_make [] R none = tt
+none_to_make (command q ∷ deeds) R none = none_to_make deeds (after R q) none
+none_to_make (update of ∷ deeds) R none = absurd (false≢true (sym none))
+none_to_make (archive before ∷ deeds) R none = none_to_make deeds (archived before R) none
 
 pub without_updates_are_made : WithoutUpdatesAreMade
-without_updates_are_made R deeds none = none_to_make deeds R R none
+without_updates_are_made R deeds none = none_to_make deeds R none

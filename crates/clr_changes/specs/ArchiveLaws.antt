@@ -56,17 +56,16 @@ pub record GoAsUnarchived (R : Register) (deeds : List Deed) : Type 0 where
   pub rest : AreOneBut gone (after_deeds R deeds) (after_deeds R (unarchived deeds))
 
 -- DEEDS GO AS IF NOTHING WERE ARCHIVED, whenever that is done, if no command among them shows a
--- clearance that gave up its steps, and each update can be made with those steps and without them
+-- clearance that gave up its steps, and each update can be made and leaves an operator
 abbrev pub DeedsGoAsUnarchived : Type 0
 DeedsGoAsUnarchived =
     (R : Register) (deeds : List Deed) → IsGood R → ShowNoneGone (λ c. false) R deeds
-    → AreMade R deeds → AreMade R (unarchived deeds) → GoAsUnarchived R deeds
+    → AreMade R deeds → GoAsUnarchived R deeds
 
 -- of commands and archives alone nothing has to be made
 abbrev pub WithoutUpdatesAreMade : Type 0
 WithoutUpdatesAreMade =
-    (R : Register) (deeds : List Deed) → list_any is_update deeds ≡ false
-    → AreMade R deeds × AreMade R (unarchived deeds)
+    (R : Register) (deeds : List Deed) → list_any is_update deeds ≡ false → AreMade R deeds
 
 -- AGREEMENT NEAR A CLEARANCE IS KEPT by an archive on either side, as long as the clearance does
 -- not give up its steps: in each register it has the same of itself and of what is near

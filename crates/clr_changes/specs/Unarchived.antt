@@ -2,11 +2,13 @@
 -- one after the other, and what the commands among them are answered.
 use Rattle.std.specs.Prelude.{◌⊎◌, ◌≡◌, Bool, true, false, ◌||◌, List, [], ◌∷◌}
 use Rattle.clr_rules.specs.Answer.{Answer, answer}
+use Rattle.clr_rules.specs.Checks.{is_operator}
 use Rattle.clr_rules.specs.Command.{named_clearance}
 use Rattle.clr_rules.specs.Prelude.{Id, Register}
 use Rattle.clr_rules.specs.Run.{after}
+use Rattle.clr_rules.specs.Staffed.{has_some_role}
 use Rattle.clr_rules.specs.laws.ClosedSteps.{NamesNoneOf}
-use Rattle.clr_update.specs.Delta.{after_changes, can_be_made}
+use Rattle.clr_update.specs.Delta.{after_changes, can_be_made, staff_of}
 use Rattle.clr_changes.specs.Archive.{archived, gives_up}
 use Rattle.clr_changes.specs.Deeds.{Deed, archive, command, update}
 use Rattle.clr_changes.specs.Sights.{all_along}
@@ -47,11 +49,13 @@ ShowNoneGone gone R (update of ∷ deeds) = ShowNoneGone gone (after_changes R o
 ShowNoneGone gone R (archive before ∷ deeds) =
     ShowNoneGone (λ c. gone c || gives_up before R c) (archived before R) deeds
 
--- EACH UPDATE AMONG THEM CAN BE MADE at its place
+-- EACH UPDATE AMONG THEM CAN BE MADE at its place, and leaves an operator. A step needs one, and an
+-- archive may take the last
 unfoldable pub AreMade : Register → List Deed → Type 0
 AreMade R [] = Unit {0}
 AreMade R (command q ∷ deeds) = AreMade (after R q) deeds
-AreMade R (update of ∷ deeds) = (can_be_made R of ≡ true) × AreMade (after_changes R of) deeds
+AreMade R (update of ∷ deeds) = (can_be_made R of ≡ true)
+    × (has_some_role (staff_of R of) is_operator ≡ true) × AreMade (after_changes R of) deeds
 AreMade R (archive before ∷ deeds) = AreMade (archived before R) deeds
 
 abbrev pub is_update : Deed → Bool

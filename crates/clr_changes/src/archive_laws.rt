@@ -21,8 +21,8 @@ pub fn only_shows_differ()
 {}
 
 /// Over commands, updates and archives, all commands that show no such record are answered as if
-/// nothing were archived, if the updates can be made with the steps that went and without them.
-/// Of commands and archives alone nothing has to be made.
+/// nothing were archived, if each update can be made and leaves an operator. Of commands and
+/// archives alone nothing has to be made.
 pub fn deeds_go_as_unarchived()
     ensures answers { DeedsGoAsUnarchived }
     ensures commands { WithoutUpdatesAreMade }

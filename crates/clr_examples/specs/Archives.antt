@@ -12,7 +12,7 @@ use Rattle.clr_rules.specs.declared.reply.Reply.TheVariants.{Accepted, Shown}
 use Rattle.clr_rules.specs.declared.step_row.StepRow.{StepRow}
 use Rattle.clr_changes.specs.Archive.{archived, gives_up, printed_records}
 use Rattle.clr_changes.specs.Deeds.{Deed}
-use Rattle.clr_changes.specs.Unarchived.{AreMade, ShowNoneGone, unarchived}
+use Rattle.clr_changes.specs.Unarchived.{AreMade, ShowNoneGone}
 use Rattle.clr_update.specs.Changes.{changes}
 use Rattle.clr_update.specs.Update.{updated}
 use Rattle.clr_examples.specs.Runs.{giving_up}
@@ -111,11 +111,7 @@ goes_on =
 abbrev pub CommandsGoOn : Type 0
 CommandsGoOn = ShowNoneGone (λ c. false) beside_kim goes_on
 
--- and an update among them can be made, with what an archive takes and without it
-abbrev pub built_then_archived : List Deed
-built_then_archived =
-    Deed.update (changes at_work (updated at_work is_built)) ∷ Deed.archive 117 ∷ []
-
+-- and an update among them can be made, and leaves an operator
 abbrev pub UpdatesAreMade : Type 0
-UpdatesAreMade =
-    AreMade at_work built_then_archived × AreMade at_work (unarchived built_then_archived)
+UpdatesAreMade = AreMade at_work
+    (Deed.update (changes at_work (updated at_work is_built)) ∷ Deed.archive 117 ∷ [])
