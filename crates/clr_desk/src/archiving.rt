@@ -6,6 +6,7 @@ ghost use Rattle.clr_changes.specs.Archive.{archived};
 ghost use Rattle.clr_load.specs.Contract.{IsSaved};
 ghost use Rattle.clr_load.specs.Stored.{HasTables};
 ghost use Rattle.clr_load.specs.Tables.{tables_of};
+ghost use Rattle.clr_store.specs.Contract.{KeepsPlace};
 ghost use Rattle.clr_desk.specs.Answering.{fault_of};
 ghost use Rattle.clr_desk.specs.Archiving.{AreArchived};
 ghost use Rattle.clr_desk.specs.Faults.{IsOfCommand, count_after};
@@ -28,12 +29,14 @@ impl<S: Alter + Drop> Desk<Store<S>> {
     /// tables, in one transaction. The store is handed back.
     ///
     /// `Store(Sql)` where the database refuses or fails, `NoMemory` where memory runs out. On a
-    /// fault the tables are as they were.
+    /// fault the tables are as they were. A place in a journal stays as it is.
     pub fn archive(self, alloc: Global, before: Moment) -> (Result<(), DeskFault>, Store<S>)
         ensures archived { HasCleanDisk (state S.Store result.1)
             → HasTables (state S.Store self.store).now (tables_of self.book.register)
             → OnOk result.0 (HasTables (state S.Store result.1).now
             (tables_of (archived before self.book.register))) }
+        ensures placed { HasCleanDisk (state S.Store result.1) → OnOk result.0
+            (KeepsPlace (state S.Store self.store).now (state S.Store result.1).now) }
         ensures saved { HasCleanDisk (state S.Store result.1)
             → OnOk result.0 (IsSaved (state S.Store result.1)) }
         ensures none { HasCleanDisk (state S.Store result.1)
@@ -60,6 +63,8 @@ fn archive_tables<S: Alter + Drop>(
         → HasTables (state S.Store store.old).now (tables_of book.now.register)
         → OnOk result (HasTables (state S.Store store.new).now
         (tables_of (archived before book.now.register))) }
+    ensures placed { HasCleanDisk (state S.Store store.new) → OnOk result
+        (KeepsPlace (state S.Store store.old).now (state S.Store store.new).now) }
     ensures saved { HasCleanDisk (state S.Store store.new)
         → OnOk result (IsSaved (state S.Store store.new)) }
     ensures none { HasCleanDisk (state S.Store store.new)

@@ -7,6 +7,7 @@ ghost use Rattle.clr_changes.specs.Outcome.{register_after};
 ghost use Rattle.clr_changes.specs.Report.{IsReport};
 ghost use Rattle.clr_changes.specs.Shown.{as_update};
 ghost use Rattle.clr_load.specs.Stored.{HasTables};
+ghost use Rattle.clr_store.specs.Contract.{KeepsPlace};
 ghost use Rattle.clr_store.specs.Renewed.{AreStatesOf};
 ghost use Rattle.clr_load.specs.Tables.{tables_of};
 ghost use Rattle.clr_load.specs.TypedRows.{IsTyped};
@@ -35,13 +36,16 @@ impl<S: Alter + Drop> Desk<Store<S>> {
     /// transaction, where nothing is in the way. The store is handed back.
     ///
     /// `Store(Sql)` where the database refuses or fails, `NoMemory` where memory runs out. On a
-    /// fault, and where something is in the way, the tables are as they were.
+    /// fault, and where something is in the way, the tables are as they were. A place in a journal
+    /// stays as it is.
     pub fn update(self, alloc: Global, update: Update) -> (Result<Report, DeskFault>, Store<S>)
         ensures report { IfOk result.0 (IsReport self.book.register (as_update update)) }
         ensures updated { HasCleanDisk (state S.Store result.1)
             → HasTables (state S.Store self.store).now (tables_of self.book.register)
             → OnOk result.0 (HasTables (state S.Store result.1).now
             (tables_of (after_update self.book.register (as_update update)))) }
+        ensures placed { HasCleanDisk (state S.Store result.1) → OnOk result.0
+            (KeepsPlace (state S.Store self.store).now (state S.Store result.1).now) }
         ensures saved { IfOk result.0
             (λ report. SavesIfAccepted S.Store report self.store result.1) }
         ensures none { HasCleanDisk (state S.Store result.1)
@@ -69,6 +73,8 @@ fn update_tables<S: Alter + Drop>(
         → HasTables (state S.Store store.old).now (tables_of book.now.register)
         → OnOk result (HasTables (state S.Store store.new).now
         (tables_of (after_update book.now.register (as_update update)))) }
+    ensures placed { HasCleanDisk (state S.Store store.new) → OnOk result
+        (KeepsPlace (state S.Store store.old).now (state S.Store store.new).now) }
     ensures saved { IfOk result
         (λ report. SavesIfAccepted S.Store report store.old store.new) }
     ensures none { HasCleanDisk (state S.Store store.new)

@@ -48,3 +48,6 @@ returns-in_err-keys-clause-crash g c = record {
   closes = λ _ is_open. inl is_open;
   crash = λ _ db left. inl left;
 }
+
+pub returns-clause-placed : goal.returns-clause-placed
+returns-clause-placed g c clean = c.in_ok-take_steps.ensures.placed clean

@@ -103,3 +103,10 @@ returns-in_err-outcome-clause-crash g c = record {
   closes = λ _ is_open. inl is_open;
   crash = λ _ db left. inl left;
 }
+
+-- its place stays
+pub returns-in-InTheWay-clause-placed : goal.returns-in-InTheWay-clause-placed
+returns-in-InTheWay-clause-placed g c clean t has place are = are
+
+pub returns-in_ok-update-in-Accepted-clause-placed : goal.returns-in_ok-update-in-Accepted-clause-placed
+returns-in_ok-update-in-Accepted-clause-placed g c clean = c.in_ok-update-in-Accepted.ensures.placed clean
