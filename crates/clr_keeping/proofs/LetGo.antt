@@ -8,26 +8,25 @@ use Rattle.clr_keeping.specs.declared.taking_up.Opened.{Opened}
 use Rattle.clr_keeping.specs.declared.taking_up.Opened.TheVariants.{Logged, Plain}
 
 module _ {M J C T : Type 0} (ends : Ending M T) (logs : Logs M J C) (database : Held T) (closed : Done) where
-  alone : (opened : Opened (Held T) J C) (old new : M) → IsEnded opened database None → Ends ends database closed old new
+  alone : (opened : Opened (Held T) J C) (old new : M) → IsEnded logs.log opened database None → Ends ends database closed old new
       → IsLetGo ends logs opened closed old new
   alone (Plain desk) old new ended gone = (database, old, (refl, ended), gone)
   alone (Logged desk) old new ended gone = absurd ended
 
-  beside : (opened : Opened (Held T) J C) (journal : J) (old middle new : M) → IsEnded opened database (Some journal)
+  beside : (opened : Opened (Held T) J C) (journal : J) (old middle new : M) → IsEnded logs.log opened database (Some journal)
       → logs.steps.lets_journal_go old journal middle → Ends ends database closed middle new → IsLetGo ends logs opened closed old new
   beside (Plain desk) journal old middle new ended goes gone = absurd ended
-  beside (Logged desk) journal old middle new (kept, same) goes gone =
-      let P : J → Type 0 = λ j. logs.steps.lets_journal_go old j middle in (database, middle, (subst P same goes, kept), gone)
+  beside (Logged desk) journal old middle new (kept, left) goes gone = (database, middle, (journal, left, goes, kept), gone)
 
   -- its database is closed as it was left
-  pub gone_alone : (opened : Opened (Held T) J C) (found : Option J) (old new : M) → found ≡ None → IsEnded opened database found
+  pub gone_alone : (opened : Opened (Held T) J C) (found : Option J) (old new : M) → found ≡ None → IsEnded logs.log opened database found
       → Ends ends database closed old new → IsLetGo ends logs opened closed old new
   gone_alone opened found old new none ended gone =
-      let P : Option J → Type 0 = λ o. IsEnded opened database o in alone opened old new (subst P none ended) gone
+      let P : Option J → Type 0 = λ o. IsEnded logs.log opened database o in alone opened old new (subst P none ended) gone
 
   -- its journal was let go first
   pub gone_beside : (opened : Opened (Held T) J C) (found : Option J) (journal : J) (old middle new : M) → found ≡ Some journal
-      → IsEnded opened database found → logs.steps.lets_journal_go old journal middle → Ends ends database closed middle new
+      → IsEnded logs.log opened database found → logs.steps.lets_journal_go old journal middle → Ends ends database closed middle new
       → IsLetGo ends logs opened closed old new
   gone_beside opened found journal old middle new some ended goes gone =
-      let P : Option J → Type 0 = λ o. IsEnded opened database o in beside opened journal old middle new (subst P some ended) goes gone
+      let P : Option J → Type 0 = λ o. IsEnded logs.log opened database o in beside opened journal old middle new (subst P some ended) goes gone

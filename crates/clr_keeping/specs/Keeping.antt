@@ -16,7 +16,7 @@ use Rattle.clr_desk.specs.declared.commit.Commit as commit
 use Rattle.clr_desk.specs.declared.desk.Desk.{Desk}
 use Rattle.clr_rules.specs.declared.place.Place.{Place}
 use Rattle.clr_journal.specs.declared.journal.Journal as append
-use Rattle.clr_level.specs.Journaling.{FailsToo, IsSound, Journals, is_doubtful}
+use Rattle.clr_level.specs.Journaling.{FailsToo, IsLeftAs, IsSound, Journals, is_doubtful}
 use Rattle.clr_level.specs.Levelling.{IsKeptLevel}
 use Rattle.clr_level.specs.Restarting.{IsSafeAt}
 use Rattle.clr_level.specs.declared.keeper.Keeper.{Keeper}
@@ -73,10 +73,15 @@ GoesPlain old new it after = (new ≡ old) × (after ≡ it)
 
 -- ---- with one
 
--- the journal is let go as it is then, and the database given back
-abbrev pub GoesLogged : {M J C T : Type 0} → journals.Ghosts M J C → M → M → Keeper (Held T) J C
-    → Held T → Type 0
-GoesLogged at old new it after = at.lets_journal_go old it.journal new × (after ≡ it.keeper)
+-- the journal as it is left, with the withdrawal that is owed
+abbrev pub IsLeftBy : {J C T : Type 0} → append.Ghosts J → Keeper (Held T) J C → J → Type 0
+IsLeftBy log it journal = IsLeftAs log.text log.may_leave log.is_usable it journal
+
+-- that is let go, and the database given back
+abbrev pub GoesLogged : {M J C T : Type 0} → Logs M J C → M → M → Keeper (Held T) J C → Held T
+    → Type 0
+GoesLogged {J = J} logs old new it after = (journal : J) × IsLeftBy logs.log it journal
+    × logs.steps.lets_journal_go old journal new × (after ≡ it.keeper)
 
 -- ---- either
 
@@ -173,7 +178,7 @@ logged g logs path = record {
   takes_up = λ old new before desk.
       IsTakenUp g logs path old new before desk.store desk.book.register;
   refuses = λ old new before fault after. IsNotTakenUp g logs path before fault after old new;
-  lets_go = GoesLogged logs.steps;
+  lets_go = GoesLogged logs;
   stays = StaysOne (state g) store_place logs.log;
 }
 
@@ -276,14 +281,15 @@ IsNotUpWith g opens shuts ends path logs (Some journal) =
 abbrev pub IsLetGo : {M J C T : Type 0} → Ending M T → Logs M J C → Opened (Held T) J C → Done
     → M → M → Type 0
 IsLetGo ends logs (Plain desk) = IsGone GoesPlain ends desk.store
-IsLetGo ends logs (Logged desk) = IsGone (GoesLogged logs.steps) ends desk.store
+IsLetGo ends logs (Logged desk) = IsGone (GoesLogged logs) ends desk.store
 
 -- its desk was ended: its database is handed back, and its journal, if it has one
-abbrev pub IsEnded : {T J C : Type 0} → Opened (Held T) J C → Held T → Option J → Type 0
-IsEnded (Plain desk) database None = database ≡ desk.store
-IsEnded (Logged desk) database (Some journal) =
-    (database ≡ desk.store.keeper) × (journal ≡ desk.store.journal)
-IsEnded opened database journal = ⊥
+abbrev pub IsEnded : {T J C : Type 0} → append.Ghosts J → Opened (Held T) J C → Held T → Option J
+    → Type 0
+IsEnded log (Plain desk) database None = database ≡ desk.store
+IsEnded log (Logged desk) database (Some journal) =
+    (database ≡ desk.store.keeper) × IsLeftBy log desk.store journal
+IsEnded log opened database journal = ⊥
 
 -- what is done over its desk, whichever that is
 abbrev pub IsDoneOver : {K J C : Type 0} → (Desk K → Desk K → Type 0)

@@ -232,7 +232,8 @@ fn logged<S: Alter + Drop, R: Journals>(
     }
 }
 
-/// Lets a register go: its journal as it is then, if it has one, and then its database is closed.
+/// Lets a register go: its journal, if it has one, with the withdrawal that is owed, and then its
+/// database is closed.
 pub fn let_go<R: Databases + Journals>(
     rt: &mut R,
     opened: Opened<Store<R::Tables>, R::Log, R::Time>,
@@ -255,12 +256,12 @@ pub fn let_go<R: Databases + Journals>(
 fn ended<S: Alter + Drop, J: Journal + Drop, C: Clock>(
     opened: Opened<Store<S>, J, C>,
 ) -> (Connection<S>, Option<J>)
-    ensures { IsEnded opened result.0 result.1 }
+    ensures { IsEnded J.Journal opened result.0 result.1 }
 {
     match opened {
         Opened::Plain(desk) => (desk.end().end(), None),
         Opened::Logged(desk) => {
-            let (store, log) = desk.end().end();
+            let (store, log) = desk.end().finish();
             (store.end(), Some(log))
         }
     }

@@ -20,3 +20,4 @@ pub mod BegunLevel
 pub mod Restarts
 pub mod Safes
 pub mod Fronts
+pub mod LeftAs

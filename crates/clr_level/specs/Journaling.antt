@@ -1,6 +1,6 @@
 -- A KEEPER WITH A JOURNAL: which line a command, an update or an archive has, and when.
-use Rattle.std.specs.Prelude.{◌≡◌, ◌⊎◌, ◌+◌, ◌^◌, ◌<◌, ◌&&◌, ◌||◌, ℕ, nat_lt, Bool, true, false, not}
-use Rattle.std.specs.Prelude.{List, length, Option, Some, None, Ok, Err, if◌then◌else◌}
+use Rattle.std.specs.Prelude.{◌≡◌, ◌≢◌, ◌⊎◌, ◌+◌, ◌^◌, ◌<◌, ◌&&◌, ◌||◌, ℕ, nat_lt, Bool, true, false}
+use Rattle.std.specs.Prelude.{List, length, not, Option, Some, None, Ok, Err, if◌then◌else◌}
 use Rattle.sqlite.specs.State.{State}
 use Rattle.sqlite_disk.specs.Disk.{Only}
 use Rattle.clr_journal.specs.Journal.{BeginsWith, with_line}
@@ -202,6 +202,16 @@ abbrev pub IsWithdrawn : {K J C : Type 0} → (J → List ℕ) → (J → List �
     → Keeper K J C → Keeper K J C → Type 0
 IsWithdrawn text may_leave old new = old.last ≡ Owed → new.last ≡ Settled
     → IsSafe text may_leave (said text old) new.journal
+
+-- WHAT A JOURNAL IS LEFT AS: with the withdrawal that is owed, which a crash leaves then, unless the
+-- sync failed; or as it is, where none is owed or none could be written. What was safe is
+pub record IsLeftAs {K J C : Type 0} (text : J → List ℕ) (may_leave : J → List ℕ → Type 0)
+    (is_usable : J → Bool) (it : Keeper K J C) (journal : J) : Type 0 where
+  pub text_is : ((text journal ≡ said text it)
+      × (IsDurable text may_leave journal ⊎ (is_usable journal ≡ false)))
+      ⊎ (text journal ≡ text it.journal)
+  pub same : it.last ≢ Owed → journal ≡ it.journal
+  pub safe : StaySafe text may_leave it.journal journal
 
 -- A JOURNAL IS NEWLY IN DOUBT only where it can be used no more: a sync of it failed
 abbrev pub DoubtHasCause : {K J C : Type 0} → (J → Bool) → Keeper K J C → Keeper K J C → Type 0

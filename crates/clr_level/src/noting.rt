@@ -7,7 +7,7 @@ ghost use Rattle.clr_chain.specs.Link.{link_text};
 ghost use Rattle.clr_chain.specs.Sums.{sum_after};
 ghost use Rattle.clr_level.specs.Journaling.{DoubtHasCause, IsDurable, IsKept, IsNoted};
 ghost use Rattle.clr_level.specs.Journaling.{IsItsOwn, IsOfJournal, IsSound, IsUnnoted};
-ghost use Rattle.clr_level.specs.Journaling.{IsUnwritten};
+ghost use Rattle.clr_level.specs.Journaling.{IsLeftAs, IsUnwritten};
 ghost use Rattle.clr_level.specs.Journaling.{IsWithdrawn, StaySafe, end_said, is_doubtful};
 ghost use Rattle.clr_level.specs.Journaling.{IsDeedNoted, IsDeedUnwritten, line_of, said};
 ghost use Rattle.clr_changes.specs.Deeds.{deed_of};
@@ -218,6 +218,29 @@ impl<K: CommitAt, J: Journal + Drop, C: Clock> Keeper<K, J, C> {
             Last::Owed => self.withdraw(),
             Last::Doubtful => Err(DeskFault::Journal),
         }
+    }
+
+    /// Hands back the keeper, and the journal with the withdrawal that is owed. Where memory runs
+    /// out or the journal fails it may lack it: then the next opening carries the command out.
+    pub fn finish(self) -> (K, J)
+        ensures keeper { result.0 ≡ self.keeper }
+        ensures journal { IsLeftAs J.text J.may_leave J.is_usable self result.1 }
+    {
+        match self.last {
+            Last::Owed => self.withdrawn(),
+            Last::Settled | Last::Doubtful => self.end(),
+        }
+    }
+
+    /// The same where a withdrawal is owed.
+    fn withdrawn(self) -> (K, J)
+        requires { self.last ≡ Last.Owed }
+        ensures keeper { result.0 ≡ self.keeper }
+        ensures journal { IsLeftAs J.text J.may_leave J.is_usable self result.1 }
+    {
+        let mut keeper = self;
+        let _ = keeper.withdraw();
+        keeper.end()
     }
 
     /// Writes the withdrawal that is owed, and syncs it.
