@@ -20,4 +20,3 @@ pub mod BegunLevel
 pub mod Restarts
 pub mod Safes
 pub mod Fronts
-pub mod LeftAs
