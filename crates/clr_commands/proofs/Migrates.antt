@@ -28,7 +28,7 @@ pub PrintsMoved-fault : (result : Result (String Global) Fault) (fault : Fault) 
 PrintsMoved-fault (Ok text) fault is = absurd is
 PrintsMoved-fault (Err cause) fault is = ap Err (sym is)
 
--- the printed board stands in for the files
+-- the printed board takes the place of the files
 pub board_files-is : (R : Register) (sections points staff : List ℕ) → sections ≡ board_text R (pos 0) → points ≡ [] → staff ≡ []
     → record { sections = sections; points = points; staff = staff } ≡ board_files R
 board_files-is R sections points staff s p e = λ i. record { sections = s i; points = p i; staff = e i }

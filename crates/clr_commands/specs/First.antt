@@ -25,6 +25,6 @@ first_place files made = record {
   sum = first_sum files (first_sum files made);
 }
 
--- of a register that had no journal, its printed board stands in for the files
+-- of a register that had no journal, its printed board takes the place of the files
 abbrev pub board_files : Register → Files
 board_files R = record { sections = board_text R (pos 0); points = []; staff = [] }

@@ -1,4 +1,5 @@
-//! The files at the paths that a command line names, and what ends a command before its answer.
+//! The files, databases, journals and ports that a command line names, and what ends a command
+//! before its answer.
 #![tactic(auto)]
 
 mod at_fault;

@@ -1,5 +1,5 @@
-//! A register's database and its journal as one: begun, taken up and let go. And a journal in one
-//! or several files: read part by part, and printed.
+//! A register's database and its journal as one: begun, taken up and let go; and a journal in one
+//! or several files, read part by part and printed.
 #![tactic(auto)]
 
 pub mod beginning;

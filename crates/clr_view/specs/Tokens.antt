@@ -13,7 +13,7 @@ data_tokens d = json_tokens (outline d)
 abbrev pub member_tokens : List ℕ → Data → List Token
 member_tokens name d = key name ∷ data_tokens d
 
--- A WRITER HAS THESE TOKENS MORE, and what stood before the first one stays
+-- A WRITER HAS THESE TOKENS MORE, and what was before the first one stays
 pub record Adds (more : List Token) (old new : Written) : Type 0 where
   pub tokens : new.tokens ≡ old.tokens ++ more
   pub before : new.before ≡ old.before

@@ -6,7 +6,7 @@ use Rattle.clr_commands.specs.First.{first_place, made_at}
 use Rattle.clr_commands.proofs.Migrates.{board_files-is}
 use Rattle.clr_commands.proofs.migrate.first_of.Goals as goal
 
--- the printed board stands in for the files
+-- the printed board takes the place of the files
 pub returns-clause-place : goal.returns-clause-place
 returns-clause-place c =
     let R = c.args.book.now.register in
