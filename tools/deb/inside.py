@@ -194,10 +194,13 @@ def backup(root, tally):
     tally.check("a backup while commands come", status == 0 and len(first) == 1 and ": verified " in out, out)
     held = {"room.db", "journal", "began.db", "sections.csv", "points.csv", "staff.csv", "verified"}
     tally.check("it has the register, the journal and the files", held <= {one.name for one in first[0].iterdir()}, list(first[0].iterdir()))
-    root.run(f"touch -d '40 days ago' /{BACKUPS}/{first[0].name}; systemctl stop gridclear; cp -p /{BACKUPS}/{first[0].name}/room.db /srv/older.db")
+    olds = [f"20{year}-01-01T000000.000Z" for year in (20, 21, 22)]
+    root.run(f"cd /{BACKUPS}; for old in {' '.join(olds)}; do cp -a {first[0].name} $old; done; touch -d '40 days ago' *; systemctl stop gridclear; cp -p {first[0].name}/room.db /srv/older.db")
     root.run(f"systemctl start gridclear; curl -s -d '{COMMAND}' http://127.0.0.1:8080/command; systemctl start gridclear-backup")
-    names = [one.name for one in root.path(BACKUPS).iterdir()]
-    tally.check("it is kept for 30 days", len(names) == 1 and names[0] != first[0].name, names)
+    names = sorted(one.name for one in root.path(BACKUPS).iterdir())
+    tally.check("it is kept for 30 days, and the last three longer", len(names) == 3 and names[:2] == [olds[2], first[0].name], names)
+    root.run(f"rm -r /{BACKUPS}/{olds[2]} /{BACKUPS}/{first[0].name}")
+    meanwhile(root, tally)
     status, out = root.run(f"{guide('--rotate')[0]}; cat /{DATA}/journal")
     tally.check("the journal is rotated, and the register served again", status == 0 and "the part before is" in out and out.count('"journal":"') == 1 and root.curl("/board", port=8080)[0] == "200", out)
     status, out = root.run(f"rm -f /run/gridclear-backup.out; curl -s -d '{COMMAND}' http://127.0.0.1:8080/command; "
@@ -222,6 +225,16 @@ def backup(root, tally):
     found = [root.curl(f"/journals/{name}") for name in names]
     tally.check("the page gets the part too", len(names) == 1 and found[0][0] == "200" and found[0][1].encode() == parts.get(names[0]), names)
     tally.check("and nothing besides of that folder", {root.curl(f"/journals/{name}")[0] for name in ("room.db", "staff.csv", "journal-2/../room.db")} <= {"404", "403"})
+
+
+def meanwhile(root, tally):
+    """Two calls at once; and a call while systemd waits until it starts the register again."""
+    status, out = root.run(f"(flock /{DATA} sleep 8 &); sleep 0.5; gridclear-setup --rotate")
+    tally.check("while another call is under way it does nothing", status == 1 and "another call is under way" in out and not list(root.path(DATA).glob("journal-2*Z")), out)
+    status, out = root.run(f"(flock /{BACKUPS} sleep 2 &); sleep 0.5; cd /{DATA}; runuser -u gridclear -- /usr/lib/gridclear/backup")
+    tally.check("a second backup does nothing meanwhile", status == 1 and "another backup is under way" in out, out)
+    status, out = root.run("systemctl stop gridclear; touch /run/gridclear.activating; sleep 3; gridclear-setup --update; s=$?; rm /run/gridclear.activating; sleep 1; exit $s")
+    tally.check("a register that waits for its next start is started", status == 0 and root.curl("/board", port=8080)[0] == "200", out)
 
 
 OWNERS = {f"{DATA}/journal": "640 gridclear:www-data", f"{DATA}/room.db": "600 gridclear:gridclear", f"{DATA}/points.csv": "600 gridclear:gridclear",
