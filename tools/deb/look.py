@@ -1,5 +1,6 @@
 """What is in a package of tools/make-deb: read again by Python's own tarfile and lzma, which did not write it."""
 
+import calendar
 import hashlib
 import io
 import lzma
@@ -155,6 +156,34 @@ def pauses(program, place, tally):
     tally.check("after 5 minutes, and after a stop, it is short again", found == "60 1 2 none 1".split(), found)
 
 
+def parts(setup, place, tally):
+    """The name of a new part, and where a folder's journal ends: functions of gridclear-setup, over files without a register."""
+    text = setup.read_text()
+    functions = "\n".join(re.search(rf"^{name}\(\) {{\n.*?^}}$", text, re.M | re.S)[0] for name in ("new_part", "end_of", "is_front", "half_line"))
+
+    def call(line, **files):
+        for one in place.iterdir():
+            one.unlink()
+        for name, lines in files.items():
+            (place / name.replace("_", "-")).write_text(lines)
+        return run("sh", "-euc", f"{functions}\n{line}", cwd=place, env=os.environ | {"LC_ALL": "C"})[1].strip()
+
+    names = {"journal_2020-01-01T000000Z": "", "journal_2098-12-31T235959Z": ""}
+    tally.check("a part's name is one second after the last", call("new_part", **names) == "journal-2099-01-01T000000Z", call("new_part", **names))
+    names.popitem()
+    before, found, after = int(time.time()), call("new_part", **names), time.time()
+    moment = calendar.timegm(time.strptime(found, "journal-%Y-%m-%dT%H%M%SZ"))
+    tally.check("if that is over, it is the time", before <= moment <= after, found)
+    first, second = "journal_2020-01-01T000000Z", "journal_2020-01-02T000000Z"
+    for what, end, files in (("a part without commands", "journal", {first: "0\n1\n", second: "1\n", "journal": "1\n2\n"}),
+                             ("a journal that is a front of the last part", second, {first: "0\n1\n", second: "1\n2\n", "journal": "1\n"}),
+                             ("a journal that is a front of an earlier part", second, {first: "0\n1\n", second: "1\n2\n", "journal": "0\n"}),
+                             ("half a line at its end", second, {first: "0\n1\n", second: "1\n2\n3\n", "journal": "1\n2\nx"}),
+                             ("a journal that is another", "journal", {first: "0\n1\n", "journal": "1\n"})):
+        found = call("end_of .", **files)
+        tally.check(f"{what}: its folder ends in {end}", found == f"./{end.replace('_', '-')}", found)
+
+
 def look(deb, folder, tally):
     """All of it; what is in the package is in the folder then."""
     package = Package(deb)
@@ -166,3 +195,5 @@ def look(deb, folder, tally):
     words(folder, tally)
     with tempfile.TemporaryDirectory(prefix="pauses-") as place:
         pauses(folder / "usr/lib/gridclear/pause", pathlib.Path(place), tally)
+    with tempfile.TemporaryDirectory(prefix="parts-") as place:
+        parts(folder / "usr/sbin/gridclear-setup", pathlib.Path(place), tally)
