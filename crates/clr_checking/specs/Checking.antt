@@ -51,7 +51,7 @@ pub data AreAnswered : Register → List Entry → Register → Type 0 where
 
 -- ---- the yes
 
--- A REGISTER IS LEVEL WITH A JOURNAL, as far as tables tell: the lines up to its place are those of
+-- A REGISTER IS LEVEL WITH A JOURNAL, as far as tables show: the lines up to its place are those of
 -- a run, from the register that the journal began with to one with the same tables
 pub record IsLevelByTables (began : Register) (first : Place) (entries : List Entry)
     (place : Place) (R : Register) : Type 0 where
@@ -60,7 +60,7 @@ pub record IsLevelByTables (began : Register) (first : Place) (entries : List En
   pub tables : tables_of R ≡ tables_of register
 
 -- YES: all lines hold their sums, the register is level with them, and each reply is that of the
--- run. So many deeds were carried out
+-- run. The count is of the deeds that were carried out
 pub record IsChecked (began : Register) (first : Place) (texts : List (List ℕ)) (place : Place)
     (R : Register) (count : ℕ) : Type 0 where
   pub entries : List Entry

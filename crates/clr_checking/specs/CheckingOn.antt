@@ -59,8 +59,8 @@ IsOpenAt first place entries None None = ⊤
 IsOpenAt first place entries (Some one) None =
     one.receipt.number ≡ place.number → place ≡ place_after first entries
 
--- THESE LINES WERE RUN, all but the open deed, and each had the reply that is due. So many were
--- carried out, and they lead to a register
+-- THESE LINES WERE RUN, all but the open deed, and each had the reply that is due. They lead to
+-- a register; the count is of those that were carried out
 pub record Ran (began : Register) (first place : Place) (R : Register) (last : Option Carried)
     (missed : Option ℕ) (S : Register) (count : ℕ) (is_met : Bool) (entries : List Entry)
     : Type 0 where
@@ -186,6 +186,16 @@ AnswersElse R one (Differs n) = ⊥
 AnswersElse R one (Tables found) = ⊥
 AnswersElse R one TooShort = ⊥
 AnswersElse R one NoMemory = ⊤
+
+-- a fault of the run, and not of a line that does not hold its sum
+abbrev pub IsOfRun : CheckFault → Type 0
+IsOfRun OtherRegister = ⊤
+IsOfRun (BadLine n) = ⊥
+IsOfRun (Reply n) = ⊤
+IsOfRun (Differs n) = ⊤
+IsOfRun (Tables found) = ⊤
+IsOfRun TooShort = ⊤
+IsOfRun NoMemory = ⊤
 
 -- where the sum of a place is another after a line, no line more withdraws the deed there
 abbrev pub Settles : Turn → CheckFault → Type 0

@@ -12,14 +12,14 @@ ghost use Rattle.clr_journal.specs.Journals.{next_place, turn_after, withdraws};
 ghost use Rattle.clr_journal.specs.Line.{Entry, carried, entry_of, is_accepted, withdrawn};
 ghost use Rattle.clr_journal.specs.declared.reading.Turn.{Turn};
 ghost use Rattle.clr_chain.specs.First.{end_at, read_first};
-ghost use Rattle.clr_chain.specs.Walking.{part_of, step_of};
+ghost use Rattle.clr_chain.specs.Walking.{bad, part_of, step_of};
 ghost use Rattle.clr_checking.specs.Brief.{DecidesDeed, IsDeedTaken, is_brief_deed};
 ghost use Rattle.clr_checking.specs.Checking.{IsChecked, IsCheckedFrom, IsRefused, IsRefusedFrom};
 ghost use Rattle.clr_checking.specs.Checking.{NoneHas, Refuses, RefusesFrom, RefusesOfCopy};
 ghost use Rattle.clr_checking.specs.Checking.{RefusesRun};
 ghost use Rattle.clr_checking.specs.CheckingOn.{AnswersElse, CheckedTo, CheckedToFrom, ComesFrom};
-ghost use Rattle.clr_checking.specs.CheckingOn.{ComparesElse, IsAfter, IsAt, IsReady, RanOver};
-ghost use Rattle.clr_checking.specs.CheckingOn.{RunsOn, Settles, Waits};
+ghost use Rattle.clr_checking.specs.CheckingOn.{ComparesElse, IsAfter, IsAt, IsOfRun, IsReady};
+ghost use Rattle.clr_checking.specs.CheckingOn.{RanOver, RunsOn, Settles, Waits};
 ghost use Rattle.clr_verify.specs.Replies.{IsReply};
 
 use crate::deeds::{carry_out, is_due};
@@ -201,6 +201,8 @@ impl<'a> Checking<'a> {
             (at first place : AnyPlace) (R : Register) (texts : List (List ℕ))
             → CheckedToFrom copied at first place R self.old texts
             → RefusesOfCopy copied at first texts text.now place R fault) }
+        ensures bad { IfErr result (λ fault. (n : ℕ) → fault ≡ CheckFault.BadLine n
+            → (step_of self.old.walk.end text.now).0 ≡ bad n) }
     {
         let seen = self.walk.step(alloc, text)?;
         match seen {
@@ -261,6 +263,7 @@ impl<'a> Checking<'a> {
             (at first place : AnyPlace) (R : Register) (texts : List (List ℕ))
             → CheckedToFrom copied at first place R self.entry texts
             → IsRefusedFrom copied at first texts place R fault) }
+        ensures of_run { IfErr result IsOfRun }
     {
         let mut checking = self;
         checking.ended(alloc)
@@ -283,6 +286,7 @@ impl<'a> Checking<'a> {
             (at first place : AnyPlace) (R : Register) (texts : List (List ℕ))
             → CheckedToFrom copied at first place R self.old texts
             → IsRefusedFrom copied at first texts place R fault) }
+        ensures of_run { IfErr result IsOfRun }
     {
         self.settled()?;
         self.close(alloc)?;
@@ -330,6 +334,7 @@ impl<'a> Checking<'a> {
             → IsAfter first place self.old.walk.end.sum (entry_of line) before
             → Waits copied at first place R self.old before
             → ComesFrom copied at first place R self.new (before ++ entry_of line ∷ []) []) }
+        ensures of_run { IfErr result IsOfRun }
     {
         match &self.from {
             Some(_) => self.wait(alloc, line),
@@ -357,6 +362,7 @@ impl<'a> Checking<'a> {
             → IsAfter first place self.old.walk.end.sum (entry_of line) before
             → Waits copied at first place R self.old before
             → ComesFrom copied at first place R self.new (before ++ entry_of line ∷ []) []) }
+        ensures of_run { IfErr result IsOfRun }
     {
         match line {
             Line::Withdrawn(number) => {
@@ -392,6 +398,7 @@ impl<'a> Checking<'a> {
             → RunsOn began first place R self.new (entries ++ entry_of line ∷ [])) }
         ensures kept { OnOk result ((began : Register) (first place : AnyPlace) (R : Register)
             → RunsOn began first place R self.old [] → withdraws (entry_of line ∷ []) ≡ false) }
+        ensures of_run { IfErr result IsOfRun }
     {
         match line {
             Line::Withdrawn(number) => self.withdraw(alloc, number),
@@ -432,6 +439,7 @@ impl<'a> Checking<'a> {
             → RanOver began first place R self.old entries
             → RanOver began first place R self.new (entries
             ++ carried one.receipt (deed_of one.deed) (view one.reply) ∷ [])) }
+        ensures of_run { IfErr result IsOfRun }
     {
         let number = one.receipt.number;
         if is_accepted(&one.reply) {
@@ -484,6 +492,7 @@ impl<'a> Checking<'a> {
             → IsAfter first place self.old.walk.end.sum (withdrawn number) entries
             → RunsOn began first place R self.old entries
             → RunsOn began first place R self.new (entries ++ withdrawn number ∷ [])) }
+        ensures of_run { IfErr result IsOfRun }
     {
         if self.last.is_none() {
             return Err(CheckFault::Differs(number));
@@ -527,6 +536,7 @@ impl<'a> Checking<'a> {
             → IsAt first place number self.old.walk.end.sum before
             → Waits copied at first place R self.old before
             → ComesFrom copied at first place R self.new before []) }
+        ensures of_run { IfErr result IsOfRun }
     {
         if !self.come_to(number) {
             return self.miss(number, is_open);
@@ -547,6 +557,7 @@ impl<'a> Checking<'a> {
         ensures missed { OnOk result ((is_open ≡ true) × (self.new.missed ≡ Some number)) }
         ensures fault { IfErr result (λ fault. (fault ≡ CheckFault.Differs number)
             × (is_open ≡ false)) }
+        ensures of_run { IfErr result IsOfRun }
     {
         if is_open {
             self.missed = Some(number);
@@ -561,6 +572,7 @@ impl<'a> Checking<'a> {
         ensures none { OnOk result (self.now.missed ≡ None) }
         ensures some { IfErr result (λ fault. (number : ℕ) × (self.now.missed ≡ Some number)
             × (fault ≡ CheckFault.Differs number)) }
+        ensures of_run { IfErr result IsOfRun }
     {
         match self.missed {
             None => Ok(()),
@@ -589,6 +601,7 @@ impl<'a> Checking<'a> {
             → RanOver began first place R self.new entries) }
         ensures walk { self.new.walk ≡ self.old.walk }
         ensures from { self.new.from ≡ self.old.from }
+        ensures of_run { IfErr result IsOfRun }
     {
         let Some(one) = self.last.take() else {
             return Ok(());
@@ -614,6 +627,7 @@ impl<'a> Checking<'a> {
           desk = self.new.desk;
           count = self.new.count;
         } }
+        ensures of_run { IfErr result IsOfRun }
     {
         let Carried {
             receipt,
@@ -642,6 +656,7 @@ impl<'a> Checking<'a> {
         ensures number { IfOk result (λ number. number ≡ one.receipt.number) }
         ensures taken { OnOk result
             (IsDeedTaken self.now.desk.book.register (deed_of one.deed) (view one.reply)) }
+        ensures of_run { IfErr result IsOfRun }
     {
         let number = one.receipt.number;
         match self.is_due(alloc, &one) {
@@ -740,6 +755,7 @@ impl<'a> Checking<'a> {
             → tables_of self.old.book.now.register ≡ tables_of self.old.desk.book.register) }
         ensures others { self.new ≡ record self.old { is_met = self.new.is_met } }
         ensures stays { self.old.is_met ≡ true → self.new.is_met ≡ true }
+        ensures of_run { IfErr result IsOfRun }
     {
         if number != self.place.number || self.from.is_some() {
             return Ok(());

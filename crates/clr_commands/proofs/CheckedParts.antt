@@ -19,7 +19,7 @@ use Rattle.clr_checking.specs.declared.checking.Checking.{Checking}
 use Rattle.clr_checking.specs.declared.fault.CheckFault.{CheckFault}
 use Rattle.clr_keeping.specs.Journal.{all_known}
 use Rattle.clr_keeping.specs.Parts.{BreaksAfter, FirstIs, ReadsLine, walked}
-use Rattle.clr_commands.specs.Verify.{BeginOn, Checks, ChecksAll, ChecksFrom, ChecksOn, GoOn, HalfOn, HasLines, IsOfCheck, IsOfFiles, verified_text}
+use Rattle.clr_commands.specs.Verify.{BadOn, BeginOn, Checks, ChecksAll, ChecksFrom, ChecksOn, GoOn, HalfOn, HasBad, HasLines, IsOfCheck, IsOfFiles, verified_text}
 use Rattle.clr_keeping.proofs.BrokenParts.{breaks-more}
 use Rattle.clr_keeping.proofs.PartLines.{AreBefore, before-more, before-none, before-whole, known-next, walked-end, walked-same}
 
@@ -101,6 +101,7 @@ pub record CheckedParts (first : Option (List ℕ)) (all left : Option (List (Li
       × ((front : List (List ℕ)) → BeginOn old.walk.id it.walk.end rest front → BeginOn old.walk.id (walked old.walk.end (ended_lines bytes)).1 parts (more ++ front))
       × ((texts : List (List ℕ)) → HalfOn old.walk.id it.walk.end rest texts → HalfOn old.walk.id (walked old.walk.end (ended_lines bytes)).1 parts (more ++ texts))
       × ((fault : Fault) → BreaksAfter old.walk.id it.walk.end rest fault → BreaksAfter old.walk.id (walked old.walk.end (ended_lines bytes)).1 parts fault)
+      × ((n : ℕ) → BadOn old.walk.id it.walk.end rest n → BadOn old.walk.id (walked old.walk.end (ended_lines bytes)).1 parts n)
       × ((began : Register) (first place : Place) (R : Register) → CheckedTo began first place R old []
       → CheckedTo began first place R it (ended_lines bytes ++ more))
       × ((copied : Register) (at first place : Place) (R : Register) → CheckedToFrom copied at first place R old []
@@ -113,6 +114,7 @@ Known lines parts left old it = (rest more : List (List ℕ)) × (left ≡ Some 
     × ((front : List (List ℕ)) → BeginOn old.walk.id it.walk.end rest front → BeginOn old.walk.id (walked old.walk.end lines).1 parts (more ++ front))
     × ((texts : List (List ℕ)) → HalfOn old.walk.id it.walk.end rest texts → HalfOn old.walk.id (walked old.walk.end lines).1 parts (more ++ texts))
     × ((fault : Fault) → BreaksAfter old.walk.id it.walk.end rest fault → BreaksAfter old.walk.id (walked old.walk.end lines).1 parts fault)
+    × ((n : ℕ) → BadOn old.walk.id it.walk.end rest n → BadOn old.walk.id (walked old.walk.end lines).1 parts n)
     × ((began : Register) (first place : Place) (R : Register) → CheckedTo began first place R old [] → CheckedTo began first place R it (lines ++ more))
     × ((copied : Register) (at first place : Place) (R : Register) → CheckedToFrom copied at first place R old [] → CheckedToFrom copied at first place R it (lines ++ more))
 
@@ -135,6 +137,17 @@ pub half_on-part : (id : List ℕ) (end next : ChainEnd) (one text : List ℕ) (
     → part_of id end (read_first text) ≡ (true, next) → ends_whole one ≡ false → HalfOn id end (one ∷ rest) lines
 unfolding HalfOn
 half_on-part id end next one text rest lines is part half = (text, lines, [], next, is, part, sym (append-nil lines), inl (half, refl))
+
+-- and where a line of them is bad
+bad_on-more : (id : List ℕ) (end next : ChainEnd) (one text : List ℕ) (rest lines : List (List ℕ)) (n : ℕ) → ended_lines one ≡ text ∷ lines
+    → part_of id end (read_first text) ≡ (true, next) → BadOn id (walked next lines).1 rest n → BadOn id end (one ∷ rest) n
+unfolding BadOn
+bad_on-more id end next one text rest lines n is part later = (text, lines, next, is, part, inr later)
+
+pub bad_on-part : (id : List ℕ) (end next : ChainEnd) (one text : List ℕ) (rest lines : List (List ℕ)) (n : ℕ) → ended_lines one ≡ text ∷ lines
+    → part_of id end (read_first text) ≡ (true, next) → HasBad next lines n → BadOn id end (one ∷ rest) n
+unfolding BadOn
+bad_on-part id end next one text rest lines n is part here = (text, lines, next, is, part, inl here)
 
 -- a front of them, as far as they were read
 pub begin_on-none : (id : List ℕ) (end : ChainEnd) (rest : List (List ℕ)) → BeginOn id end rest []
@@ -175,6 +188,7 @@ parts_none first all old it ready id checked = record { ready = ready; id = id; 
       λ front begins. subst (λ (e : ChainEnd). BeginOn old.walk.id e parts front) is.end begins,
       λ texts half. subst (λ (e : ChainEnd). HalfOn old.walk.id e parts texts) is.end half,
       λ fault breaks. subst (λ (e : ChainEnd). BreaksAfter old.walk.id e parts fault) is.end breaks,
+      λ n worse. subst (λ (e : ChainEnd). BadOn old.walk.id e parts n) is.end worse,
       λ began place R S to.
           subst (λ (l : List (List ℕ)). CheckedTo began place R S it l) (sym (append-nil (ended_lines bytes))) (is.went began place R S [] to),
       λ copied at place R S to.
@@ -205,7 +219,7 @@ module _ (first : Option (List ℕ)) (all left : Option (List (List ℕ))) (old 
           → IfSome file (λ known. IfSome found (λ parts. Known (ended_lines known) parts (all_known others) old new))
       by None found is = tt
       by (Some file) None is = tt
-      by (Some file) (Some parts) (rest, more, is_rest, go, begin, halve, broken, to, to_from) =
+      by (Some file) (Some parts) (rest, more, is_rest, go, begin, halve, broken, worsen, to, to_from) =
           let (one, after, has, is_after, next) = known-next bytes others rest (sym is_left ∙ is_rest) in
           let read : ReadsLine (Some line) now one = subst (λ (b : Option (List ℕ)). IfSome b (ReadsLine (Some line) now)) has reads in
           let (lines, lines_are, whole, is) = goes one now read checked in (
@@ -231,6 +245,10 @@ module _ (first : Option (List ℕ)) (all left : Option (List (List ℕ))) (old 
                 broken fault (subst (λ (l : List (List ℕ)). BreaksAfter old.walk.id it.walk.end l fault) (sym next)
                 (breaks-more old.walk.id it.walk.end begun.walk.end one line.items after lines fault lines_are part_is
                 (subst (λ (e : ChainEnd). BreaksAfter old.walk.id e after fault) is.end breaks))),
+            λ n worse.
+                worsen n (subst (λ (l : List (List ℕ)). BadOn old.walk.id it.walk.end l n) (sym next)
+                (bad_on-more old.walk.id it.walk.end begun.walk.end one line.items after lines n lines_are part_is
+                (subst (λ (e : ChainEnd). BadOn old.walk.id e after n) is.end worse))),
             λ began place R S was.
                 subst (λ (l : List (List ℕ)). CheckedTo began place R S new l) (append_assoc (ended_lines file) more lines)
                 (is.went began place R S (ended_lines file ++ more) (went began place R S (ended_lines file ++ more) (to began place R S was))),
@@ -251,7 +269,7 @@ module _ (first : Option (List ℕ)) (all left : Option (List (List ℕ))) (old 
           → IfSome file (λ known. IfSome found (λ parts. ChecksAll old known parts text))
       by None found whole known = tt
       by (Some file) None whole known = tt
-      by (Some file) (Some parts) whole (rest, more, is_rest, go, begin, halve, broken, to, to_from) =
+      by (Some file) (Some parts) whole (rest, more, is_rest, go, begin, halve, broken, worsen, to, to_from) =
           let empty : rest ≡ [] = cc (sym none ∙ is_rest) in
           record {
             whole = whole;

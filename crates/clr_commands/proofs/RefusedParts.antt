@@ -8,7 +8,7 @@ use Rattle.clr_journal.specs.Lines.{ended_lines}
 use Rattle.clr_rules.specs.Register.{Register}
 use Rattle.clr_chain.specs.Chain.{read_on}
 use Rattle.clr_chain.specs.First.{end_at, other_rules_in, read_first}
-use Rattle.clr_chain.specs.Walking.{part_of}
+use Rattle.clr_chain.specs.Walking.{bad, part_of, step_of}
 use Rattle.clr_chain.specs.Sums.{Files}
 use Rattle.clr_chain.specs.declared.chain_end.ChainEnd.{ChainEnd}
 use Rattle.clr_journal.specs.Line.{Entry}
@@ -20,16 +20,16 @@ use Rattle.clr_edge.specs.declared.fault.Fault.TheVariants.{Journal, Memory, Ver
 use Rattle.clr_edge.specs.declared.fault.JournalFault.TheVariants.{OpenFailed, ReadFailed}
 use Rattle.clr_edge.specs.declared.fault.VerifyFault.TheVariants.{Files as OtherFiles}
 use Rattle.clr_checking.specs.Checking.{AreLines, IsBadAfter, IsRefused, IsRefusedFrom, Refuses, RefusesCopy, RefusesFrom, RefusesLine, RefusesOfCopy, RefusesRun}
-use Rattle.clr_checking.specs.CheckingOn.{CheckedTo, CheckedToFrom, GoesOver}
+use Rattle.clr_checking.specs.CheckingOn.{CheckedTo, CheckedToFrom, GoesOver, IsOfRun}
 use Rattle.clr_checking.specs.declared.checking.Checking.{Checking}
 use Rattle.clr_checking.specs.declared.fault.CheckFault.{CheckFault}
 use Rattle.clr_checking.specs.declared.fault.CheckFault.TheVariants.{BadLine, Differs, NoMemory, OtherRegister, Reply, Tables, TooShort}
 use Rattle.clr_keeping.specs.Journal.{FailsAny, all_known}
 use Rattle.clr_keeping.specs.Parts.{Breaks, BreaksAfter, FailsLater, FirstIs, IsNoFirst, IsNoNext, IsOfReading, IsOpened, IsUnreadOr, IsUnreadPart, ReadsLine, walked}
 use Rattle.clr_edge.specs.Paths.{AtPaths, at_paths}
-use Rattle.clr_commands.specs.Verify.{AreOthers, AreRefused, BeginOn, BeginsWith, Checks, ChecksAll, ChecksFrom, EndsInHalf, FailsFrom, FailsSome, GoOn, HalfOn, HasLines, IsHalf, IsNextAfter, IsNo, IsOfEnd, IsOfFiles, IsRefusedBy, IsRefusedIn, IsWhole, RefusesAll, RefusesHalf, RefusesHalves, RefusesIn, RefusesPart, RefusesSome, of_check}
+use Rattle.clr_commands.specs.Verify.{AreOthers, AreRefused, BadOn, BeginOn, BeginsWith, Checks, ChecksAll, ChecksFrom, EndsInHalf, FailsFrom, FailsSome, GoOn, HalfOn, HasBad, HasLines, IsHalf, IsNextAfter, IsNo, IsOfEnd, IsOfFiles, IsRefusedBy, IsRefusedIn, IsWhole, RefusesAll, RefusesHalf, RefusesHalves, RefusesIn, RefusesPart, RefusesSome, of_check}
 use Rattle.clr_keeping.proofs.BrokenParts.{first_breaks, next_breaks, not_next}
-use Rattle.clr_commands.proofs.CheckedParts.{CheckedLines, CheckedParts, Known, begin_on-none, begin_on-part, begins_at, checks_yes, checks_yes_from, go_on-none, half_on-part}
+use Rattle.clr_commands.proofs.CheckedParts.{CheckedLines, CheckedParts, Known, bad_on-part, begin_on-none, begin_on-part, begins_at, checks_yes, checks_yes_from, go_on-none, half_on-part}
 use Rattle.clr_keeping.proofs.PartLines.{before-more, before-some, before-whole, known-next, later-part}
 
 -- ---- a line
@@ -42,6 +42,10 @@ RefusesText it text cause = (began : Register) (first place : Place) (R : Regist
 abbrev pub RefusesTextFrom : Checking → List ℕ → CheckFault → Type 0
 RefusesTextFrom it text cause = (copied : Register) (at first place : Place) (R : Register) (texts : List (List ℕ))
     → CheckedToFrom copied at first place R it texts → RefusesOfCopy copied at first texts text place R cause
+
+-- where it is called bad, it is where the walk has come to it
+abbrev pub IsBadAt : Checking → List ℕ → CheckFault → Type 0
+IsBadAt it text cause = (n : ℕ) → cause ≡ BadLine n → (step_of it.walk.end text).0 ≡ bad n
 
 -- with that line they have no yes, where memory did not run out
 abbrev IsNotMemory : CheckFault → Type 0
@@ -67,9 +71,9 @@ module _ (left now next : Option (List ℕ)) (old it : Checking) (text : Vec ℕ
       subst (λ (l : List (List ℕ)). (IsOfEnd first l cause → ⊥) × AreRefused first l (Is l) cause)
       (ap (λ (t : List ℕ). (texts ++ had.lines) ++ t ∷ []) same ∙ append_assoc texts had.lines (text.items ∷ [])) is
 
-  line_kept : (cause : CheckFault) → IsNotMemory cause → RefusesText it seen cause → RefusesTextFrom it seen cause
+  line_kept : (cause : CheckFault) → IsNotMemory cause → RefusesText it seen cause → RefusesTextFrom it seen cause → IsBadAt it seen cause
       → IfSome left (λ bytes. RefusesIn old bytes (of_check cause))
-  line_kept cause other why why_from = by left (before-some left next (had.lines ++ text.items ∷ []) (before-more left now next had.lines text had.before reads))
+  line_kept cause other why why_from bads = by left (before-some left next (had.lines ++ text.items ∷ []) (before-more left now next had.lines text had.before reads))
     where
       by : (file : Option (List ℕ)) → IfSome file (λ bytes. (rest : List (List ℕ)) × (ended_lines bytes ≡ (had.lines ++ text.items ∷ []) ++ rest))
           → IfSome file (λ bytes. RefusesIn old bytes (of_check cause))
@@ -80,6 +84,13 @@ module _ (left now next : Option (List ℕ)) (old it : Checking) (text : Vec ℕ
         all = is;
         cause = cause;
         fault_is = refl;
+        is_bad = λ n same_cause. (
+          had.lines,
+          text.items,
+          rest,
+          is ∙ append_assoc had.lines (text.items ∷ []) rest,
+          ap (λ (e : ChainEnd). (step_of e text.items).0) (sym had.checked.end) ∙ ap (λ (t : List ℕ). (step_of it.walk.end t).0) (sym same) ∙ bads n same_cause,
+        );
         why = λ began first place R texts to.
             to_more (λ l. IsRefused began first l place R) first texts cause
             (as_refused first (texts ++ had.lines) seen (IsRefused began first ((texts ++ had.lines) ++ seen ∷ []) place R) cause other
@@ -90,15 +101,15 @@ module _ (left now next : Option (List ℕ)) (old it : Checking) (text : Vec ℕ
             (why_from copied at first place R (texts ++ had.lines) (had.checked.went_from copied at first place R texts to)));
       })
 
-  pub line_refused : (cause : CheckFault) → RefusesText it seen cause → RefusesTextFrom it seen cause
+  pub line_refused : (cause : CheckFault) → RefusesText it seen cause → RefusesTextFrom it seen cause → IsBadAt it seen cause
       → IsRefusedIn old left (of_check cause)
-  line_refused OtherRegister why why_from = inr (line_kept OtherRegister (λ is. cc is) why why_from)
-  line_refused (BadLine n) why why_from = inr (line_kept (BadLine n) (λ is. cc is) why why_from)
-  line_refused (Reply n) why why_from = inr (line_kept (Reply n) (λ is. cc is) why why_from)
-  line_refused (Differs n) why why_from = inr (line_kept (Differs n) (λ is. cc is) why why_from)
-  line_refused (Tables found) why why_from = inr (line_kept (Tables found) (λ is. cc is) why why_from)
-  line_refused TooShort why why_from = inr (line_kept TooShort (λ is. cc is) why why_from)
-  line_refused NoMemory why why_from = inl (inl refl)
+  line_refused OtherRegister why why_from bads = inr (line_kept OtherRegister (λ is. cc is) why why_from bads)
+  line_refused (BadLine n) why why_from bads = inr (line_kept (BadLine n) (λ is. cc is) why why_from bads)
+  line_refused (Reply n) why why_from bads = inr (line_kept (Reply n) (λ is. cc is) why why_from bads)
+  line_refused (Differs n) why why_from bads = inr (line_kept (Differs n) (λ is. cc is) why why_from bads)
+  line_refused (Tables found) why why_from bads = inr (line_kept (Tables found) (λ is. cc is) why why_from bads)
+  line_refused TooShort why why_from bads = inr (line_kept TooShort (λ is. cc is) why why_from bads)
+  line_refused NoMemory why why_from bads = inl (inl refl)
 
 -- ---- half a line
 
@@ -185,8 +196,9 @@ module _ (first : Option (List ℕ)) (all left : Option (List (List ℕ))) (old 
           → ((front : List (List ℕ)) → BeginOn old.walk.id it.walk.end rest front → BeginOn old.walk.id (walked old.walk.end (ended_lines file)).1 parts (more ++ front))
           → ((began : Register) (place to : Place) (R : Register) → CheckedTo began place to R old [] → CheckedTo began place to R it (ended_lines file ++ more))
           → ((copied : Register) (at place to : Place) (R : Register) → CheckedToFrom copied at place to R old [] → CheckedToFrom copied at place to R it (ended_lines file ++ more))
+          → ((n : ℕ) → BadOn old.walk.id it.walk.end rest n → BadOn old.walk.id (walked old.walk.end (ended_lines file)).1 parts n)
           → RefusesPart begun known fault → RefusesAll old file parts fault
-      lines_of file parts one known after rest more next lines_are begin to to_from is =
+      lines_of file parts one known after rest more next lines_are begin to to_from worsen is =
           let front : BeginOn old.walk.id it.walk.end (one ∷ after) is.lines =
           begin_on-part old.walk.id it.walk.end begun.walk.end one line.items after is.lines is.after
           (lines_are ∙ ap (λ (l : List (List ℕ)). line.items ∷ l) is.all) part_is in
@@ -198,6 +210,8 @@ module _ (first : Option (List ℕ)) (all left : Option (List (List ℕ))) (old 
             go_on = inr (refl, begin is.lines (subst (λ (l : List (List ℕ)). BeginOn old.walk.id it.walk.end l is.lines) (sym next) front));
             cause = is.cause;
             fault_is = is.fault_is;
+            is_bad = λ n same. inr (worsen n (subst (λ (l : List (List ℕ)). BadOn old.walk.id it.walk.end l n) (sym next)
+                (bad_on-part old.walk.id it.walk.end begun.walk.end one line.items after (ended_lines known) n lines_are part_is (is.is_bad n same))));
             why = λ began place R S was.
                 let no = subst (λ (l : List (List ℕ)). (IsOfEnd place l is.cause → ⊥) × AreRefused place l (IsRefused began place l R S) is.cause)
                 (append_assoc (ended_lines file) more is.lines)
@@ -235,27 +249,27 @@ module _ (first : Option (List ℕ)) (all left : Option (List (List ℕ))) (old 
           → IfSome file (λ known. IfSome found (λ parts. RefusesSome old known parts fault))
       by None found is = tt
       by (Some file) None is = tt
-      by (Some file) (Some parts) (rest, more, is_rest, go, begin, halve, broken, to, to_from) =
+      by (Some file) (Some parts) (rest, more, is_rest, go, begin, halve, broken, worsen, to, to_from) =
           let (one, after, has, is_after, next) = known-next bytes others rest (sym is_left ∙ is_rest) in
           let read : ReadsLine (Some line) now one = subst (λ (b : Option (List ℕ)). IfSome b (ReadsLine (Some line) now)) has reads in
           let (known, lines_are, ends, is) = goes one now read refused in
-          some_of old begun file known parts fault (lines_of file parts one known after rest more next lines_are begin to to_from)
+          some_of old begun file known parts fault (lines_of file parts one known after rest more next lines_are begin to to_from worsen)
           (λ half part_half. end_of file parts one known after rest more next lines_are (ends ∙ half) halve to to_from part_half) is
 
   -- all were read, and there is no yes
-  end_refused : (cause : CheckFault) → IsNotMemory cause → left ≡ Some []
+  end_refused : (cause : CheckFault) → IsNotMemory cause → ((n : ℕ) → cause ≡ BadLine n → ⊥) → left ≡ Some []
       → ((began : Register) (place to : Place) (R : Register) (texts : List (List ℕ)) → CheckedTo began place to R it texts → IsRefused began place texts to R cause)
       → ((copied : Register) (at place to : Place) (R : Register) (texts : List (List ℕ)) → CheckedToFrom copied at place to R it texts
       → IsRefusedFrom copied at place texts to R cause)
       → IfSome first (λ known. IfSome all (λ parts. RefusesAll old known parts (of_check cause)))
-  end_refused cause other none why why_from = by first all had.whole had.known
+  end_refused cause other never none why why_from = by first all had.whole had.known
     where
       by : (file : Option (List ℕ)) (found : Option (List (List ℕ))) → IfSome file (λ known. ends_whole known ≡ true)
           → IfSome file (λ known. IfSome found (λ parts. Known (ended_lines known) parts left old it))
           → IfSome file (λ known. IfSome found (λ parts. RefusesAll old known parts (of_check cause)))
       by None found whole known = tt
       by (Some file) None whole known = tt
-      by (Some file) (Some parts) whole (rest, more, is_rest, go, begin, halve, broken, to, to_from) =
+      by (Some file) (Some parts) whole (rest, more, is_rest, go, begin, halve, broken, worsen, to, to_from) =
           let empty : rest ≡ [] = cc (sym none ∙ is_rest) in
           let all_read : IsWhole old file (ended_lines file) [] more parts = (
             refl,
@@ -275,6 +289,7 @@ module _ (first : Option (List ℕ)) (all left : Option (List (List ℕ))) (old 
             );
             cause = cause;
             fault_is = refl;
+            is_bad = λ n same. absurd (never n same);
             why = λ began place R S was. (λ of_end. all_read, inl (why began place R S (ended_lines file ++ more) (to began place R S was)));
             why_from = λ copied at place R S was. (λ of_end. all_read, inl (why_from copied at place R S (ended_lines file ++ more) (to_from copied at place R S was)));
           }
@@ -289,7 +304,7 @@ module _ (first : Option (List ℕ)) (all left : Option (List (List ℕ))) (old 
           → IfSome file (λ known. IfSome found (λ parts. RefusesSome old known parts fault))
       by None found known = tt
       by (Some file) None known = tt
-      by (Some file) (Some parts) (rest, more, is_rest, go, begin, halve, broken, to, to_from) =
+      by (Some file) (Some parts) (rest, more, is_rest, go, begin, halve, broken, worsen, to, to_from) =
           inl (broken fault (subst (λ (i : List ℕ). BreaksAfter i it.walk.end rest fault) had.id
           (next_breaks it.walk.id it.walk.end bytes others rest fault (sym is_left ∙ is_rest) refused)))
 
@@ -297,14 +312,14 @@ module _ (first : Option (List ℕ)) (all left : Option (List (List ℕ))) (old 
       → ((began : Register) (place to : Place) (R : Register) (texts : List (List ℕ)) → CheckedTo began place to R it texts → IsRefused began place texts to R cause)
       → ((copied : Register) (at place to : Place) (R : Register) (texts : List (List ℕ)) → CheckedToFrom copied at place to R it texts
       → IsRefusedFrom copied at place texts to R cause)
-      → IsRefusedBy old first all (of_check cause)
-  all_refused OtherRegister none why why_from = inr (refused_some first all old _ (end_refused OtherRegister (λ is. cc is) none why why_from))
-  all_refused (BadLine n) none why why_from = inr (refused_some first all old _ (end_refused (BadLine n) (λ is. cc is) none why why_from))
-  all_refused (Reply n) none why why_from = inr (refused_some first all old _ (end_refused (Reply n) (λ is. cc is) none why why_from))
-  all_refused (Differs n) none why why_from = inr (refused_some first all old _ (end_refused (Differs n) (λ is. cc is) none why why_from))
-  all_refused (Tables found) none why why_from = inr (refused_some first all old _ (end_refused (Tables found) (λ is. cc is) none why why_from))
-  all_refused TooShort none why why_from = inr (refused_some first all old _ (end_refused TooShort (λ is. cc is) none why why_from))
-  all_refused NoMemory none why why_from = inl (inr (inl refl))
+      → IsOfRun cause → IsRefusedBy old first all (of_check cause)
+  all_refused OtherRegister none why why_from of = inr (refused_some first all old _ (end_refused OtherRegister (λ is. cc is) (λ m is. cc is) none why why_from))
+  all_refused (BadLine n) none why why_from of = absurd of
+  all_refused (Reply n) none why why_from of = inr (refused_some first all old _ (end_refused (Reply n) (λ is. cc is) (λ m is. cc is) none why why_from))
+  all_refused (Differs n) none why why_from of = inr (refused_some first all old _ (end_refused (Differs n) (λ is. cc is) (λ m is. cc is) none why why_from))
+  all_refused (Tables found) none why why_from of = inr (refused_some first all old _ (end_refused (Tables found) (λ is. cc is) (λ m is. cc is) none why why_from))
+  all_refused TooShort none why why_from of = inr (refused_some first all old _ (end_refused TooShort (λ is. cc is) (λ m is. cc is) none why why_from))
+  all_refused NoMemory none why why_from of = inl (inr (inl refl))
 
   -- and that is said
   pub said_refused : (checked : Result ℕ CheckFault) (fault : Fault) → left ≡ Some []
@@ -313,15 +328,16 @@ module _ (first : Option (List ℕ)) (all left : Option (List (List ℕ))) (old 
       → IsRefused began place texts to R cause)
       → IfErr checked (λ cause. (copied : Register) (at place to : Place) (R : Register) (texts : List (List ℕ)) → CheckedToFrom copied at place to R it texts
       → IsRefusedFrom copied at place texts to R cause)
-      → IsRefusedBy old first all fault
-  said_refused checked fault none (inl memory) why why_from = inl (inr (inl memory))
-  said_refused checked fault none (inr (cause, is, same)) why why_from =
+      → IfErr checked IsOfRun → IsRefusedBy old first all fault
+  said_refused checked fault none (inl memory) why why_from of = inl (inr (inl memory))
+  said_refused checked fault none (inr (cause, is, same)) why why_from of =
       subst (λ (f : Fault). IsRefusedBy old first all f) (sym same)
       (all_refused cause none
       (subst (λ (r : Result ℕ CheckFault). IfErr r (λ c. (began : Register) (place to : Place) (R : Register) (texts : List (List ℕ)) → CheckedTo began place to R it texts
       → IsRefused began place texts to R c)) is why)
       (subst (λ (r : Result ℕ CheckFault). IfErr r (λ c. (copied : Register) (at place to : Place) (R : Register) (texts : List (List ℕ)) → CheckedToFrom copied at place to R it texts
-      → IsRefusedFrom copied at place texts to R c)) is why_from))
+      → IsRefusedFrom copied at place texts to R c)) is why_from)
+      (subst (λ (r : Result ℕ CheckFault). IfErr r IsOfRun) is of))
 
 -- a line of the first part is refused
 first_lines : (it : Checking) (file : List ℕ) (parts : List (List ℕ)) (fault : Fault) → RefusesPart it file fault → RefusesAll it file parts fault
@@ -333,6 +349,7 @@ first_lines it file parts fault is = record {
   go_on = inl refl;
   cause = is.cause;
   fault_is = is.fault_is;
+  is_bad = λ n same. inl (is.is_bad n same);
   why = λ began place R S was.
       let no = subst (λ (l : List (List ℕ)). (IsOfEnd place l is.cause → ⊥) × AreRefused place l (IsRefused began place l R S) is.cause) (sym (append-nil is.lines))
       (is.why began place R S [] was) in
@@ -487,6 +504,12 @@ module _ (one after : List ℕ) (parts : List (List ℕ)) (first place : Place) 
         texts_are = refl;
       }
 
+  bad_in : (n : ℕ) → HasBad it.walk.end (ended_lines after) n ⊎ BadOn it.walk.id (walked it.walk.end (ended_lines after)).1 parts n
+      → HasBad (end_at first) (ended_lines after) n ⊎ BadOn first.id (walked (end_at first) (ended_lines after)).1 parts n
+  bad_in n (inl here) = inl (subst (λ (e : ChainEnd). HasBad e (ended_lines after) n) (begins_at first it.walk.end over.end_is) here)
+  bad_in n (inr later) = inr (subst (λ (i : List ℕ). BadOn i (walked (end_at first) (ended_lines after)).1 parts n) over.id_is
+      (subst (λ (e : ChainEnd). BadOn it.walk.id (walked e (ended_lines after)).1 parts n) (begins_at first it.walk.end over.end_is) later))
+
   no_of : (IsAt : Place → List (List ℕ) → CheckFault → Type 0) → (IsOfEnd first (is.had ++ is.more) is.cause → IsWhole it after is.had is.after is.more parts)
       × AreRefused first (is.had ++ is.more) (IsAt first (is.had ++ is.more)) is.cause → IsNo one parts IsAt fault
   no_of IsAt refused = record {
@@ -496,6 +519,7 @@ module _ (one after : List ℕ) (parts : List (List ℕ)) (first place : Place) 
     cause = is.cause;
     fault_is = is.fault_is;
     refused = refused.1;
+    is_bad = λ n same. (begins.0, ended_lines after, begins.1, begins.2, bad_in n (is.is_bad n same));
     whole = λ of_end. has_all (refused.0 of_end);
   }
 
@@ -623,12 +647,17 @@ checks_first files began R (Some one) (Some after) (Some parts) first place resu
       cause = cause;
       fault_is = refl;
       refused = inl (record { entries = []; lines = nothing_read first; cause = inl why });
+      is_bad = λ n bads. absurd (subst (λ (f : CheckFault). RefusesRun began first [] place R f) bads why);
       whole = λ of_end. absurd (never_end first cause (λ short. subst (λ (f : CheckFault). RefusesRun began first [] place R f) short why) of_end);
     })))))
 
 never_short : (copied R : Register) (at first place : Place) (cause : CheckFault) → RefusesFrom copied at first [] [] place R cause → cause ≡ TooShort → ⊥
 never_short copied R at first place cause (inl is) short = subst (λ (f : CheckFault). RefusesCopy first [] at place f) short is
 never_short copied R at first place cause (inr is) short = subst (λ (f : CheckFault). RefusesRun copied at [] place R f) short is.1
+
+never_bad : (copied R : Register) (at first place : Place) (cause : CheckFault) → RefusesFrom copied at first [] [] place R cause → (n : ℕ) → cause ≡ BadLine n → ⊥
+never_bad copied R at first place cause (inl is) n bads = subst (λ (f : CheckFault). RefusesCopy first [] at place f) bads is
+never_bad copied R at first place cause (inr is) n bads = subst (λ (f : CheckFault). RefusesRun copied at [] place R f) bads is.1
 
 pub checks_first_from : (copied R : Register) (at : Place) (one now : Option (List ℕ)) (all : Option (List (List ℕ))) (first place : Place) (result : Result (String Global) Fault)
     (cause : CheckFault) → result ≡ Err (of_check cause) → IfSome one (FirstIs first now) → RefusesFrom copied at first [] [] place R cause
@@ -644,6 +673,7 @@ checks_first_from copied R at (Some one) (Some after) (Some parts) first place r
       cause = cause;
       fault_is = refl;
       refused = inl (record { before = []; entries = []; lines = nothing_read first; cause = inl why });
+      is_bad = λ n bads. absurd (never_bad copied R at first place cause why n bads);
       whole = λ of_end. absurd (never_end first cause (never_short copied R at first place cause why) of_end);
     }))))
 

@@ -17,7 +17,7 @@ use Rattle.clr_journal.specs.Line.{Entry}
 use Rattle.clr_chain.specs.Chain.{read_on}
 use Rattle.clr_chain.specs.First.{end_at, read_first}
 use Rattle.clr_chain.specs.Sums.{Files, first_sum}
-use Rattle.clr_chain.specs.Walking.{part_of}
+use Rattle.clr_chain.specs.Walking.{bad, part_of, step_of}
 use Rattle.clr_chain.specs.declared.chain_end.ChainEnd.{ChainEnd}
 use Rattle.clr_args.specs.declared.asked.VerifyArgs.{VerifyArgs}
 use Rattle.clr_args.specs.declared.asked.VerifyFromArgs.{VerifyFromArgs}
@@ -150,6 +150,24 @@ pub record EndsInHalf (one : List ℕ) (parts : List (List ℕ)) (fault : Fault)
   pub fault_is : fault ≡ Journal (why.BadLine number)
   pub is_next : IsNextAfter first (lines ++ more) number
 
+-- ONE OF THESE LINES IS BAD where the walk has come to it, and would have this number
+abbrev pub HasBad : ChainEnd → List (List ℕ) → ℕ → Type 0
+HasBad end lines n = (had : List (List ℕ)) × (text : List ℕ) × (after : List (List ℕ))
+    × (lines ≡ had ++ text ∷ after) × ((step_of (walked end had).1 text).0 ≡ bad n)
+
+-- one of the lines of further parts is
+unfoldable pub BadOn : List ℕ → ChainEnd → List (List ℕ) → ℕ → Type 0
+BadOn id end [] n = ⊥
+BadOn id end (bytes ∷ rest) n = (text : List ℕ) × (lines : List (List ℕ)) × (next : ChainEnd)
+    × (ended_lines bytes ≡ text ∷ lines) × (part_of id end (read_first text) ≡ (true, next))
+    × (HasBad next lines n ⊎ BadOn id (walked next lines).1 rest n)
+
+-- one of the lines of a journal is
+abbrev pub IsBadIn : List ℕ → List (List ℕ) → Place → ℕ → Type 0
+IsBadIn one parts first n = (text : List ℕ) × (lines : List (List ℕ))
+    × (ended_lines one ≡ text ∷ lines) × (read_first text ≡ Some first)
+    × (HasBad (end_at first) lines n ⊎ BadOn first.id (walked (end_at first) lines).1 parts n)
+
 -- THE FIRST LINE IS OF THESE FILES: its number is 0, and its sum of the files and its id
 pub record IsOfFiles (files : Files) (first : Place) : Type 0 where
   pub number : first.number ≡ 0
@@ -201,6 +219,7 @@ pub record IsNo (one : List ℕ) (parts : List (List ℕ))
   pub cause : CheckFault
   pub fault_is : fault ≡ of_check cause
   pub refused : AreRefused first texts (Is first texts) cause
+  pub is_bad : (n : ℕ) → cause ≡ check.BadLine n → IsBadIn one parts first n
   pub whole : IsOfEnd first texts cause → HasLines one parts first texts
 
 -- its first line is not of these files
@@ -220,6 +239,7 @@ pub record RefusesPart (it : Checking) (bytes : List ℕ) (fault : Fault) : Type
   pub all : ended_lines bytes ≡ lines ++ after
   pub cause : CheckFault
   pub fault_is : fault ≡ of_check cause
+  pub is_bad : (n : ℕ) → cause ≡ check.BadLine n → HasBad it.walk.end (ended_lines bytes) n
   pub why : (began : Register) (first place : Place) (R : Register) (texts : List (List ℕ))
       → CheckedTo began first place R it texts → (IsOfEnd first (texts ++ lines) cause → ⊥)
       × AreRefused first (texts ++ lines) (IsRefused began first (texts ++ lines) place R) cause
@@ -268,6 +288,8 @@ pub record RefusesAll (it : Checking) (bytes : List ℕ) (parts : List (List ℕ
   pub go_on : (more ≡ []) ⊎ ((after ≡ []) × BeginOn it.walk.id (walked it.walk.end had).1 parts more)
   pub cause : CheckFault
   pub fault_is : fault ≡ of_check cause
+  pub is_bad : (n : ℕ) → cause ≡ check.BadLine n → HasBad it.walk.end (ended_lines bytes) n
+      ⊎ BadOn it.walk.id (walked it.walk.end (ended_lines bytes)).1 parts n
   pub why : (began : Register) (first place : Place) (R : Register)
       → CheckedTo began first place R it []
       → (IsOfEnd first (had ++ more) cause → IsWhole it bytes had after more parts)

@@ -59,7 +59,7 @@ returns-clause-refused g c =
     if_err c.said.result (λ fault no.
     said_refused (left_in g.O.File.Read.remaining c.args.part) (known c.args.parts.now) (known (drop c.loop-path.path-index c.args.parts.now)) c.args.checking
     c.loop-path.checking c.loop-path.invariant c.end.result fault
-    (ap known (drop_all c.loop-path.path-index c.args.parts.now c.loop-path-test.false)) no c.end.ensures.refused c.end.ensures.refused_from) c.said.ensures.no
+    (ap known (drop_all c.loop-path.path-index c.args.parts.now c.loop-path-test.false)) no c.end.ensures.refused c.end.ensures.refused_from c.end.ensures.of_run) c.said.ensures.no
 
 pub returns-in_err-checking-clause-refused : goal.returns-in_err-checking-clause-refused
 returns-in_err-checking-clause-refused g c =

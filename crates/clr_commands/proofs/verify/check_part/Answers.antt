@@ -86,7 +86,7 @@ returns-in-Err-clause-refused g c =
     subst (λ (o : Option (Vec ℕ Global)). IfSome left (ReadsLine o next)) c.in-Some.is c.in_ok-line.ensures.line in
     subst (λ (f : Fault). IsRefusedIn c.args.checking all f) (sym c.of_check.ensures)
     (line_refused all left next c.args.checking c.lines.checking c.in-Some.line c.deref.result.now c.deref.ensures.value c.lines.invariant.0 reads c.in-Err.fault
-    c.in-Err.ensures.refused c.in-Err.ensures.refused_from)
+    c.in-Err.ensures.refused c.in-Err.ensures.refused_from c.in-Err.ensures.bad)
 
 -- there are too many
 pub returns-clause-refused : goal.returns-clause-refused

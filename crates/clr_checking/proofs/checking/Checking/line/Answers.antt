@@ -1,4 +1,4 @@
-use Rattle.std.proofs.Common.{◌≡◌, ◌∙◌, ◌++◌, ap, sym}
+use Rattle.std.proofs.Common.{◌≡◌, ◌∙◌, ◌++◌, ap, subst, sym}
 use Rattle.clr_journal.specs.Line.{entry_of}
 use Rattle.clr_chain.specs.Walking.{bad, holds, seen_step, step_of}
 use Rattle.clr_chain.specs.Walking.{Step as Seen}
@@ -7,6 +7,7 @@ use Rattle.clr_chain.specs.declared.walk.Step.{Step as SeenStep}
 use Rattle.clr_chain.specs.declared.walk.Walk.{Walk}
 use Rattle.clr_checking.proofs.Results.{if_err, if_err_both, on_any, on_five, on_ok}
 use Rattle.clr_checking.proofs.Checked.{bad_over, line_checked, line_checked_from, line_refused, line_refused_from}
+use Rattle.clr_checking.specs.CheckingOn.{IsOfRun}
 use Rattle.clr_checking.proofs.checking.Checking.line.Goals as goal
 
 pub returns-in-Holds-clause-went : goal.returns-in-Holds-clause-went
@@ -71,3 +72,15 @@ returns-in-Holds-clause-end c =
 
 pub returns-in-Holds-clause-id : goal.returns-in-Holds-clause-id
 returns-in-Holds-clause-id c = ap (λ (w : Walk). w.id) c.next.ensures.walk ∙ c.step.ensures.id
+
+-- the walk itself has come to a bad line
+pub returns-in-Bad-clause-bad : goal.returns-in-Bad-clause-bad
+returns-in-Bad-clause-bad c n is =
+    let old = c.args.self.now in
+    let walk = c.step.new.self in
+    let step : (bad c.in-Bad.number, walk.end) ≡ step_of old.walk.end c.args.text.now =
+    ap (λ (s : SeenStep). (seen_step s, walk.end)) (sym c.in-Bad.is) ∙ c.in_ok-seen.ensures.step in
+    sym (ap (λ (both : Seen × ChainEnd). both.0) step) ∙ ap bad (cc is)
+
+pub returns-in-Holds-clause-bad : goal.returns-in-Holds-clause-bad
+returns-in-Holds-clause-bad c = if_err c.next.result (λ fault of n is. absurd (subst IsOfRun is of)) c.next.ensures.of_run
