@@ -93,6 +93,12 @@ def files(folder):
     refused(folder, "verify, its journal", "journal", "verify", "room.db", "room.db-wal", *FILES)
 
 
+def made(folder):
+    """A database that is to be made may be no file of the journal that is to be begun."""
+    for ending in ENDINGS[1:]:
+        refused(folder, f"init --db of the journal{ending}", "journal", "init", *FILES, "--db", f"journal{ending}", "--journal", "journal")
+
+
 def others(folder):
     """A file of another database, or of a like name, is none of these."""
     register(folder / "other.db")
@@ -105,4 +111,4 @@ def others(folder):
 
 
 if __name__ == "__main__":
-    main(journals, parts, links, files, others)
+    main(journals, parts, links, files, made, others)

@@ -139,7 +139,8 @@ made_other : (owns : List ℕ → List ℕ → Type 0) (stored : Option StoredAr
     → IsSomeAnd stored (λ made. OwnsMade owns made files fault) → fault ≢ Output
 made_other owns None files fault own e = absurd own
 made_other owns (Some made) files fault (inl own) e = file_other owns made.database.now files fault own e
-made_other owns (Some made) files fault (inr (own, is)) e = cc (sym is ∙ e)
+made_other owns (Some made) files fault (inr (inl (own, is))) e = cc (sym is ∙ e)
+made_other owns (Some made) files fault (inr (inr (own, is))) e = cc (sym is ∙ e)
 
 -- the fault of a file of the database is not of the output
 own_other : (owns : List ℕ → List ℕ → Type 0) (what : Asked) (fault : Fault) → UnlessMemory (NamesOwn owns what) fault → fault ≢ Output

@@ -36,9 +36,13 @@ module _ (spares : List ℕ → List ℕ → Type 0) where
   SparesServed args = SparesOne args.database.now args.logins
       × SparesOne args.database.now args.journal
 
+  -- nor is a database one of its journal's
+  abbrev pub SparesDatabase : StoredArgs → Type 0
+  SparesDatabase args = IfSome args.journal (λ p. spares p.now args.database.now)
+
   abbrev pub SparesMade : StoredArgs → Files → Type 0
   SparesMade args files = SparesFiles args.database.now files
-      × SparesOne args.database.now args.journal
+      × SparesOne args.database.now args.journal × SparesDatabase args
 
   abbrev pub SparesUpdated : UpdateArgs → Type 0
   SparesUpdated args = SparesFiles args.database.now args.files
@@ -94,9 +98,14 @@ module _ (owns : List ℕ → List ℕ → Type 0) where
   abbrev pub OwnsJournal : List ℕ → List ℕ → Fault → Type 0
   OwnsJournal database path fault = owns database path × (fault ≡ Journal journal.SameFile)
 
+  abbrev pub OwnsDatabase : StoredArgs → Fault → Type 0
+  OwnsDatabase args fault = IsSomeAnd args.journal (λ p. owns p.now args.database.now)
+      × (fault ≡ Journal journal.SameFile)
+
   abbrev pub OwnsMade : StoredArgs → Files → Fault → Type 0
   OwnsMade args files fault = OwnsFile args.database.now files fault
       ⊎ OwnsOne args.database.now args.journal (Journal journal.SameFile) fault
+      ⊎ OwnsDatabase args fault
 
   abbrev pub OwnsUpdated : UpdateArgs → Fault → Type 0
   OwnsUpdated args fault = OwnsFile args.database.now args.files fault

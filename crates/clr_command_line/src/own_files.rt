@@ -1,7 +1,8 @@
 //! Files that are named beside a database, none of which is to be one of the database's own.
 ghost use Rattle.std.specs.Prelude.{◌≡◌, IfErr, OnOk, map};
-ghost use Rattle.clr_command_line.specs.OwnFiles.{NamesOthers, NamesOwn, OwnsFile, OwnsMade};
-ghost use Rattle.clr_command_line.specs.OwnFiles.{OwnsNext, OwnsOne, OwnsPart, OwnsServed};
+ghost use Rattle.clr_command_line.specs.OwnFiles.{NamesOthers, NamesOwn, OwnsDatabase, OwnsFile};
+ghost use Rattle.clr_command_line.specs.OwnFiles.{OwnsMade, OwnsNext, OwnsOne, OwnsPart};
+ghost use Rattle.clr_command_line.specs.OwnFiles.{OwnsServed, SparesDatabase};
 ghost use Rattle.clr_command_line.specs.OwnFiles.{OwnsUpdated, OwnsVerified, OwnsVerifiedFrom};
 ghost use Rattle.clr_command_line.specs.OwnFiles.{SparesFiles, SparesMade, SparesNext, SparesOne};
 ghost use Rattle.clr_command_line.specs.OwnFiles.{SparesParts, SparesServed, SparesUpdated};
@@ -90,7 +91,8 @@ fn expect_updated<'a, O: Opens<'a>>(
     expect_journal_of(alloc, paths, args.database, args.journal)
 }
 
-/// Refuses files to begin with, or a journal to begin, that are a file of the database to make.
+/// Refuses files to begin with, or a journal to begin, that are a file of the database to make; and
+/// a database to make that is a file of the journal.
 fn expect_made<'a, O: Opens<'a>>(
     alloc: Global,
     paths: &O,
@@ -101,7 +103,24 @@ fn expect_made<'a, O: Opens<'a>>(
     ensures own { IfErr result (UnlessMemory (OwnsMade (O.owns paths.now) stored.now files.now)) }
 {
     expect_files(alloc, paths, stored.database, files)?;
-    expect_journal(alloc, paths, stored)
+    expect_journal(alloc, paths, stored)?;
+    expect_database(alloc, paths, stored)
+}
+
+/// Refuses a database that is a file of its journal.
+fn expect_database<'a, O: Opens<'a>>(
+    alloc: Global,
+    paths: &O,
+    stored: &StoredArgs<'a>,
+) -> Result<(), Fault>
+    ensures other { OnOk result (SparesDatabase (O.spares paths.now) stored.now) }
+    ensures own { IfErr result (UnlessMemory (OwnsDatabase (O.owns paths.now) stored.now)) }
+{
+    let fault = Fault::Journal(JournalFault::SameFile);
+    match stored.journal {
+        Some(journal) => expect_other(alloc, paths, journal, stored.database, fault),
+        None => Ok(()),
+    }
 }
 
 /// Refuses parts of a journal that are a file of the database.
