@@ -1,8 +1,8 @@
 -- Why a register was not found to be what its journal says, part by part.
-use Rattle.std.proofs.Common.{◌≡◌, ◌≢◌, ◌∙◌, ◌⊎◌, ap, inl, inr, refl, subst, sym, ℕ, Bool, false, true, List, [], ◌∷◌, ◌++◌, append_assoc, append-nil, Result, Ok, Err}
+use Rattle.std.proofs.Common.{◌≡◌, ◌∙◌, ◌⊎◌, ap, inl, inr, refl, subst, sym, ℕ, Bool, false, true, List, [], ◌∷◌, ◌++◌, append_assoc, append-nil, Result, Ok, Err}
 use Rattle.std.proofs.lemmas.Bool.{true≢false}
 use Rattle.std.specs.Borrow.{Bor}
-use Rattle.std.specs.Prelude.{IfErr, IfOk, IfSome, IsErrAnd, None, Option, Some, String, Vec, string_bytes}
+use Rattle.std.specs.Prelude.{IfErr, IfOk, IfSome, None, Option, Some, String, Vec, string_bytes}
 use Rattle.std.specs.declared.alloc.Global.{Global}
 use Rattle.clr_journal.specs.Lines.{ended_lines}
 use Rattle.clr_rules.specs.Register.{Register}
@@ -19,13 +19,13 @@ use Rattle.clr_edge.specs.declared.fault.Fault.{Fault}
 use Rattle.clr_edge.specs.declared.fault.Fault.TheVariants.{Journal, Memory, Verify}
 use Rattle.clr_edge.specs.declared.fault.JournalFault.TheVariants.{OpenFailed, ReadFailed}
 use Rattle.clr_edge.specs.declared.fault.VerifyFault.TheVariants.{Files as OtherFiles}
-use Rattle.clr_checking.specs.Checking.{AreLines, IsBadAfter, IsRefused, IsRefusedFrom, Refuses, RefusesCopy, RefusesFrom, RefusesLine, RefusesOfCopy, RefusesRun}
+use Rattle.clr_checking.specs.Checking.{AreLines, IsRefused, IsRefusedFrom, Refuses, RefusesCopy, RefusesFrom, RefusesLine, RefusesOfCopy, RefusesRun}
 use Rattle.clr_checking.specs.CheckingOn.{CheckedTo, CheckedToFrom, GoesOver, IsOfRun}
 use Rattle.clr_checking.specs.declared.checking.Checking.{Checking}
 use Rattle.clr_checking.specs.declared.fault.CheckFault.{CheckFault}
 use Rattle.clr_checking.specs.declared.fault.CheckFault.TheVariants.{BadLine, Differs, NoMemory, OtherRegister, Reply, Tables, TooShort}
 use Rattle.clr_keeping.specs.Journal.{FailsAny, all_known}
-use Rattle.clr_keeping.specs.Parts.{Breaks, BreaksAfter, FailsLater, FirstIs, IsNoFirst, IsNoNext, IsOfReading, IsOpened, IsUnreadOr, IsUnreadPart, ReadsLine, walked}
+use Rattle.clr_keeping.specs.Parts.{Breaks, BreaksAfter, FailsLater, FirstIs, IsNoFirst, IsNoNext, IsOpened, IsUnreadOr, IsUnreadPart, ReadsLine, walked}
 use Rattle.clr_edge.specs.Paths.{AtPaths, at_paths}
 use Rattle.clr_commands.specs.Verify.{AreOthers, AreRefused, BadOn, BeginOn, BeginsWith, Checks, ChecksAll, ChecksFrom, EndsInHalf, FailsFrom, FailsSome, GoOn, HalfOn, HasBad, HasLines, IsHalf, IsNextAfter, IsNo, IsOfEnd, IsOfFiles, IsRefusedBy, IsRefusedIn, IsWhole, RefusesAll, RefusesHalf, RefusesHalves, RefusesIn, RefusesPart, RefusesSome, of_check}
 use Rattle.clr_keeping.proofs.BrokenParts.{first_breaks, next_breaks, not_next}

@@ -7,8 +7,6 @@ use Rattle.clr_net.specs.Network as network
 use Rattle.clr_staff.specs.Staff as staff
 use Rattle.clr_staff.specs.declared.employee.StaffRow.{StaffRow}
 use Rattle.clr_stream.specs.Failures.{Rose}
-use Rattle.clr_rules.specs.Good.{IsGood}
-use Rattle.clr_rules.specs.Staffed.{IsStaffed}
 use Rattle.clr_rules.specs.Register.{Register, opening}
 use Rattle.clr_rules.specs.declared.reply.Reply.{Reply}
 use Rattle.clr_desk.specs.Given.{LeadsTo}

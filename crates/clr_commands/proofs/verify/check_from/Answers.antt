@@ -1,4 +1,4 @@
-use Rattle.std.proofs.Common.{◌∙◌, ap, inl, inr, refl, ℕ, List, map, Err}
+use Rattle.std.proofs.Common.{ap, inl, inr, ℕ, List, map, Err}
 use Rattle.std.specs.Borrow.{Bor}
 use Rattle.clr_keeping.specs.Journal.{all_known}
 use Rattle.clr_edge.specs.Paths.{at_paths}

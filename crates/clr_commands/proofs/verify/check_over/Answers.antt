@@ -1,4 +1,4 @@
-use Rattle.std.proofs.Common.{◌∙◌, ap, inl, inr, refl, ℕ, List, map, Err}
+use Rattle.std.proofs.Common.{ap, inl, inr, ℕ, List, map, Err}
 use Rattle.std.specs.Borrow.{Bor}
 use Rattle.clr_commands.specs.First.{files_of}
 use Rattle.clr_commands.specs.Import.{contents_of}
