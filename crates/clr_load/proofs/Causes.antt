@@ -1,8 +1,10 @@
 -- Why a listing of tables that are there fails.
-use Rattle.std.proofs.Common.{◌≡◌, ◌≤◌, ◌∙◌, ◌⊎◌, inl, inr, ℕ, true, false, List, [], IsTrue, None, Ok, refl, sym, ap, subst, arith}
+use Rattle.std.proofs.lemmas.Bool.{true≢false}
+use Rattle.std.proofs.Common.{◌≡◌, ◌≤◌, ◌∙◌, ◌⊎◌, inl, inr, ℕ, length, Bool, true, false, List, [], IsTrue, None, Ok, refl, sym, ap, subst, arith}
 use Rattle.sqlite.specs.Clock.{timed}
-use Rattle.sqlite.specs.Effect.{Database, RefusesToRead}
+use Rattle.sqlite.specs.Effect.{Database, IsShown, RefusesToRead}
 use Rattle.sqlite.specs.Listing.{understood, reads_listing, IsSourceOf}
+use Rattle.sqlite.specs.Order.{Row}
 use Rattle.sqlite.specs.Schema.{Schema}
 use Rattle.sqlite.specs.State.{State, HasCleanDisk, Survives, HasCause, FailsToQuery, FailsToShow, IsNotRun, IsTooLate, IsNoStatement, store_error}
 use Rattle.sqlite.specs.Tree.{Trees}
@@ -21,12 +23,13 @@ use Rattle.clr_load.specs.declared.table_name.TableName.{TableName}
 use Rattle.clr_load.specs.declared.table_name.TableName.TheVariants.{Meta, Section, Point, Staff, Clearance, Step, Hold, NetworkPoint, Journal}
 use Rattle.clr_load.specs.Cause.{IsAble, SqlHasCause, fault_of}
 use Rattle.clr_load.specs.Fault.{IsOfDatabase}
-use Rattle.clr_load.specs.Layout.{AsMade, AsMadeLogged, AsMoved, AsMovedLogged, Layout, OfOne, has_table}
+use Rattle.clr_load.specs.Layout.{AsMade, AsMadeLogged, AsMoved, AsMovedLogged, Layout, OfOne, has_table, place_in}
 use Rattle.clr_load.specs.Schema.{behind_meta, schema_in}
 use Rattle.clr_load.specs.Sql.{select_sql}
 use Rattle.clr_load.specs.declared.fault.StoreFault.{StoreFault}
 use Rattle.clr_load.specs.declared.fault.StoreFault.TheVariants.{Sql, WrongVersion, BadRow, NoMemory, OtherTables}
-use Rattle.clr_load.proofs.Texts.{all_of, meta_known, meta_unlisted, select_known, select_unlisted, selecting}
+use Rattle.clr_load.proofs.Fronts.{before, everywhere, front, up_to}
+use Rattle.clr_load.proofs.Texts.{all_of, listing_at, meta_known, meta_unlisted, select_known, select_unlisted, selecting}
 
 -- ---- what a fault says
 pub told_of_database : (e : Error) (fault : StoreFault) → fault ≡ fault_of e → IsOfDatabase fault
@@ -68,63 +71,41 @@ is_statement s schema sql command has reads e (inr h) =
 abbrev Refuses : Schema → Layout → TableName → Type 0
 Refuses schema l name = (db : Database) (e : Error) → db.schema ≡ schema → RefusesToRead None (selecting l name) db [] e → ⊥
 
-never_refused : (l : Layout) (name : TableName) → has_table l name ≡ true → Refuses (schema_in l) l name
+abbrev IsMistyped : Schema → ℕ → TableName → Type 0
+IsMistyped schema at name = IsShown (λ (r : Row). r) (record { schema = schema; trees = λ _. [] }) (record { lets = []; body = listing_at at name }) [] None
+
+typed_at : (name : TableName) (made : Bool) (others : Schema) → IsMistyped (front (up_to name made) others) (length (before name made)) name → ⊥
 unfolding everything
-never_refused OfOne Meta there db e has (inl h) = let typed = rw has at h.1 in cc
-never_refused AsMade Meta there db e has (inl h) = let typed = rw has at h.1 in cc
-never_refused AsMoved Meta there db e has (inl h) = let typed = rw has at h.1 in cc
-never_refused AsMadeLogged Meta there db e has (inl h) = let typed = rw has at h.1 in cc
-never_refused AsMovedLogged Meta there db e has (inl h) = let typed = rw has at h.1 in cc
-never_refused OfOne Section there db e has (inl h) = let typed = rw has at h.1 in cc
-never_refused AsMade Section there db e has (inl h) = let typed = rw has at h.1 in cc
-never_refused AsMoved Section there db e has (inl h) = let typed = rw has at h.1 in cc
-never_refused AsMadeLogged Section there db e has (inl h) = let typed = rw has at h.1 in cc
-never_refused AsMovedLogged Section there db e has (inl h) = let typed = rw has at h.1 in cc
-never_refused OfOne Point there db e has (inl h) = let typed = rw has at h.1 in cc
-never_refused AsMade Point there db e has (inl h) = absurd cc
-never_refused AsMoved Point there db e has (inl h) = let typed = rw has at h.1 in cc
-never_refused AsMadeLogged Point there db e has (inl h) = absurd cc
-never_refused AsMovedLogged Point there db e has (inl h) = let typed = rw has at h.1 in cc
-never_refused OfOne Staff there db e has (inl h) = let typed = rw has at h.1 in cc
-never_refused AsMade Staff there db e has (inl h) = let typed = rw has at h.1 in cc
-never_refused AsMoved Staff there db e has (inl h) = let typed = rw has at h.1 in cc
-never_refused AsMadeLogged Staff there db e has (inl h) = let typed = rw has at h.1 in cc
-never_refused AsMovedLogged Staff there db e has (inl h) = let typed = rw has at h.1 in cc
-never_refused OfOne Clearance there db e has (inl h) = let typed = rw has at h.1 in cc
-never_refused AsMade Clearance there db e has (inl h) = let typed = rw has at h.1 in cc
-never_refused AsMoved Clearance there db e has (inl h) = let typed = rw has at h.1 in cc
-never_refused AsMadeLogged Clearance there db e has (inl h) = let typed = rw has at h.1 in cc
-never_refused AsMovedLogged Clearance there db e has (inl h) = let typed = rw has at h.1 in cc
-never_refused OfOne Step there db e has (inl h) = let typed = rw has at h.1 in cc
-never_refused AsMade Step there db e has (inl h) = let typed = rw has at h.1 in cc
-never_refused AsMoved Step there db e has (inl h) = let typed = rw has at h.1 in cc
-never_refused AsMadeLogged Step there db e has (inl h) = let typed = rw has at h.1 in cc
-never_refused AsMovedLogged Step there db e has (inl h) = let typed = rw has at h.1 in cc
-never_refused OfOne Hold there db e has (inl h) = let typed = rw has at h.1 in cc
-never_refused AsMade Hold there db e has (inl h) = let typed = rw has at h.1 in cc
-never_refused AsMoved Hold there db e has (inl h) = let typed = rw has at h.1 in cc
-never_refused AsMadeLogged Hold there db e has (inl h) = let typed = rw has at h.1 in cc
-never_refused AsMovedLogged Hold there db e has (inl h) = let typed = rw has at h.1 in cc
-never_refused OfOne NetworkPoint there db e has (inl h) = absurd cc
-never_refused AsMade NetworkPoint there db e has (inl h) = let typed = rw has at h.1 in cc
-never_refused AsMoved NetworkPoint there db e has (inl h) = let typed = rw has at h.1 in cc
-never_refused AsMadeLogged NetworkPoint there db e has (inl h) = let typed = rw has at h.1 in cc
-never_refused AsMovedLogged NetworkPoint there db e has (inl h) = let typed = rw has at h.1 in cc
-never_refused OfOne Journal there db e has (inl h) = absurd cc
-never_refused AsMade Journal there db e has (inl h) = absurd cc
-never_refused AsMoved Journal there db e has (inl h) = absurd cc
-never_refused AsMadeLogged Journal there db e has (inl h) = let typed = rw has at h.1 in cc
-never_refused AsMovedLogged Journal there db e has (inl h) = let typed = rw has at h.1 in cc
-never_refused l name there db e has (inr (inl (_, inl over))) = over
-never_refused l name there db e has (inr (inl (_, inr over))) = over.4
-never_refused l name there db e has (inr (inr cut)) = absurd (let o = cut.1 in cc)
+typed_at Meta made others h = true≢false h
+typed_at Section made others h = true≢false h
+typed_at Point made others h = true≢false h
+typed_at Staff true others h = true≢false h
+typed_at Staff false others h = true≢false h
+typed_at Clearance true others h = true≢false h
+typed_at Clearance false others h = true≢false h
+typed_at Step true others h = true≢false h
+typed_at Step false others h = true≢false h
+typed_at Hold true others h = true≢false h
+typed_at Hold false others h = true≢false h
+typed_at NetworkPoint true others h = true≢false h
+typed_at NetworkPoint false others h = true≢false h
+typed_at Journal true others h = true≢false h
+typed_at Journal false others h = true≢false h
+
+typed : (l : Layout) (name : TableName) → has_table l name ≡ true → IsMistyped (schema_in l) (place_in l name) name → ⊥
+typed = everywhere (λ name at under with all. IsMistyped all at name → ⊥) typed_at
+
+if_typed : (l : Layout) (name : TableName) (schema : Schema) → (IsMistyped schema (place_in l name) name → ⊥) → Refuses schema l name
+if_typed l name schema typed db e has (inl h) = typed (subst (λ s. IsMistyped s (place_in l name) name) has h.1)
+if_typed l name schema typed db e has (inr (inl (_, inl over))) = over
+if_typed l name schema typed db e has (inr (inl (_, inr over))) = over.4
+if_typed l name schema typed db e has (inr (inr cut)) = absurd (let o = cut.1 in cc)
+
+never_refused : (l : Layout) (name : TableName) → has_table l name ≡ true → Refuses (schema_in l) l name
+never_refused l name there = if_typed l name (schema_in l) (typed l name there)
 
 meta_never_refused : (others : Schema) → Refuses (behind_meta others) OfOne Meta
-unfolding everything
-meta_never_refused others db e has (inl h) = let typed = rw has at h.1 in cc
-meta_never_refused others db e has (inr (inl (_, inl over))) = over
-meta_never_refused others db e has (inr (inl (_, inr over))) = over.4
-meta_never_refused others db e has (inr (inr cut)) = absurd (let o = cut.1 in cc)
+meta_never_refused others = if_typed OfOne Meta (behind_meta others) (typed_at Meta true others)
 
 -- ---- a listing fails for the device alone
 module _ (l : Layout) (name : TableName) (schema : Schema) (reads : understood schema (select_sql name) ≡ Ok (all_of (select_sql name) 0 (selecting l name)))

@@ -1,6 +1,7 @@
 mod Versioned
 mod Alike
 pub mod Inside
+mod Fronts
 pub mod Texts
 pub mod Columns
 pub mod Causes
@@ -9,6 +10,7 @@ pub mod Staying
 pub mod Selecting
 pub mod Streaming
 pub mod Versions
+mod Fronts
 pub mod TextsRead
 pub mod AllRead
 pub mod AllGiven

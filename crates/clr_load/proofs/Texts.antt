@@ -1,6 +1,6 @@
 -- What the texts of the statements mean.
 use Rattle.std.proofs.Common.{◌≡◌, ◌∙◌, ◌-◌, ℕ, zero, suc, List, [], ◌∷◌, ◌++◌, length, map, take}
-use Rattle.std.proofs.Common.{true, false, Ok, Err, ap, refl, subst, sym, pos, negsuc, None, arith}
+use Rattle.std.proofs.Common.{Bool, true, false, ◌*◌, Ok, Err, ap, refl, subst, sym, pos, negsuc, None, arith}
 use Rattle.std.specs.Prelude.{codes}
 use Rattle.std.proofs.lemmas.List.{take_all}
 use Rattle.sqlite.specs.declared.types.Value.TheVariants.{Null, Int}
@@ -28,6 +28,7 @@ use Rattle.clr_load.specs.declared.table_name.TableName.{TableName}
 use Rattle.clr_load.specs.declared.table_name.TableName.TheVariants.{Meta, Section, Point, Staff, Clearance, Step, Hold, NetworkPoint, Journal}
 use Rattle.clr_load.specs.Layout.{AsMade, AsMadeLogged, AsMoved, AsMovedLogged, Layout, OfOne, has_table, is_two, names_before, place_in, tree_in}
 use Rattle.clr_load.specs.Schema.{behind_meta, no_schema, keys_in, columns_in, table_at, schema_of, schema_in}
+use Rattle.clr_load.proofs.Fronts.{after, alone, before, everywhere, front, up_to}
 use Rattle.clr_load.specs.Sql.{create_sql, insert_sql, delete_sql, replace_sql, select_sql, set_position_sql, set_hand_sql, copy_sql, empty_sql}
 
 abbrev pub width_of : TableName → ℕ
@@ -68,13 +69,19 @@ abbrev pub key_tests : TableName → List Term
 key_tests name = tests_from 0 (keys_in name)
 
 -- the rows of a key, each as its number
+abbrev matching_at : ℕ → TableName → Query
+matching_at at name = query_of (2 * at) (key_tests name) (col 1 0 ∷ []) []
+
 abbrev pub matching : Layout → TableName → Query
-matching l name = query_of (tree_in l name) (key_tests name) (col 1 0 ∷ []) []
+matching l name = matching_at (place_in l name) name
 
 -- all rows, in the order of the key
+abbrev pub listing_at : ℕ → TableName → Query
+listing_at at name =
+    query_of (2 * at) [] (terms_from 1 1 (width_of name)) (order_from 0 (keys_in name))
+
 abbrev pub listing : Layout → TableName → Query
-listing l name =
-    query_of (tree_in l name) [] (terms_from 1 1 (width_of name)) (order_from 0 (keys_in name))
+listing l name = listing_at (place_in l name) name
 
 abbrev pub insert_terms : TableName → List Term
 insert_terms name = lit Null ∷ terms_from 0 0 (width_of name)
@@ -96,228 +103,138 @@ all_of sql given command = record {
   tail = length sql;
 }
 
+abbrev inserting_at : ℕ → TableName → Command
+inserting_at at name = Insert at (Values (insert_terms name) (suc (width_of name)))
+
 abbrev pub inserting : Layout → TableName → Command
-inserting l name = Insert (place_in l name) (Values (insert_terms name) (suc (width_of name)))
+inserting l name = inserting_at (place_in l name) name
+
+abbrev deleting_at : ℕ → TableName → Command
+deleting_at at name = Delete at (record { lets = []; body = matching_at at name })
 
 abbrev pub deleting : Layout → TableName → Command
-deleting l name = Delete (place_in l name) (record { lets = []; body = matching l name })
+deleting l name = deleting_at (place_in l name) name
 
 -- the rows of a key, each with its number, as they are to be: every column is a parameter
-abbrev pub replaced : Layout → TableName → Query
-replaced l name = query_of (tree_in l name) (key_tests name)
+abbrev replaced_at : ℕ → TableName → Query
+replaced_at at name = query_of (2 * at) (key_tests name)
     (col 1 0 ∷ col 1 0 ∷ terms_from 0 0 (width_of name)) []
 
+abbrev pub replaced : Layout → TableName → Query
+replaced l name = replaced_at (place_in l name) name
+
+abbrev replacing_at : ℕ → TableName → Command
+replacing_at at name = Update at (record { lets = []; body = replaced_at at name })
+
 abbrev pub replacing : Layout → TableName → Command
-replacing l name = Update (place_in l name) (record { lets = []; body = replaced l name })
+replacing l name = replacing_at (place_in l name) name
+
+abbrev pub selecting_at : ℕ → TableName → Command
+selecting_at at name =
+    Select (record { lets = []; body = listing_at at name }) (names_of_columns (columns_in name))
 
 abbrev pub selecting : Layout → TableName → Command
-selecting l name =
-    Select (record { lets = []; body = listing l name }) (names_of_columns (columns_in name))
+selecting l name = selecting_at (place_in l name) name
 
 abbrev Compiles : Schema → List ℕ → ℕ → Command → Type 0
 Compiles schema sql given command = compiled schema sql ≡ Ok (all_of sql given command)
 
+insert_at : (name : TableName) (made : Bool) (others : Schema)
+    → Compiles (front (up_to name made) others) (insert_sql name) (width_of name) (inserting_at (length (before name made)) name)
+unfolding everything
+insert_at Meta made others = refl
+insert_at Section made others = refl
+insert_at Point made others = refl
+insert_at Staff true others = refl
+insert_at Staff false others = refl
+insert_at Clearance true others = refl
+insert_at Clearance false others = refl
+insert_at Step true others = refl
+insert_at Step false others = refl
+insert_at Hold true others = refl
+insert_at Hold false others = refl
+insert_at NetworkPoint true others = refl
+insert_at NetworkPoint false others = refl
+insert_at Journal true others = refl
+insert_at Journal false others = refl
+
 insert_reads : (l : Layout) (name : TableName) → has_table l name ≡ true
     → Compiles (schema_in l) (insert_sql name) (width_of name) (inserting l name)
+insert_reads = everywhere (λ name at under with all. Compiles all (insert_sql name) (width_of name) (inserting_at at name)) insert_at
+
+delete_at : (name : TableName) (made : Bool) (others : Schema)
+    → Compiles (front (up_to name made) others) (delete_sql name) (keys_in name) (deleting_at (length (before name made)) name)
 unfolding everything
-insert_reads OfOne Meta has = refl
-insert_reads AsMade Meta has = refl
-insert_reads AsMoved Meta has = refl
-insert_reads AsMadeLogged Meta has = refl
-insert_reads AsMovedLogged Meta has = refl
-insert_reads OfOne Section has = refl
-insert_reads AsMade Section has = refl
-insert_reads AsMoved Section has = refl
-insert_reads AsMadeLogged Section has = refl
-insert_reads AsMovedLogged Section has = refl
-insert_reads OfOne Point has = refl
-insert_reads AsMade Point has = absurd cc
-insert_reads AsMoved Point has = refl
-insert_reads AsMadeLogged Point has = absurd cc
-insert_reads AsMovedLogged Point has = refl
-insert_reads OfOne Staff has = refl
-insert_reads AsMade Staff has = refl
-insert_reads AsMoved Staff has = refl
-insert_reads AsMadeLogged Staff has = refl
-insert_reads AsMovedLogged Staff has = refl
-insert_reads OfOne Clearance has = refl
-insert_reads AsMade Clearance has = refl
-insert_reads AsMoved Clearance has = refl
-insert_reads AsMadeLogged Clearance has = refl
-insert_reads AsMovedLogged Clearance has = refl
-insert_reads OfOne Step has = refl
-insert_reads AsMade Step has = refl
-insert_reads AsMoved Step has = refl
-insert_reads AsMadeLogged Step has = refl
-insert_reads AsMovedLogged Step has = refl
-insert_reads OfOne Hold has = refl
-insert_reads AsMade Hold has = refl
-insert_reads AsMoved Hold has = refl
-insert_reads AsMadeLogged Hold has = refl
-insert_reads AsMovedLogged Hold has = refl
-insert_reads OfOne NetworkPoint has = absurd cc
-insert_reads AsMade NetworkPoint has = refl
-insert_reads AsMoved NetworkPoint has = refl
-insert_reads AsMadeLogged NetworkPoint has = refl
-insert_reads AsMovedLogged NetworkPoint has = refl
-insert_reads OfOne Journal has = absurd cc
-insert_reads AsMade Journal has = absurd cc
-insert_reads AsMoved Journal has = absurd cc
-insert_reads AsMadeLogged Journal has = refl
-insert_reads AsMovedLogged Journal has = refl
+delete_at Meta made others = refl
+delete_at Section made others = refl
+delete_at Point made others = refl
+delete_at Staff true others = refl
+delete_at Staff false others = refl
+delete_at Clearance true others = refl
+delete_at Clearance false others = refl
+delete_at Step true others = refl
+delete_at Step false others = refl
+delete_at Hold true others = refl
+delete_at Hold false others = refl
+delete_at NetworkPoint true others = refl
+delete_at NetworkPoint false others = refl
+delete_at Journal true others = refl
+delete_at Journal false others = refl
 
 delete_reads : (l : Layout) (name : TableName) → has_table l name ≡ true
     → Compiles (schema_in l) (delete_sql name) (keys_in name) (deleting l name)
+delete_reads = everywhere (λ name at under with all. Compiles all (delete_sql name) (keys_in name) (deleting_at at name)) delete_at
+
+replace_at : (name : TableName) (made : Bool) (others : Schema)
+    → Compiles (front (up_to name made) others) (replace_sql name) (width_of name) (replacing_at (length (before name made)) name)
 unfolding everything
-delete_reads OfOne Meta has = refl
-delete_reads AsMade Meta has = refl
-delete_reads AsMoved Meta has = refl
-delete_reads AsMadeLogged Meta has = refl
-delete_reads AsMovedLogged Meta has = refl
-delete_reads OfOne Section has = refl
-delete_reads AsMade Section has = refl
-delete_reads AsMoved Section has = refl
-delete_reads AsMadeLogged Section has = refl
-delete_reads AsMovedLogged Section has = refl
-delete_reads OfOne Point has = refl
-delete_reads AsMade Point has = absurd cc
-delete_reads AsMoved Point has = refl
-delete_reads AsMadeLogged Point has = absurd cc
-delete_reads AsMovedLogged Point has = refl
-delete_reads OfOne Staff has = refl
-delete_reads AsMade Staff has = refl
-delete_reads AsMoved Staff has = refl
-delete_reads AsMadeLogged Staff has = refl
-delete_reads AsMovedLogged Staff has = refl
-delete_reads OfOne Clearance has = refl
-delete_reads AsMade Clearance has = refl
-delete_reads AsMoved Clearance has = refl
-delete_reads AsMadeLogged Clearance has = refl
-delete_reads AsMovedLogged Clearance has = refl
-delete_reads OfOne Step has = refl
-delete_reads AsMade Step has = refl
-delete_reads AsMoved Step has = refl
-delete_reads AsMadeLogged Step has = refl
-delete_reads AsMovedLogged Step has = refl
-delete_reads OfOne Hold has = refl
-delete_reads AsMade Hold has = refl
-delete_reads AsMoved Hold has = refl
-delete_reads AsMadeLogged Hold has = refl
-delete_reads AsMovedLogged Hold has = refl
-delete_reads OfOne NetworkPoint has = absurd cc
-delete_reads AsMade NetworkPoint has = refl
-delete_reads AsMoved NetworkPoint has = refl
-delete_reads AsMadeLogged NetworkPoint has = refl
-delete_reads AsMovedLogged NetworkPoint has = refl
-delete_reads OfOne Journal has = absurd cc
-delete_reads AsMade Journal has = absurd cc
-delete_reads AsMoved Journal has = absurd cc
-delete_reads AsMadeLogged Journal has = refl
-delete_reads AsMovedLogged Journal has = refl
+replace_at Meta made others = refl
+replace_at Section made others = refl
+replace_at Point made others = refl
+replace_at Staff true others = refl
+replace_at Staff false others = refl
+replace_at Clearance true others = refl
+replace_at Clearance false others = refl
+replace_at Step true others = refl
+replace_at Step false others = refl
+replace_at Hold true others = refl
+replace_at Hold false others = refl
+replace_at NetworkPoint true others = refl
+replace_at NetworkPoint false others = refl
+replace_at Journal true others = refl
+replace_at Journal false others = refl
 
 replace_reads : (l : Layout) (name : TableName) → has_table l name ≡ true
     → Compiles (schema_in l) (replace_sql name) (width_of name) (replacing l name)
+replace_reads = everywhere (λ name at under with all. Compiles all (replace_sql name) (width_of name) (replacing_at at name)) replace_at
+
+select_at : (name : TableName) (made : Bool) (others : Schema)
+    → Compiles (front (up_to name made) others) (select_sql name) 0 (selecting_at (length (before name made)) name)
 unfolding everything
-replace_reads OfOne Meta has = refl
-replace_reads AsMade Meta has = refl
-replace_reads AsMoved Meta has = refl
-replace_reads AsMadeLogged Meta has = refl
-replace_reads AsMovedLogged Meta has = refl
-replace_reads OfOne Section has = refl
-replace_reads AsMade Section has = refl
-replace_reads AsMoved Section has = refl
-replace_reads AsMadeLogged Section has = refl
-replace_reads AsMovedLogged Section has = refl
-replace_reads OfOne Point has = refl
-replace_reads AsMade Point has = absurd cc
-replace_reads AsMoved Point has = refl
-replace_reads AsMadeLogged Point has = absurd cc
-replace_reads AsMovedLogged Point has = refl
-replace_reads OfOne Staff has = refl
-replace_reads AsMade Staff has = refl
-replace_reads AsMoved Staff has = refl
-replace_reads AsMadeLogged Staff has = refl
-replace_reads AsMovedLogged Staff has = refl
-replace_reads OfOne Clearance has = refl
-replace_reads AsMade Clearance has = refl
-replace_reads AsMoved Clearance has = refl
-replace_reads AsMadeLogged Clearance has = refl
-replace_reads AsMovedLogged Clearance has = refl
-replace_reads OfOne Step has = refl
-replace_reads AsMade Step has = refl
-replace_reads AsMoved Step has = refl
-replace_reads AsMadeLogged Step has = refl
-replace_reads AsMovedLogged Step has = refl
-replace_reads OfOne Hold has = refl
-replace_reads AsMade Hold has = refl
-replace_reads AsMoved Hold has = refl
-replace_reads AsMadeLogged Hold has = refl
-replace_reads AsMovedLogged Hold has = refl
-replace_reads OfOne NetworkPoint has = absurd cc
-replace_reads AsMade NetworkPoint has = refl
-replace_reads AsMoved NetworkPoint has = refl
-replace_reads AsMadeLogged NetworkPoint has = refl
-replace_reads AsMovedLogged NetworkPoint has = refl
-replace_reads OfOne Journal has = absurd cc
-replace_reads AsMade Journal has = absurd cc
-replace_reads AsMoved Journal has = absurd cc
-replace_reads AsMadeLogged Journal has = refl
-replace_reads AsMovedLogged Journal has = refl
+select_at Meta made others = refl
+select_at Section made others = refl
+select_at Point made others = refl
+select_at Staff true others = refl
+select_at Staff false others = refl
+select_at Clearance true others = refl
+select_at Clearance false others = refl
+select_at Step true others = refl
+select_at Step false others = refl
+select_at Hold true others = refl
+select_at Hold false others = refl
+select_at NetworkPoint true others = refl
+select_at NetworkPoint false others = refl
+select_at Journal true others = refl
+select_at Journal false others = refl
 
 select_reads : (l : Layout) (name : TableName) → has_table l name ≡ true
     → Compiles (schema_in l) (select_sql name) 0 (selecting l name)
-unfolding everything
-select_reads OfOne Meta has = refl
-select_reads AsMade Meta has = refl
-select_reads AsMoved Meta has = refl
-select_reads AsMadeLogged Meta has = refl
-select_reads AsMovedLogged Meta has = refl
-select_reads OfOne Section has = refl
-select_reads AsMade Section has = refl
-select_reads AsMoved Section has = refl
-select_reads AsMadeLogged Section has = refl
-select_reads AsMovedLogged Section has = refl
-select_reads OfOne Point has = refl
-select_reads AsMade Point has = absurd cc
-select_reads AsMoved Point has = refl
-select_reads AsMadeLogged Point has = absurd cc
-select_reads AsMovedLogged Point has = refl
-select_reads OfOne Staff has = refl
-select_reads AsMade Staff has = refl
-select_reads AsMoved Staff has = refl
-select_reads AsMadeLogged Staff has = refl
-select_reads AsMovedLogged Staff has = refl
-select_reads OfOne Clearance has = refl
-select_reads AsMade Clearance has = refl
-select_reads AsMoved Clearance has = refl
-select_reads AsMadeLogged Clearance has = refl
-select_reads AsMovedLogged Clearance has = refl
-select_reads OfOne Step has = refl
-select_reads AsMade Step has = refl
-select_reads AsMoved Step has = refl
-select_reads AsMadeLogged Step has = refl
-select_reads AsMovedLogged Step has = refl
-select_reads OfOne Hold has = refl
-select_reads AsMade Hold has = refl
-select_reads AsMoved Hold has = refl
-select_reads AsMadeLogged Hold has = refl
-select_reads AsMovedLogged Hold has = refl
-select_reads OfOne NetworkPoint has = absurd cc
-select_reads AsMade NetworkPoint has = refl
-select_reads AsMoved NetworkPoint has = refl
-select_reads AsMadeLogged NetworkPoint has = refl
-select_reads AsMovedLogged NetworkPoint has = refl
-select_reads OfOne Journal has = absurd cc
-select_reads AsMade Journal has = absurd cc
-select_reads AsMoved Journal has = absurd cc
-select_reads AsMadeLogged Journal has = refl
-select_reads AsMovedLogged Journal has = refl
+select_reads = everywhere (λ name at under with all. Compiles all (select_sql name) 0 (selecting_at at name)) select_at
 
 -- the version is read whatever tables there are after the one that has it
 meta_reads : (others : Schema)
     → Compiles (behind_meta others) (select_sql Meta) 0 (selecting OfOne Meta)
-unfolding everything
-meta_reads others = refl
+meta_reads = select_at Meta true
 
 -- no table is listed where there is none
 pub select_unknown : (name : TableName) → understood no_schema (select_sql name) ≡ Err NoSuchTable
@@ -332,54 +249,28 @@ select_unknown Hold = refl
 select_unknown NetworkPoint = refl
 select_unknown Journal = refl
 
+create_at : (name : TableName) (made : Bool) → Compiles (alone (before name made)) (create_sql name) 0 CreateTable
+unfolding everything
+create_at Meta made = refl
+create_at Section made = refl
+create_at Point made = refl
+create_at Staff true = refl
+create_at Staff false = refl
+create_at Clearance true = refl
+create_at Clearance false = refl
+create_at Step true = refl
+create_at Step false = refl
+create_at Hold true = refl
+create_at Hold false = refl
+create_at NetworkPoint true = refl
+create_at NetworkPoint false = refl
+create_at Journal true = refl
+create_at Journal false = refl
+
 create_reads : (l : Layout) (name : TableName) → has_table l name ≡ true
     → Compiles (schema_of l (names_before l name)) (create_sql name) 0 CreateTable
-unfolding everything
-create_reads OfOne Meta has = refl
-create_reads AsMade Meta has = refl
-create_reads AsMoved Meta has = refl
-create_reads AsMadeLogged Meta has = refl
-create_reads AsMovedLogged Meta has = refl
-create_reads OfOne Section has = refl
-create_reads AsMade Section has = refl
-create_reads AsMoved Section has = refl
-create_reads AsMadeLogged Section has = refl
-create_reads AsMovedLogged Section has = refl
-create_reads OfOne Point has = refl
-create_reads AsMade Point has = absurd cc
-create_reads AsMoved Point has = refl
-create_reads AsMadeLogged Point has = absurd cc
-create_reads AsMovedLogged Point has = refl
-create_reads OfOne Staff has = refl
-create_reads AsMade Staff has = refl
-create_reads AsMoved Staff has = refl
-create_reads AsMadeLogged Staff has = refl
-create_reads AsMovedLogged Staff has = refl
-create_reads OfOne Clearance has = refl
-create_reads AsMade Clearance has = refl
-create_reads AsMoved Clearance has = refl
-create_reads AsMadeLogged Clearance has = refl
-create_reads AsMovedLogged Clearance has = refl
-create_reads OfOne Step has = refl
-create_reads AsMade Step has = refl
-create_reads AsMoved Step has = refl
-create_reads AsMadeLogged Step has = refl
-create_reads AsMovedLogged Step has = refl
-create_reads OfOne Hold has = refl
-create_reads AsMade Hold has = refl
-create_reads AsMoved Hold has = refl
-create_reads AsMadeLogged Hold has = refl
-create_reads AsMovedLogged Hold has = refl
-create_reads OfOne NetworkPoint has = absurd cc
-create_reads AsMade NetworkPoint has = refl
-create_reads AsMoved NetworkPoint has = refl
-create_reads AsMadeLogged NetworkPoint has = refl
-create_reads AsMovedLogged NetworkPoint has = refl
-create_reads OfOne Journal has = absurd cc
-create_reads AsMade Journal has = absurd cc
-create_reads AsMoved Journal has = absurd cc
-create_reads AsMadeLogged Journal has = refl
-create_reads AsMovedLogged Journal has = refl
+create_reads =
+    everywhere (λ name at under with all. Compiles under (create_sql name) 0 CreateTable) (λ name made others. create_at name made)
 
 pub defines : (name : TableName) → table_defined_by (create_sql name) ≡ Ok (table_at 0 name)
 unfolding everything
@@ -393,60 +284,36 @@ defines Hold = refl
 defines NetworkPoint = refl
 defines Journal = refl
 
+created_at : (name : TableName) (made : Bool) → created (alone (before name made)) (table_at 0 name) ≡ alone (up_to name made)
+unfolding everything
+created_at Meta made = refl
+created_at Section made = refl
+created_at Point made = refl
+created_at Staff true = refl
+created_at Staff false = refl
+created_at Clearance true = refl
+created_at Clearance false = refl
+created_at Step true = refl
+created_at Step false = refl
+created_at Hold true = refl
+created_at Hold false = refl
+created_at NetworkPoint true = refl
+created_at NetworkPoint false = refl
+created_at Journal true = refl
+created_at Journal false = refl
+
 pub created_is : (l : Layout) (name : TableName) → has_table l name ≡ true
     → created (schema_of l (names_before l name)) (table_at 0 name)
     ≡ schema_of l (names_before l name ++ name ∷ [])
-unfolding everything
-created_is OfOne Meta has = refl
-created_is AsMade Meta has = refl
-created_is AsMoved Meta has = refl
-created_is AsMadeLogged Meta has = refl
-created_is AsMovedLogged Meta has = refl
-created_is OfOne Section has = refl
-created_is AsMade Section has = refl
-created_is AsMoved Section has = refl
-created_is AsMadeLogged Section has = refl
-created_is AsMovedLogged Section has = refl
-created_is OfOne Point has = refl
-created_is AsMade Point has = absurd cc
-created_is AsMoved Point has = refl
-created_is AsMadeLogged Point has = absurd cc
-created_is AsMovedLogged Point has = refl
-created_is OfOne Staff has = refl
-created_is AsMade Staff has = refl
-created_is AsMoved Staff has = refl
-created_is AsMadeLogged Staff has = refl
-created_is AsMovedLogged Staff has = refl
-created_is OfOne Clearance has = refl
-created_is AsMade Clearance has = refl
-created_is AsMoved Clearance has = refl
-created_is AsMadeLogged Clearance has = refl
-created_is AsMovedLogged Clearance has = refl
-created_is OfOne Step has = refl
-created_is AsMade Step has = refl
-created_is AsMoved Step has = refl
-created_is AsMadeLogged Step has = refl
-created_is AsMovedLogged Step has = refl
-created_is OfOne Hold has = refl
-created_is AsMade Hold has = refl
-created_is AsMoved Hold has = refl
-created_is AsMadeLogged Hold has = refl
-created_is AsMovedLogged Hold has = refl
-created_is OfOne NetworkPoint has = absurd cc
-created_is AsMade NetworkPoint has = refl
-created_is AsMoved NetworkPoint has = refl
-created_is AsMadeLogged NetworkPoint has = refl
-created_is AsMovedLogged NetworkPoint has = refl
-created_is OfOne Journal has = absurd cc
-created_is AsMade Journal has = absurd cc
-created_is AsMoved Journal has = absurd cc
-created_is AsMadeLogged Journal has = refl
-created_is AsMovedLogged Journal has = refl
+created_is = everywhere (λ name at under with all. created under (table_at 0 name) ≡ with) (λ name made others. created_at name made)
 
 -- the row of a point, with its number, as it is to be
+abbrev changing_at : ℕ → List Term → Query
+changing_at at terms =
+    query_of (2 * at) (key_tests NetworkPoint) (col 1 0 ∷ col 1 0 ∷ terms) []
+
 abbrev pub changing : Layout → List Term → Query
-changing l terms =
-    query_of (tree_in l NetworkPoint) (key_tests NetworkPoint) (col 1 0 ∷ col 1 0 ∷ terms) []
+changing l terms = changing_at (place_in l NetworkPoint) terms
 
 abbrev pub position_terms : List Term
 position_terms = terms_from 1 1 5 ++ col 0 1 ∷ terms_from 1 7 3
@@ -454,26 +321,39 @@ position_terms = terms_from 1 1 5 ++ col 0 1 ∷ terms_from 1 7 3
 abbrev pub hand_terms : List Term
 hand_terms = terms_from 1 1 6 ++ col 0 1 ∷ col 0 2 ∷ terms_from 1 9 1
 
+abbrev updating_at : ℕ → List Term → Command
+updating_at at terms = Update at (record { lets = []; body = changing_at at terms })
+
 abbrev pub updating : Layout → List Term → Command
-updating l terms = Update (place_in l NetworkPoint) (record { lets = []; body = changing l terms })
+updating l terms = updating_at (place_in l NetworkPoint) terms
+
+set_position_at : (made : Bool) (others : Schema)
+    → Compiles (front (up_to NetworkPoint made) others) set_position_sql 2 (updating_at (length (before NetworkPoint made)) position_terms)
+unfolding everything
+set_position_at true others = refl
+set_position_at false others = refl
 
 set_position_reads : (l : Layout) → is_two l ≡ true
     → Compiles (schema_in l) set_position_sql 2 (updating l position_terms)
-unfolding everything
 set_position_reads OfOne two = absurd cc
-set_position_reads AsMade two = refl
-set_position_reads AsMoved two = refl
-set_position_reads AsMadeLogged two = refl
-set_position_reads AsMovedLogged two = refl
+set_position_reads AsMade two = set_position_at true (after AsMade NetworkPoint)
+set_position_reads AsMoved two = set_position_at false (after AsMoved NetworkPoint)
+set_position_reads AsMadeLogged two = set_position_at true (after AsMadeLogged NetworkPoint)
+set_position_reads AsMovedLogged two = set_position_at false (after AsMovedLogged NetworkPoint)
+
+set_hand_at : (made : Bool) (others : Schema)
+    → Compiles (front (up_to NetworkPoint made) others) set_hand_sql 3 (updating_at (length (before NetworkPoint made)) hand_terms)
+unfolding everything
+set_hand_at true others = refl
+set_hand_at false others = refl
 
 set_hand_reads : (l : Layout) → is_two l ≡ true
     → Compiles (schema_in l) set_hand_sql 3 (updating l hand_terms)
-unfolding everything
 set_hand_reads OfOne two = absurd cc
-set_hand_reads AsMade two = refl
-set_hand_reads AsMoved two = refl
-set_hand_reads AsMadeLogged two = refl
-set_hand_reads AsMovedLogged two = refl
+set_hand_reads AsMade two = set_hand_at true (after AsMade NetworkPoint)
+set_hand_reads AsMoved two = set_hand_at false (after AsMoved NetworkPoint)
+set_hand_reads AsMadeLogged two = set_hand_at true (after AsMadeLogged NetworkPoint)
+set_hand_reads AsMovedLogged two = set_hand_at false (after AsMovedLogged NetworkPoint)
 
 -- ---- version 1 moved to version 2
 -- the rows of version 1, each with its own columns, and 0 after them
