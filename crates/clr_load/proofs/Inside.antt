@@ -1,9 +1,10 @@
 -- Calls inside a transaction, one after another.
-use Rattle.std.proofs.Common.{◌∙◌, Err, IsTrue, Ok, Result, arith, inl, refl}
+use Rattle.std.proofs.Common.{◌≡◌, ◌∙◌, ap, Err, IsErrAnd, IsTrue, Ok, Result, arith, inl, refl}
 use Rattle.std.specs.Prelude.{IfErr, MatchResult}
 use Rattle.sqlite.specs.Held.{state}
 use Rattle.sqlite.specs.State.{HasCleanDisk, State, Survives}
 use Rattle.sqlite.specs.Store.{Ghosts}
+use Rattle.sqlite.specs.Tree.{Trees}
 use Rattle.sqlite.specs.declared.transaction.Transaction.{Transaction}
 use Rattle.sqlite.proofs.StateLemmas.{survives_then}
 use Rattle.clr_load.specs.Inside.{RunsInside}
@@ -16,6 +17,15 @@ survives_still s = record { clean = omega arith; shield = λ shielded. shielded;
 pub runs_none : {S X : Type 0} (g : Ghosts S) (tx : Transaction S) (F : StoreFault → Type 0) (Done : X → Type 0) (Failed : StoreFault → Type 0) (x : X)
     → (IsTrue (state g tx.conn.now).in_transaction → Done x) → RunsInside g tx tx F Done Failed (Ok x)
 runs_none g tx F Done Failed x done = record { same_reference = refl; step = λ _ inside. done inside; fault = tt; survives = survives_still (state g tx.conn.now) }
+
+-- the disk is clean after a call only if it was before
+pub clean_before : (a b : State) (Commits : Trees → Type 0) → Survives a b Commits → HasCleanDisk b → HasCleanDisk a
+clean_before a b Commits survives clean = omega (arith, survives.clean, clean)
+
+-- what `?` returns
+pub told_as : {T : Type 0} (result : Result T StoreFault) (fault : StoreFault) → IsErrAnd result (λ it. it ≡ fault) → result ≡ Err fault
+told_as (Ok value) fault is = absurd is
+told_as (Err it) fault is = ap Err is
 
 -- a crash in one of two calls leaves no more than it would in that call alone
 pub both_survive : (a b c : State) → Survives a b (λ _. ⊥) → Survives b c (λ _. ⊥) → Survives a c (λ _. ⊥)

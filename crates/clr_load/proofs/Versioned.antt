@@ -1,7 +1,7 @@
 -- What the rows that are listed say of a database that has a version.
 use Rattle.std.proofs.Common.{◌≡◌, ◌∙◌, ℕ, List, [], ◌∷◌, Ok, Err, None, Option, Some, true, false, length, pos, slice_get, ap, refl, subst, sym}
 use Rattle.std.proofs.lemmas.Bool.{true≢false}
-use Rattle.std.specs.Prelude.{option_map}
+use Rattle.std.specs.Prelude.{option_map, unwrap_or, ◌==◌, if◌then◌else◌}
 use Rattle.sqlite.specs.Effect.{Database}
 use Rattle.sqlite.specs.Order.{Row}
 use Rattle.sqlite.specs.Schema.{Schema}
@@ -25,38 +25,26 @@ use Rattle.clr_load.specs.Stored.{HasMeta, HasPlaceIn, HasTablesIn, HasVersion, 
 use Rattle.clr_load.proofs.Loading.{has_meta, lists, lists_place}
 
 -- one schema is of one layout: they differ in how many tables there are, and in the third
-abbrev mark_of : Schema → ℕ
-mark_of s = length s.tables
+abbrev third_of : Schema → ℕ
+third_of s = unwrap_or (option_map (λ (t : Table). length t.columns) (slice_get s.tables 2)) 0
 
-abbrev third_of : Schema → Option ℕ
-third_of s = option_map (λ (t : Table). length t.columns) (slice_get s.tables 2)
+abbrev marked : ℕ → ℕ → Layout
+marked tables columns =
+    if tables == 7 then (if columns == 8 then OfOne else AsMade)
+    else (if tables == 8 then (if columns == 8 then AsMoved else AsMadeLogged) else AsMovedLogged)
+
+abbrev layout_of : Schema → Layout
+layout_of s = marked (length s.tables) (third_of s)
+
+known_again : (l : Layout) → layout_of (schema_in l) ≡ l
+known_again OfOne = refl
+known_again AsMade = refl
+known_again AsMoved = refl
+known_again AsMadeLogged = refl
+known_again AsMovedLogged = refl
 
 pub one_layout : (l k : Layout) → schema_in l ≡ schema_in k → l ≡ k
-one_layout OfOne OfOne same = refl
-one_layout AsMade AsMade same = refl
-one_layout AsMoved AsMoved same = refl
-one_layout AsMadeLogged AsMadeLogged same = refl
-one_layout AsMovedLogged AsMovedLogged same = refl
-one_layout OfOne AsMade same = let e = ap third_of same in absurd cc
-one_layout OfOne AsMoved same = let e = ap mark_of same in absurd cc
-one_layout OfOne AsMadeLogged same = let e = ap mark_of same in absurd cc
-one_layout OfOne AsMovedLogged same = let e = ap mark_of same in absurd cc
-one_layout AsMade OfOne same = let e = ap third_of same in absurd cc
-one_layout AsMade AsMoved same = let e = ap mark_of same in absurd cc
-one_layout AsMade AsMadeLogged same = let e = ap mark_of same in absurd cc
-one_layout AsMade AsMovedLogged same = let e = ap mark_of same in absurd cc
-one_layout AsMoved OfOne same = let e = ap mark_of same in absurd cc
-one_layout AsMoved AsMade same = let e = ap mark_of same in absurd cc
-one_layout AsMoved AsMadeLogged same = let e = ap third_of same in absurd cc
-one_layout AsMoved AsMovedLogged same = let e = ap mark_of same in absurd cc
-one_layout AsMadeLogged OfOne same = let e = ap mark_of same in absurd cc
-one_layout AsMadeLogged AsMade same = let e = ap mark_of same in absurd cc
-one_layout AsMadeLogged AsMoved same = let e = ap third_of same in absurd cc
-one_layout AsMadeLogged AsMovedLogged same = let e = ap mark_of same in absurd cc
-one_layout AsMovedLogged OfOne same = let e = ap mark_of same in absurd cc
-one_layout AsMovedLogged AsMade same = let e = ap mark_of same in absurd cc
-one_layout AsMovedLogged AsMoved same = let e = ap mark_of same in absurd cc
-one_layout AsMovedLogged AsMadeLogged same = let e = ap mark_of same in absurd cc
+one_layout l k same = sym (known_again l) ∙ ap layout_of same ∙ known_again k
 
 pub meta_there : (l : Layout) → has_rows l Meta ≡ true
 meta_there l = refl

@@ -6,7 +6,7 @@ use Rattle.clr_load.specs.declared.table_name.TableName.TheVariants.{Point}
 use Rattle.clr_load.specs.Layout.{is_moved, tree_in, version_of}
 use Rattle.clr_load.specs.Schema.{schema_in}
 use Rattle.clr_load.specs.Stored.{HasVersion}
-use Rattle.clr_load.proofs.Inside.{both_survive}
+use Rattle.clr_load.proofs.Inside.{both_survive, clean_before}
 use Rattle.clr_load.proofs.Loading.{lists_meta}
 use Rattle.clr_load.proofs.Staying.{then_stays, unchanged_stays}
 use Rattle.clr_load.proofs.Loading.{in_layout, no_length, none_listed}
@@ -39,12 +39,12 @@ returns-then-not-is_empty-clause-survives g c =
 
 pub returns-then-not-is_empty-clause-stays : goal.returns-then-not-is_empty-clause-stays
 returns-then-not-is_empty-clause-stays g c clean =
-    let early : HasCleanDisk (state g.S.Store c.list_table.new.conn) = omega (arith, c.list_table-2.ensures.survives.clean) in
+    let early : HasCleanDisk (state g.S.Store c.list_table.new.conn) = clean_before _ _ _ c.list_table-2.ensures.survives clean in
     then_stays _ _ _ (c.in_ok-meta.ensures.unchanged early) (unchanged_stays _ _ (c.in_ok-points.ensures.unchanged clean))
 
 pub returns-then-not-is_empty-clause-was_open : goal.returns-then-not-is_empty-clause-was_open
 returns-then-not-is_empty-clause-was_open g c clean =
-    let early : HasCleanDisk (state g.S.Store c.list_table.new.conn) = omega (arith, c.list_table-2.ensures.survives.clean) in
+    let early : HasCleanDisk (state g.S.Store c.list_table.new.conn) = clean_before _ _ _ c.list_table-2.ensures.survives clean in
     inl (c.in_ok-meta.ensures.unchanged early).0.was_open
 
 pub returns-clause-survives : goal.returns-clause-survives
@@ -53,19 +53,19 @@ returns-clause-survives g c =
 
 pub returns-clause-stays : goal.returns-clause-stays
 returns-clause-stays g c clean =
-    let early : HasCleanDisk (state g.S.Store c.list_table.new.conn) = omega (arith, c.list_table-2.ensures.survives.clean) in
+    let early : HasCleanDisk (state g.S.Store c.list_table.new.conn) = clean_before _ _ _ c.list_table-2.ensures.survives clean in
     then_stays _ _ _ (c.in_ok-meta.ensures.unchanged early) (unchanged_stays _ _ (c.in_ok-points.ensures.unchanged clean))
 
 pub returns-clause-was_open : goal.returns-clause-was_open
 returns-clause-was_open g c clean =
-    let early : HasCleanDisk (state g.S.Store c.list_table.new.conn) = omega (arith, c.list_table-2.ensures.survives.clean) in
+    let early : HasCleanDisk (state g.S.Store c.list_table.new.conn) = clean_before _ _ _ c.list_table-2.ensures.survives clean in
     inl (c.in_ok-meta.ensures.unchanged early).0.was_open
 
 pub returns-then-not-is_empty-clause-other : goal.returns-then-not-is_empty-clause-other
 returns-then-not-is_empty-clause-other g c clean is other has =
     let old = state g.S.Store c.args.conn.now in
     let mid = state g.S.Store c.list_table.new.conn in
-    let early : HasCleanDisk mid = omega (arith, c.list_table-2.ensures.survives.clean) in
+    let early : HasCleanDisk mid = clean_before _ _ _ c.list_table-2.ensures.survives clean in
     let same : mid.now ≡ old.now = (c.in_ok-meta.ensures.unchanged early).0.now_is in
     let moved : is_moved c.args.layout ≡ true = search rules in
     let has_mid = subst (λ (db : Database). HasVersion (version_of c.args.layout) db) (sym same) has in
@@ -81,7 +81,7 @@ returns-then-not-is_moved-clause-alone g c clean meta has =
 
 pub returns-clause-alone : goal.returns-clause-alone
 returns-clause-alone g c clean meta has =
-    let early : HasCleanDisk (state g.S.Store c.list_table.new.conn) = omega (arith, c.list_table-2.ensures.survives.clean) in
+    let early : HasCleanDisk (state g.S.Store c.list_table.new.conn) = clean_before _ _ _ c.list_table-2.ensures.survives clean in
     let rows = lists_meta (state g.S.Store c.args.conn.now) (state g.S.Store c.list_table.new.conn) meta _ has (c.in_ok-meta.ensures.shown early) in
     search rules
 
@@ -102,18 +102,18 @@ returns-then-not-is_moved-clause-same g c clean shown = (c.in_ok-meta.ensures.un
 
 pub returns-in_err-points-clause-same : goal.returns-in_err-points-clause-same
 returns-in_err-points-clause-same g c clean shown =
-    let early : HasCleanDisk (state g.S.Store c.list_table.new.conn) = omega (arith, c.list_table-2.ensures.survives.clean) in
+    let early : HasCleanDisk (state g.S.Store c.list_table.new.conn) = clean_before _ _ _ c.list_table-2.ensures.survives clean in
     let stays = then_stays _ _ _ (c.in_ok-meta.ensures.unchanged early) (c.in_err-points.ensures.unchanged clean) in
     (stays.same shown (c.is_autocommit.ensures.settled (search rules) (stays.was_open shown))).0
 
 pub returns-then-not-is_empty-clause-same : goal.returns-then-not-is_empty-clause-same
 returns-then-not-is_empty-clause-same g c clean shown =
-    let early : HasCleanDisk (state g.S.Store c.list_table.new.conn) = omega (arith, c.list_table-2.ensures.survives.clean) in
+    let early : HasCleanDisk (state g.S.Store c.list_table.new.conn) = clean_before _ _ _ c.list_table-2.ensures.survives clean in
     (c.in_ok-points.ensures.unchanged clean).0.now_is ∙ (c.in_ok-meta.ensures.unchanged early).0.now_is
 
 pub returns-clause-same : goal.returns-clause-same
 returns-clause-same g c clean shown =
-    let early : HasCleanDisk (state g.S.Store c.list_table.new.conn) = omega (arith, c.list_table-2.ensures.survives.clean) in
+    let early : HasCleanDisk (state g.S.Store c.list_table.new.conn) = clean_before _ _ _ c.list_table-2.ensures.survives clean in
     (c.in_ok-points.ensures.unchanged clean).0.now_is ∙ (c.in_ok-meta.ensures.unchanged early).0.now_is
 
 -- ---- what is committed stays as it is
@@ -131,26 +131,26 @@ returns-then-not-is_moved-clause-committed g c clean shown = (c.in_ok-meta.ensur
 
 pub returns-in_err-points-clause-committed : goal.returns-in_err-points-clause-committed
 returns-in_err-points-clause-committed g c clean shown =
-    let early : HasCleanDisk (state g.S.Store c.list_table.new.conn) = omega (arith, c.list_table-2.ensures.survives.clean) in
+    let early : HasCleanDisk (state g.S.Store c.list_table.new.conn) = clean_before _ _ _ c.list_table-2.ensures.survives clean in
     let stays = then_stays _ _ _ (c.in_ok-meta.ensures.unchanged early) (c.in_err-points.ensures.unchanged clean) in
     let settled = c.is_autocommit.ensures.settled (search rules) (stays.was_open shown) in
     (stays.same shown settled).1 ∙ settled
 
 pub returns-then-not-is_empty-clause-committed : goal.returns-then-not-is_empty-clause-committed
 returns-then-not-is_empty-clause-committed g c clean shown =
-    let early : HasCleanDisk (state g.S.Store c.list_table.new.conn) = omega (arith, c.list_table-2.ensures.survives.clean) in
+    let early : HasCleanDisk (state g.S.Store c.list_table.new.conn) = clean_before _ _ _ c.list_table-2.ensures.survives clean in
     (c.in_ok-points.ensures.unchanged clean).0.committed_is ∙ (c.in_ok-meta.ensures.unchanged early).0.committed_is
 
 pub returns-clause-committed : goal.returns-clause-committed
 returns-clause-committed g c clean shown =
-    let early : HasCleanDisk (state g.S.Store c.list_table.new.conn) = omega (arith, c.list_table-2.ensures.survives.clean) in
+    let early : HasCleanDisk (state g.S.Store c.list_table.new.conn) = clean_before _ _ _ c.list_table-2.ensures.survives clean in
     (c.in_ok-points.ensures.unchanged clean).0.committed_is ∙ (c.in_ok-meta.ensures.unchanged early).0.committed_is
 
 -- ---- the `point` that a move has emptied is empty
 pub returns-clause-emptied : goal.returns-clause-emptied
 returns-clause-emptied g c clean is moved =
     let mid = state g.S.Store c.list_table.new.conn in
-    let early : HasCleanDisk mid = omega (arith, c.list_table-2.ensures.survives.clean) in
+    let early : HasCleanDisk mid = clean_before _ _ _ c.list_table-2.ensures.survives clean in
     let same : mid.now ≡ (state g.S.Store c.args.conn.now).now = (c.in_ok-meta.ensures.unchanged early).0.now_is in
     let schema : mid.now.schema ≡ schema_in c.args.layout = ap (λ (db : Database). db.schema) same ∙ is in
     let none = no_length c.in_ok-points.points.items (search rules) in

@@ -8,6 +8,7 @@ use Rattle.clr_load.specs.Stored.{rows_in}
 use Rattle.clr_load.specs.declared.fault.StoreFault.{StoreFault}
 use Rattle.clr_load.proofs.Causes.{list_cause, meta_cause, told_of_database}
 use Rattle.clr_load.proofs.Loading.{in_layout, listed, query_keeps}
+use Rattle.clr_load.proofs.Inside.{told_as}
 use Rattle.clr_load.proofs.listing.list_rows.Goals as goal
 
 pub returns-in_err-rows-clause-lists : goal.returns-in_err-rows-clause-lists
@@ -15,7 +16,7 @@ returns-in_err-rows-clause-lists g c =
     let old = state g.S.Store c.args.tx.now.conn.now in
     let new = state g.S.Store c.query_all.new.self.conn.now in
     let fault = fault_of c.in_err-rows.field-0.0 in
-    let told : c.from_residual.result ≡ Err fault = search rules in
+    let told : c.from_residual.result ≡ Err fault = told_as _ _ c.from_residual.ensures.1 in
     subst (λ r. Lists g.S.Store c.args.tx.now c.query_all.new.self IsOfDatabase (λ l. has_rows l c.args.table) (λ l t. rows_in l c.args.table t) (λ rows. rows.items) r) (sym told)
     (record {
       same_reference = c.query_all.ensures.same_reference;

@@ -5,17 +5,18 @@ use Rattle.clr_rules.specs.declared.step_row.StepRow.{StepRow}
 use Rattle.clr_load.specs.RowsRead.{rows_read}
 use Rattle.clr_load.specs.Filling.{IsLoaded}
 use Rattle.clr_load.proofs.AllGiven.{gives_rows}
+use Rattle.clr_load.proofs.Inside.{told_as}
 use Rattle.clr_load.proofs.load.load_rows.Goals as goal
 
 pub returns-in_err-loaded-clause-rows : goal.returns-in_err-loaded-clause-rows
 returns-in_err-loaded-clause-rows g c clean t has =
-    let told : c.from_residual.result ≡ Err c.in_err-loaded.field-0.0 = search rules in
+    let told : c.from_residual.result ≡ Err c.in_err-loaded.field-0.0 = told_as _ _ c.from_residual.ensures.1 in
     rw told (gives_rows (IsLoaded (λ (list : Vec Record Global) rows. list.items ≡ rows) (λ (list : Vec StepRow Global) rows. list.items ≡ rows) (λ (list : Vec Hold Global) rows. list.items ≡ rows))
     (rows_read t) c.in_err-loaded.field-0.0 (c.in_err-loaded.ensures.rows clean t has))
 
 pub returns-in_err-loaded-clause-cause : goal.returns-in_err-loaded-clause-cause
 returns-in_err-loaded-clause-cause g c out clean t has =
-    let told : c.from_residual.result ≡ Err c.in_err-loaded.field-0.0 = search rules in
+    let told : c.from_residual.result ≡ Err c.in_err-loaded.field-0.0 = told_as _ _ c.from_residual.ensures.1 in
     rw told (c.in_err-loaded.ensures.cause out clean t has)
 
 pub returns-clause-rows : goal.returns-clause-rows

@@ -8,7 +8,7 @@ use Rattle.clr_load.specs.Fault.{IsOfDatabase, IsOfPoints}
 use Rattle.clr_load.specs.Found.{Lists}
 use Rattle.clr_load.specs.Layout.{has_rows, is_one}
 use Rattle.clr_load.specs.Reading.{old_values}
-use Rattle.clr_load.proofs.Inside.{fails_so}
+use Rattle.clr_load.proofs.Inside.{fails_so, told_as}
 use Rattle.clr_load.proofs.Loading.{lists_in}
 use Rattle.clr_load.proofs.OldPoints.{early_blame, old_blame, old_fails, old_read, old_refused, one_has_points, refused_early}
 use Rattle.clr_load.proofs.old.check_old_points.Goals as goal
@@ -50,7 +50,7 @@ returns-in_err-_points-clause-lists g c =
     let old = state g.S.Store c.args.tx.now.conn.now in
     let new = state g.S.Store c.list_rows.new.tx.conn.now in
     let fault = c.in_err-_points.field-0.0 in
-    let told : c.from_residual-in_err-_points.result ≡ Err fault = search rules in
+    let told : c.from_residual-in_err-_points.result ≡ Err fault = told_as _ _ c.from_residual-in_err-_points.ensures.1 in
     subst (λ r. Lists g.S.Store c.args.tx.now c.list_rows.new.tx IsOfPoints is_one (λ l t. is_ok (old_points t)) (λ _. true) r) (sym told)
     (record {
       same_reference = c.in_ok-rows.ensures.lists.same_reference;
@@ -62,7 +62,7 @@ returns-in_err-_points-clause-lists g c =
 pub returns-in_err-rows-clause-lists : goal.returns-in_err-rows-clause-lists
 returns-in_err-rows-clause-lists g c =
     let fault = c.in_err-rows.field-0.0 in
-    let told : c.from_residual.result ≡ Err fault = search rules in
+    let told : c.from_residual.result ≡ Err fault = told_as _ _ c.from_residual.ensures.1 in
     subst (λ r. Lists g.S.Store c.args.tx.now c.list_rows.new.tx IsOfPoints is_one (λ l t. is_ok (old_points t)) (λ _. true) r) (sym told)
     (fails_so g.S.Store c.args.tx.now c.list_rows.new.tx IsOfDatabase IsOfPoints _ _ _ _ fault
     (lists_in g.S.Store c.args.tx.now c.list_rows.new.tx IsOfDatabase (λ l. has_rows l Point) is_one one_has_points _ _ _ c.in_err-rows.ensures.lists) (λ stops. stops) (early_blame fault))

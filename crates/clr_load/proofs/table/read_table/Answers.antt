@@ -8,6 +8,7 @@ use Rattle.clr_load.proofs.Loading.{in_layout}
 use Rattle.clr_load.proofs.Selecting.{failed_rests, survives_listed}
 use Rattle.clr_load.proofs.Staying.{stops, unchanged_stays}
 use Rattle.clr_load.proofs.Streaming.{Reads, advances_not, begins, ends, goes_on, reads_not, runs_out}
+use Rattle.clr_load.proofs.Inside.{told_as}
 use Rattle.clr_load.proofs.table.read_table.Goals as goal
 
 pub returns-in_err-rows : goal.returns-in_err-rows
@@ -16,7 +17,7 @@ returns-in_err-rows g c =
     let new = c.query.follows.lender-at-none in
     let held = rw c.in_err-rows.was at c.query.follows.holds-at-none in
     let name = c.args.table in
-    let told : c.from_residual.result ≡ Err (fault_of c.in_err-rows.field-0.0) = search rules in
+    let told : c.from_residual.result ≡ Err (fault_of c.in_err-rows.field-0.0) = told_as _ _ c.from_residual.ensures.1 in
     let fails = λ (clean : HasCleanDisk (state g.S.Store new)). rw c.select_sql.ensures at (held.err clean) in
     subst (Reads g.S.Store name g.T.TableRow.values g.F.Fill.has start new) (sym told)
     (stops g.S.Store start new _ _ g.F.Fill.has _ held.mode (survives_listed name (state g.S.Store start) (state g.S.Store new) (rw c.select_sql.ensures at held.survives))
@@ -38,7 +39,7 @@ returns-in_err-row g c =
     let new = c.next.follows.lender-at-none.conn.now in
     let moved = c.next.follows.holds-at-none in
     let same : new ≡ c.conn-in_err-row-1.given.0 = search rules in
-    let told : c.from_residual-in_err-row.result ≡ Err (fault_of c.in_err-row.field-0.0) = search rules in
+    let told : c.from_residual-in_err-row.result ≡ Err (fault_of c.in_err-row.field-0.0) = told_as _ _ c.from_residual-in_err-row.ensures.1 in
     subst (λ h. Reads g.S.Store c.args.table g.T.TableRow.values g.F.Fill.has c.args.conn.now h c.from_residual-in_err-row.result) same
     (subst (Reads g.S.Store c.args.table g.T.TableRow.values g.F.Fill.has c.args.conn.now new) (sym told)
     (advances_not g.S.Store c.args.table g.T.TableRow.values g.F.Fill.has c.args.conn.now now new c.rows.into c.rows.invariant.read moved.mode moved.survives c.in_err-row.field-0.0
@@ -60,7 +61,7 @@ returns-in_err-item g c =
     let new = c.next.follows.lender-at-none.conn.now in
     let moved = c.next.follows.holds-at-none in
     let same : new ≡ c.conn-in_err-item-1.given.0 = search rules in
-    let told : c.from_residual-in_err-item.result ≡ Err (BadRow c.in_err-item.field-0.0) = search rules in
+    let told : c.from_residual-in_err-item.result ≡ Err (BadRow c.in_err-item.field-0.0) = told_as _ _ c.from_residual-in_err-item.ensures.1 in
     subst (λ h. Reads g.S.Store c.args.table g.T.TableRow.values g.F.Fill.has c.args.conn.now h c.from_residual-in_err-item.result) same
     (subst (Reads g.S.Store c.args.table g.T.TableRow.values g.F.Fill.has c.args.conn.now new) (sym told)
     (reads_not g.S.Store c.args.table g.T.TableRow.values g.F.Fill.has c.args.conn.now now new c.rows.into c.rows.invariant.read moved.mode moved.survives
@@ -73,7 +74,7 @@ returns-in_err-fill g c =
     let new = c.next.follows.lender-at-none.conn.now in
     let moved = c.next.follows.holds-at-none in
     let same : new ≡ c.conn-in_err-fill-1.given.0 = search rules in
-    let told : c.from_residual-in_err-fill.result ≡ Err NoMemory = search rules in
+    let told : c.from_residual-in_err-fill.result ≡ Err NoMemory = told_as _ _ c.from_residual-in_err-fill.ensures.1 in
     subst (λ h. Reads g.S.Store c.args.table g.T.TableRow.values g.F.Fill.has c.args.conn.now h c.from_residual-in_err-fill.result) same
     (subst (Reads g.S.Store c.args.table g.T.TableRow.values g.F.Fill.has c.args.conn.now new) (sym told)
     (runs_out g.S.Store c.args.table g.T.TableRow.values g.F.Fill.has c.args.conn.now now new c.rows.into c.rows.invariant.read moved.mode moved.survives
