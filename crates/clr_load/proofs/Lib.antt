@@ -10,7 +10,6 @@ pub mod Staying
 pub mod Selecting
 pub mod Streaming
 pub mod Versions
-mod Fronts
 pub mod TextsRead
 pub mod AllRead
 pub mod AllGiven

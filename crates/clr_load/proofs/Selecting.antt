@@ -21,6 +21,7 @@ use Rattle.sqlite_schema.specs.declared.command.Returning.{Returning}
 use Rattle.sqlite_tied.specs.Compute.{everything}
 use Rattle.clr_load.specs.declared.table_name.TableName.{TableName}
 use Rattle.clr_load.specs.declared.table_name.TableName.TheVariants.{Meta, Section, Point, Staff, Clearance, Step, Hold, NetworkPoint, Journal}
+use Rattle.clr_load.proofs.Texts.{select_returns}
 use Rattle.clr_load.proofs.Staying.{unchanged_stays, undone_stays}
 use Rattle.clr_load.specs.Loads.{Stays}
 use Rattle.clr_load.specs.Sql.{select_sql}
@@ -39,17 +40,13 @@ ok_then (Ok p) so h = so p h
 ok_then (Err e) so h = tt
 
 -- a text that is a SELECT
+if_parsed : {P X : Type 0} (r : Checked P) (f : Schema → ℕ → P → Checked X) (x : Checked X) → ((schema : Schema) (base : ℕ) → and_then r (f schema base) ≡ x)
+    → IfOk r (λ p. (schema : Schema) (base : ℕ) → f schema base p ≡ x)
+if_parsed (Ok p) f x h = h
+if_parsed (Err e) f x h = tt
+
 parsed_shows : (name : TableName) → IfOk (first (select_sql name)) (λ p. (schema : Schema) (base : ℕ) → returning schema base p.statement ≡ Ok None)
-unfolding everything
-parsed_shows Meta = λ schema base. refl
-parsed_shows Section = λ schema base. refl
-parsed_shows Point = λ schema base. refl
-parsed_shows Staff = λ schema base. refl
-parsed_shows Clearance = λ schema base. refl
-parsed_shows Step = λ schema base. refl
-parsed_shows Hold = λ schema base. refl
-parsed_shows NetworkPoint = λ schema base. refl
-parsed_shows Journal = λ schema base. refl
+parsed_shows name = if_parsed (first (select_sql name)) (λ schema base p. returning schema base p.statement) (Ok None) (select_returns name)
 
 with_none : (r : Checked Command) (formats : List (List ℕ)) (with : List (List ℕ) × (Command × Option Returning) → Compiled) → ((plan : List (List ℕ) × (Command × Option Returning)) → (with plan).returning ≡ plan.1.1)
     → OnlyShows (and_then (and_then (and_then {A = Command} {B = Command × Option Returning} r (λ c. Ok (c, None))) (λ found. Ok (formats, found))) (λ plan. Ok (with plan)))

@@ -1,6 +1,6 @@
 -- What the texts of the statements mean.
 use Rattle.std.proofs.Common.{◌≡◌, ◌∙◌, ◌-◌, ℕ, zero, suc, List, [], ◌∷◌, ◌++◌, length, map, take}
-use Rattle.std.proofs.Common.{Bool, true, false, ◌*◌, Ok, Err, ap, refl, subst, sym, pos, negsuc, None, arith}
+use Rattle.std.proofs.Common.{Bool, true, false, Option, Result, ◌*◌, Ok, Err, ap, refl, subst, sym, pos, negsuc, None, arith}
 use Rattle.std.specs.Prelude.{codes}
 use Rattle.std.proofs.lemmas.List.{take_all}
 use Rattle.sqlite.specs.declared.types.Value.TheVariants.{Null, Int}
@@ -13,9 +13,13 @@ use Rattle.sqlite.specs.Source.TheVariants.{Values, Query as Queried}
 use Rattle.sqlite.specs.Command.TheVariants.{Insert, Select, CreateTable, Delete, Update}
 use Rattle.sqlite.specs.Listing.{listing_schema, misses_table, understood, reads_listing}
 use Rattle.sqlite.specs.Schema.{Schema}
-use Rattle.sqlite_resolve.specs.Compile.{compiled}
+use Rattle.sqlite.specs.Table.{Table}
+use Rattle.sqlite_resolve.specs.Compile.{compiled, first, planned, returning, table_in, with_command}
+use Rattle.sqlite_resolve.specs.Lowering.{Checked, and_then}
 use Rattle.sqlite_resolve.specs.declared.compiled.Compiled.{Compiled}
+use Rattle.sqlite_resolve.specs.declared.error.CompileError.{CompileError}
 use Rattle.sqlite_resolve.specs.declared.error.CompileError.TheVariants.{NoSuchTable}
+use Rattle.sqlite_schema.specs.declared.command.Returning.{Returning}
 use Rattle.sqlite.proofs.Callers.{IsPlain, command_of, statement_of}
 use Rattle.sqlite_tied.specs.Compute.{everything}
 use Rattle.sqlite_value.specs.Keys.{ascending}
@@ -136,6 +140,14 @@ selecting_at at name =
 abbrev pub selecting : Layout → TableName → Command
 selecting l name = selecting_at (place_in l name) name
 
+-- a text is parsed once, and several things are made of it: each of them is as it would be made alone
+part : {A X B : Type 0} (r : Checked A) (all : A → X) (made : X) (one : X → Checked B) → and_then r (λ a. Ok (all a)) ≡ Ok made
+    → and_then r (λ a. one (all a)) ≡ one made
+part (Ok a) all made one is =
+    let same : made ≡ all a = cc in
+    ap one (sym same)
+part (Err e) all made one is = absurd cc
+
 abbrev Compiles : Schema → List ℕ → ℕ → Command → Type 0
 Compiles schema sql given command = compiled schema sql ≡ Ok (all_of sql given command)
 
@@ -208,24 +220,39 @@ replace_reads : (l : Layout) (name : TableName) → has_table l name ≡ true
     → Compiles (schema_in l) (replace_sql name) (width_of name) (replacing l name)
 replace_reads = everywhere (λ name at under with all. Compiles all (replace_sql name) (width_of name) (replacing_at at name)) replace_at
 
+abbrev select_over : TableName → Bool → Result Compiled CompileError
+select_over name made = Ok (all_of (select_sql name) 0 (selecting_at (length (before name made)) name))
+
+-- a listing has no RETURNING, lists nothing where there is no table, and all rows of one that is there
+select_parts : (name : TableName) (schema : Schema) (base : ℕ) (others : Schema)
+    → and_then {B = Checked (Option Returning) × ((Checked Compiled × Checked Compiled) × (Checked Compiled × Checked Compiled))} (first (select_sql name)) (λ p. Ok (
+      returning schema base p.statement,
+      (
+        (and_then (planned no_schema p) (λ plan. Ok (with_command p plan)), and_then (planned listing_schema p) (λ plan. Ok (with_command p plan))),
+        (and_then (planned (front (up_to name true) others) p) (λ plan. Ok (with_command p plan)), and_then (planned (front (up_to name false) others) p) (λ plan. Ok (with_command p plan))),
+      ),
+    ))
+    ≡ Ok (Ok None, ((Err NoSuchTable, Err NoSuchTable), (select_over name true, select_over name false)))
+unfolding everything listing_schema
+select_parts Meta schema base others = refl
+select_parts Section schema base others = refl
+select_parts Point schema base others = refl
+select_parts Staff schema base others = refl
+select_parts Clearance schema base others = refl
+select_parts Step schema base others = refl
+select_parts Hold schema base others = refl
+select_parts NetworkPoint schema base others = refl
+select_parts Journal schema base others = refl
+
+pub select_returns : (name : TableName) (schema : Schema) (base : ℕ)
+    → and_then (first (select_sql name)) (λ p. returning schema base p.statement) ≡ Ok None
+select_returns name schema base = part (first (select_sql name)) _ _ (λ them. them.0) (select_parts name schema base schema)
+
 select_at : (name : TableName) (made : Bool) (others : Schema)
     → Compiles (front (up_to name made) others) (select_sql name) 0 (selecting_at (length (before name made)) name)
-unfolding everything
-select_at Meta made others = refl
-select_at Section made others = refl
-select_at Point made others = refl
-select_at Staff true others = refl
-select_at Staff false others = refl
-select_at Clearance true others = refl
-select_at Clearance false others = refl
-select_at Step true others = refl
-select_at Step false others = refl
-select_at Hold true others = refl
-select_at Hold false others = refl
-select_at NetworkPoint true others = refl
-select_at NetworkPoint false others = refl
-select_at Journal true others = refl
-select_at Journal false others = refl
+unfolding compiled
+select_at name true others = part (first (select_sql name)) _ _ (λ them. them.1.1.0) (select_parts name others 0 others)
+select_at name false others = part (first (select_sql name)) _ _ (λ them. them.1.1.1) (select_parts name others 0 others)
 
 select_reads : (l : Layout) (name : TableName) → has_table l name ≡ true
     → Compiles (schema_in l) (select_sql name) 0 (selecting l name)
@@ -237,52 +264,46 @@ meta_reads : (others : Schema)
 meta_reads = select_at Meta true
 
 -- no table is listed where there is none
+select_missing : (name : TableName) → (compiled no_schema (select_sql name) ≡ Err NoSuchTable) × (compiled listing_schema (select_sql name) ≡ Err NoSuchTable)
+unfolding compiled
+select_missing name =
+    let parts = select_parts name no_schema 0 no_schema in
+    (part (first (select_sql name)) _ _ (λ them. them.1.0.0) parts, part (first (select_sql name)) _ _ (λ them. them.1.0.1) parts)
+
 pub select_unknown : (name : TableName) → understood no_schema (select_sql name) ≡ Err NoSuchTable
-unfolding everything understood listing_schema
-select_unknown Meta = refl
-select_unknown Section = refl
-select_unknown Point = refl
-select_unknown Staff = refl
-select_unknown Clearance = refl
-select_unknown Step = refl
-select_unknown Hold = refl
-select_unknown NetworkPoint = refl
-select_unknown Journal = refl
+unfolding understood
+select_unknown name =
+    let missing = select_missing name in
+    rw (missing.0, missing.1) refl
+
+-- the table that it defines, and the command that it is over tables without it
+create_parts : (name : TableName) → and_then {B = Checked Table × (Checked Compiled × Checked Compiled)} (first (create_sql name)) (λ p.
+    Ok (table_in p.formats p.statement, (and_then (planned (alone (before name true)) p) (λ plan. Ok (with_command p plan)), and_then (planned (alone (before name false)) p) (λ plan. Ok (with_command p plan)))))
+    ≡ Ok (Ok (table_at 0 name), (Ok (all_of (create_sql name) 0 CreateTable), Ok (all_of (create_sql name) 0 CreateTable)))
+unfolding everything
+create_parts Meta = refl
+create_parts Section = refl
+create_parts Point = refl
+create_parts Staff = refl
+create_parts Clearance = refl
+create_parts Step = refl
+create_parts Hold = refl
+create_parts NetworkPoint = refl
+create_parts Journal = refl
 
 create_at : (name : TableName) (made : Bool) → Compiles (alone (before name made)) (create_sql name) 0 CreateTable
-unfolding everything
-create_at Meta made = refl
-create_at Section made = refl
-create_at Point made = refl
-create_at Staff true = refl
-create_at Staff false = refl
-create_at Clearance true = refl
-create_at Clearance false = refl
-create_at Step true = refl
-create_at Step false = refl
-create_at Hold true = refl
-create_at Hold false = refl
-create_at NetworkPoint true = refl
-create_at NetworkPoint false = refl
-create_at Journal true = refl
-create_at Journal false = refl
+unfolding compiled
+create_at name true = part (first (create_sql name)) _ _ (λ them. them.1.0) (create_parts name)
+create_at name false = part (first (create_sql name)) _ _ (λ them. them.1.1) (create_parts name)
+
+pub defines : (name : TableName) → table_defined_by (create_sql name) ≡ Ok (table_at 0 name)
+unfolding table_defined_by
+defines name = part (first (create_sql name)) _ _ (λ them. them.0) (create_parts name)
 
 create_reads : (l : Layout) (name : TableName) → has_table l name ≡ true
     → Compiles (schema_of l (names_before l name)) (create_sql name) 0 CreateTable
 create_reads =
     everywhere (λ name at under with all. Compiles under (create_sql name) 0 CreateTable) (λ name made others. create_at name made)
-
-pub defines : (name : TableName) → table_defined_by (create_sql name) ≡ Ok (table_at 0 name)
-unfolding everything
-defines Meta = refl
-defines Section = refl
-defines Point = refl
-defines Staff = refl
-defines Clearance = refl
-defines Step = refl
-defines Hold = refl
-defines NetworkPoint = refl
-defines Journal = refl
 
 created_at : (name : TableName) (made : Bool) → created (alone (before name made)) (table_at 0 name) ≡ alone (up_to name made)
 unfolding everything
