@@ -23,7 +23,7 @@ use Rattle.clr_load.specs.declared.table_name.TableName.{TableName}
 use Rattle.clr_load.specs.declared.table_name.TableName.TheVariants.{Meta, Section, Point, Staff, Clearance, Step, Hold, NetworkPoint, Journal}
 use Rattle.clr_load.specs.Cause.{IsAble, SqlHasCause, fault_of}
 use Rattle.clr_load.specs.Fault.{IsOfDatabase}
-use Rattle.clr_load.specs.Layout.{AsMade, AsMadeLogged, AsMoved, AsMovedLogged, Layout, OfOne, has_table, place_in}
+use Rattle.clr_load.specs.Layout.{Layout, OfOne, has_table, place_in}
 use Rattle.clr_load.specs.Schema.{behind_meta, schema_in}
 use Rattle.clr_load.specs.Sql.{select_sql}
 use Rattle.clr_load.specs.declared.fault.StoreFault.{StoreFault}

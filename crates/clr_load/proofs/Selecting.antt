@@ -20,7 +20,6 @@ use Rattle.sqlite_schema.specs.declared.command.Command.{Command}
 use Rattle.sqlite_schema.specs.declared.command.Returning.{Returning}
 use Rattle.sqlite_tied.specs.Compute.{everything}
 use Rattle.clr_load.specs.declared.table_name.TableName.{TableName}
-use Rattle.clr_load.specs.declared.table_name.TableName.TheVariants.{Meta, Section, Point, Staff, Clearance, Step, Hold, NetworkPoint, Journal}
 use Rattle.clr_load.proofs.Texts.{select_returns}
 use Rattle.clr_load.proofs.Staying.{unchanged_stays, undone_stays}
 use Rattle.clr_load.specs.Loads.{Stays}

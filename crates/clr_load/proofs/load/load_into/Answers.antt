@@ -1,4 +1,4 @@
-use Rattle.std.proofs.Common.{◌≡◌, Err, rules}
+use Rattle.std.proofs.Common.{◌≡◌, Err}
 use Rattle.clr_load.proofs.Inside.{told_as}
 use Rattle.clr_load.proofs.load.load_into.Goals as goal
 

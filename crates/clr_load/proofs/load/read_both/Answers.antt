@@ -1,4 +1,4 @@
-use Rattle.std.proofs.Common.{◌≡◌, Err, true, refl, rules}
+use Rattle.std.proofs.Common.{◌≡◌, Err, true, refl}
 use Rattle.clr_load.specs.Layout.{Layout, has_rows}
 use Rattle.clr_load.specs.Loads.{both_fit}
 use Rattle.clr_load.proofs.Columns.{both_true}

@@ -1,4 +1,4 @@
-use Rattle.std.proofs.Common.{◌≡◌, Err, Ok, inl, refl, rules, subst, sym}
+use Rattle.std.proofs.Common.{◌≡◌, Err, Ok, inl, refl, subst, sym}
 use Rattle.sqlite.specs.Held.{state}
 use Rattle.clr_load.specs.declared.table_name.TableName.TheVariants.{Meta}
 use Rattle.clr_load.specs.Cause.{fault_of}

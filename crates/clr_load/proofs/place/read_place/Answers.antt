@@ -1,4 +1,4 @@
-use Rattle.std.proofs.Common.{◌≡◌, ◌∙◌, Err, ap, false, rules, sym, subst, true}
+use Rattle.std.proofs.Common.{◌≡◌, ◌∙◌, Err, false, rules, sym, subst, true}
 use Rattle.std.specs.Prelude.{IfErr, Option}
 use Rattle.sqlite.specs.Held.{state}
 use Rattle.clr_rules.specs.declared.place.Place.{Place}
