@@ -19,3 +19,4 @@ pub mod Setting
 pub mod Beginning
 pub mod Wanting
 pub mod Turned
+pub mod Ending

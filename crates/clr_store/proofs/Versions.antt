@@ -1,5 +1,6 @@
 -- How a version that was read is refused.
-use Rattle.std.proofs.Common.{◌≡◌, ◌≤◌, ◌⊎◌, inl, inr, true, ℕ, zero, suc, arith, ℤ, pos, [], ◌∷◌, Err, IfErr, Ok, Result, refl, subst, sym}
+use Rattle.std.proofs.Common.{◌≡◌, ◌∙◌, ◌≤◌, ◌⊎◌, Bool, false, inl, inr, not, true, ℕ, zero, suc, arith, ℤ, pos, [], ◌∷◌, Err, IfErr, Ok, Result, refl, subst, sym}
+use Rattle.std.proofs.lemmas.Bool.{true≢false}
 use Rattle.clr_load.specs.RowsRead.{read_version}
 use Rattle.clr_load.specs.Tables.{Tables, version_row}
 use Rattle.clr_load.specs.declared.table_name.TableName.{TableName}
@@ -13,7 +14,7 @@ use Rattle.clr_load.specs.Cause.{fault_of}
 use Rattle.clr_load.specs.Contract.{RefusesPoints, TellsVersion, old_points}
 use Rattle.clr_load.specs.Fault.{IsOfDatabase, IsOfExpected, IsOfPoints}
 use Rattle.clr_store.specs.Contract.{IsOfOpening, RefusesOpening, RefusesVersion}
-use Rattle.clr_store.specs.Moving.{RefusesMove, RefusesToMove}
+use Rattle.clr_store.specs.Moving.{IsOfMove, RefusesMove, RefusesToMove}
 use Rattle.clr_load.specs.declared.fault.StoreFault.{StoreFault}
 use Rattle.clr_load.proofs.Causes.{told_of_database}
 use Rattle.clr_load.specs.declared.fault.StoreFault.TheVariants.{Sql, WrongVersion, BadRow, NoMemory, OtherTables}
@@ -128,3 +129,33 @@ points_not_other NoMemory of is = absurd cc
 points_not_other (BadRow table) of is = absurd cc
 points_not_other (WrongVersion n) of is = absurd of
 points_not_other OtherTables of is = of
+
+-- ---- how a connection is outside a transaction
+pub outside : (b : Bool) → true ≡ not b → b ≡ false
+outside false is = refl
+outside true is = absurd cc
+
+pub never_inside : (b : Bool) → true ≡ not b → b ≡ true → ⊥
+never_inside b is inside = true≢false (sym inside ∙ outside b is)
+
+-- ---- faults of a move
+pub expected_moves : (fault : StoreFault) → IsOfExpected fault → IsOfMove fault
+expected_moves Sql h = tt
+expected_moves NoMemory h = tt
+expected_moves (BadRow table) h = subst (λ name. IsOfMove (BadRow name)) (sym h) tt
+expected_moves (WrongVersion n) h = absurd h
+expected_moves OtherTables h = tt
+
+pub points_move : (fault : StoreFault) → IsOfPoints fault → IsOfMove fault
+points_move Sql h = tt
+points_move NoMemory h = tt
+points_move (BadRow table) h = subst (λ name. IsOfMove (BadRow name)) (sym h) tt
+points_move (WrongVersion n) h = absurd h
+points_move OtherTables h = absurd h
+
+pub points_unread : (read : Result ℤ TableName) (fault : StoreFault) → IsOfPoints fault → read ≡ Ok (pos 1) → RefusesToMove read fault
+points_unread read Sql h one = tt
+points_unread read NoMemory h one = tt
+points_unread read (BadRow table) h one = subst (λ name. RefusesToMove read (BadRow name)) (sym h) one
+points_unread read (WrongVersion n) h one = absurd h
+points_unread read OtherTables h one = absurd h

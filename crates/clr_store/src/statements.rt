@@ -1,7 +1,8 @@
 //! One statement each, inside a transaction.
-ghost use Rattle.std.specs.Prelude.{◌≡◌, [], ◌∷◌, IfErr, true, take};
+ghost use Rattle.std.specs.Prelude.{◌≡◌, ◌⊎◌, [], ◌∷◌, Err, IfErr, IsTrue, OnErr, OnOk, false, is_ok};
+ghost use Rattle.std.specs.Prelude.{take, true};
 ghost use Rattle.sqlite.specs.Held.{state};
-ghost use Rattle.sqlite.specs.State.{Survives};
+ghost use Rattle.sqlite.specs.State.{Commits, HasCleanDisk, IsRolledBack, Survives};
 ghost use Rattle.sqlite.specs.Values.{bound};
 ghost use Rattle.clr_load.specs.TableEdits.{without_table_row};
 ghost use Rattle.clr_store.specs.Change.{Does, Inserts, Replaces, with_rows};
@@ -88,4 +89,26 @@ pub(crate) fn replace_row<S: Alter>(
     ensures { Replaces S.Store tx.old tx.new table (bound row.now) result }
 {
     Ok(tx.execute(replace_sql(table), row)?)
+}
+
+/// Ends a transaction: commits what calls inside it have done, or rolls it back where one failed.
+pub(crate) fn conclude<S: Alter>(
+    tx: Transaction<'_, S>,
+    done: Result<(), StoreFault>,
+) -> Result<(), StoreFault>
+    ensures ended { tx.exit.0.now.in_transaction ≡ false }
+    ensures done { OnOk result (IsTrue (is_ok done)) }
+    ensures committed { HasCleanDisk (state S.Store tx.exit.0.now) → OnOk result
+        (Commits (state S.Store tx.entry.conn.now) (state S.Store tx.exit.0.now)) }
+    ensures undone { HasCleanDisk (state S.Store tx.exit.0.now)
+        → OnOk done (IsTrue (state S.Store tx.entry.conn.now).in_transaction)
+        → OnErr result (IsRolledBack (state S.Store tx.entry.conn.now)
+        (state S.Store tx.exit.0.now)) }
+    ensures fault { IfErr result (λ fault. IsOfDatabase fault ⊎ (done ≡ Err fault)) }
+    ensures survives { Survives (state S.Store tx.entry.conn.now) (state S.Store tx.exit.0.now)
+        (λ trees. IsTrue (is_ok done) × (trees ≡ (state S.Store tx.entry.conn.now).now.trees)) }
+{
+    done?;
+    tx.commit()?;
+    Ok(())
 }

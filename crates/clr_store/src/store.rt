@@ -37,6 +37,7 @@ use crate::edits::make_all;
 use crate::migrate::move_tables;
 use crate::place::{begin_at, commit_change_at, want_of_memory};
 use crate::renew::renew;
+use crate::statements::conclude;
 use crate::steps::take_steps;
 use clr_load::{Fill, Loaded, Rows, StoreFault, expect_version, load_into, load_rows, read_place};
 use clr_net::Network;
@@ -528,9 +529,8 @@ fn commit_change<S: Alter>(conn: &mut Connection<S>, change: &Change) -> Result<
         return Err(StoreFault::Sql);
     }
     let mut tx = conn.transaction();
-    make_all(&mut tx, change.edits.as_slice())?;
-    tx.commit()?;
-    Ok(())
+    let done = make_all(&mut tx, change.edits.as_slice());
+    conclude(tx, done)
 }
 
 impl<S: Alter + Drop> Store<S> {

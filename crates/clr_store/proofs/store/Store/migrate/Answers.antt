@@ -1,7 +1,8 @@
-use Rattle.std.proofs.Common.{◌≡◌, ◌∙◌, IsTrue, Ok, arith, inl, inr, pos, rules, subst, sym}
+use Rattle.std.proofs.Common.{◌≡◌, ◌∙◌, IsTrue, Ok, ap, arith, inl, inr, pos, rules, subst, sym}
 use Rattle.sqlite.specs.Effect.{Database}
 use Rattle.sqlite.specs.Held.{state}
 use Rattle.sqlite.specs.State.{HasCleanDisk}
+use Rattle.sqlite.proofs.StateLemmas.{survives_weaker}
 use Rattle.clr_load.proofs.Moved.{tables_are_moved}
 use Rattle.clr_load.specs.RowsRead.{read_version}
 use Rattle.clr_load.specs.Tables.{tables_by, version_one}
@@ -10,7 +11,7 @@ use Rattle.clr_load.specs.Stored.{HasOldTables, HasTables}
 use Rattle.clr_load.proofs.Loading.{has_meta}
 use Rattle.clr_store.proofs.Moving.{leaves_moved, opened_cause, surely_open}
 use Rattle.clr_store.proofs.There.{version_there}
-use Rattle.clr_store.proofs.Versions.{move_unread, old_failed, one_has, old_stopped, old_unread, one_is_told, points_not_other}
+use Rattle.clr_store.proofs.Versions.{expected_moves, move_unread, never_inside, old_failed, outside, points_move, points_unread, one_has, old_stopped, old_unread, one_is_told, points_not_other}
 use Rattle.clr_store.proofs.store.Store.migrate.Goals as goal
 
 pub returns-in-Err-clause-cause : goal.returns-in-Err-clause-cause
@@ -151,3 +152,134 @@ pub returns-in-Ok-move_tables-clause-was_open : goal.returns-in-Ok-move_tables-c
 returns-in-Ok-move_tables-clause-was_open g c clean =
     let early : HasCleanDisk (state g.S.Store c.expect_version.new.conn) = omega (arith, c.move_tables.ensures.crash.clean) in
     c.in-Ok.ensures.was_open early
+
+-- ---- the rest of each clause
+pub returns-in-Err-clause-inside : goal.returns-in-Err-clause-inside
+returns-in-Err-clause-inside g c inside = absurd (never_inside _ c.if-not-is_autocommit.ensures.value inside)
+
+pub returns-in-Err-clause-mode : goal.returns-in-Err-clause-mode
+returns-in-Err-clause-mode g c = c.expect_version.ensures.mode (outside _ c.if-not-is_autocommit.ensures.value) ∙ sym (outside _ c.if-not-is_autocommit.ensures.value)
+
+pub returns-in-Err-clause-bare : goal.returns-in-Err-clause-bare
+returns-in-Err-clause-bare g c lacks = let e = c.in-Err.ensures.bare lacks in cc
+
+pub returns-in-Ok-move_tables-clause-inside : goal.returns-in-Ok-move_tables-clause-inside
+returns-in-Ok-move_tables-clause-inside g c inside = absurd (never_inside _ c.if-not-is_autocommit.ensures.value inside)
+
+pub returns-in-Ok-move_tables-clause-mode : goal.returns-in-Ok-move_tables-clause-mode
+returns-in-Ok-move_tables-clause-mode g c = c.move_tables.ensures.mode (c.expect_version.ensures.mode (outside _ c.if-not-is_autocommit.ensures.value)) ∙ sym (outside _ c.if-not-is_autocommit.ensures.value)
+
+pub returns-in-Ok-move_tables-clause-bare : goal.returns-in-Ok-move_tables-clause-bare
+returns-in-Ok-move_tables-clause-bare g c lacks = absurd (let e = c.in-Ok.ensures.bare lacks in cc)
+
+pub returns-in-Err-move_tables-clause-inside : goal.returns-in-Err-move_tables-clause-inside
+returns-in-Err-move_tables-clause-inside g c inside = absurd (never_inside _ c.if-not-is_autocommit.ensures.value inside)
+
+pub returns-in-Err-move_tables-clause-mode : goal.returns-in-Err-move_tables-clause-mode
+returns-in-Err-move_tables-clause-mode g c = c.move_tables.ensures.mode (c.expect_version.ensures.mode (outside _ c.if-not-is_autocommit.ensures.value)) ∙ sym (outside _ c.if-not-is_autocommit.ensures.value)
+
+pub returns-in-Err-move_tables-clause-bare : goal.returns-in-Err-move_tables-clause-bare
+returns-in-Err-move_tables-clause-bare g c lacks = absurd (let e = c.in-Ok.ensures.bare lacks in cc)
+
+pub returns-in-2-clause-inside : goal.returns-in-2-clause-inside
+returns-in-2-clause-inside g c inside = absurd (never_inside _ c.if-not-is_autocommit.ensures.value inside)
+
+pub returns-in-2-clause-mode : goal.returns-in-2-clause-mode
+returns-in-2-clause-mode g c = c.expect_version.ensures.mode (outside _ c.if-not-is_autocommit.ensures.value) ∙ sym (outside _ c.if-not-is_autocommit.ensures.value)
+
+pub returns-in-2-clause-bare : goal.returns-in-2-clause-bare
+returns-in-2-clause-bare g c lacks = absurd (let e = c.in-Ok.ensures.bare lacks in cc)
+
+pub returns-in_default-clause-inside : goal.returns-in_default-clause-inside
+returns-in_default-clause-inside g c inside = absurd (never_inside _ c.if-not-is_autocommit.ensures.value inside)
+
+pub returns-in_default-clause-mode : goal.returns-in_default-clause-mode
+returns-in_default-clause-mode g c = c.expect_version.ensures.mode (outside _ c.if-not-is_autocommit.ensures.value) ∙ sym (outside _ c.if-not-is_autocommit.ensures.value)
+
+pub returns-in_default-clause-bare : goal.returns-in_default-clause-bare
+returns-in_default-clause-bare g c lacks = absurd (let e = c.in-Ok.ensures.bare lacks in cc)
+
+pub returns-in-Err-clause-fault : goal.returns-in-Err-clause-fault
+returns-in-Err-clause-fault g c = expected_moves c.in-Err.fault c.in-Err.ensures.fault
+
+pub returns-in-Err-clause-none : goal.returns-in-Err-clause-none
+returns-in-Err-clause-none g c = c.expect_version.ensures.same
+
+pub returns-in-Err-clause-committed : goal.returns-in-Err-clause-committed
+returns-in-Err-clause-committed g c = c.expect_version.ensures.committed
+
+pub returns-in-Err-clause-crash_none : goal.returns-in-Err-clause-crash_none
+returns-in-Err-clause-crash_none g c = survives_weaker _ _ _ _ (λ _ _ none. absurd none) c.expect_version.ensures.survives
+
+pub returns-in_default-clause-none : goal.returns-in_default-clause-none
+returns-in_default-clause-none g c = c.expect_version.ensures.same
+
+pub returns-in_default-clause-committed : goal.returns-in_default-clause-committed
+returns-in_default-clause-committed g c = c.expect_version.ensures.committed
+
+pub returns-in_default-clause-crash_none : goal.returns-in_default-clause-crash_none
+returns-in_default-clause-crash_none g c = survives_weaker _ _ _ _ (λ _ _ none. absurd none) c.expect_version.ensures.survives
+
+pub returns-in-Ok-move_tables-clause-opened : goal.returns-in-Ok-move_tables-clause-opened
+returns-in-Ok-move_tables-clause-opened g c clean is_open meta has two =
+    let is : c.in-Ok.version ≡ pos 1 = search rules in
+    let early : HasCleanDisk (state g.S.Store c.expect_version.new.conn) = omega (arith, c.move_tables.ensures.crash.clean) in
+    let one = c.in-Ok.ensures.version early meta has ∙ ap Ok is in
+    absurd (let e = sym one ∙ two in cc)
+
+pub returns-in-Ok-move_tables-clause-kept : goal.returns-in-Ok-move_tables-clause-kept
+returns-in-Ok-move_tables-clause-kept g c clean is_open meta has two =
+    let is : c.in-Ok.version ≡ pos 1 = search rules in
+    let early : HasCleanDisk (state g.S.Store c.expect_version.new.conn) = omega (arith, c.move_tables.ensures.crash.clean) in
+    let one = c.in-Ok.ensures.version early meta has ∙ ap Ok is in
+    absurd (let e = sym one ∙ two in cc)
+
+pub returns-in-Ok-move_tables-clause-version : goal.returns-in-Ok-move_tables-clause-version
+returns-in-Ok-move_tables-clause-version g c clean meta has =
+    let is : c.in-Ok.version ≡ pos 1 = search rules in
+    let early : HasCleanDisk (state g.S.Store c.expect_version.new.conn) = omega (arith, c.move_tables.ensures.crash.clean) in
+    inl (c.in-Ok.ensures.version early meta has ∙ ap Ok is)
+
+pub returns-in-Err-move_tables-clause-fault : goal.returns-in-Err-move_tables-clause-fault
+returns-in-Err-move_tables-clause-fault g c = points_move c.in-Err-move_tables.fault c.in-Err-move_tables.ensures.fault
+
+pub returns-in-Err-move_tables-clause-cause : goal.returns-in-Err-move_tables-clause-cause
+returns-in-Err-move_tables-clause-cause g c clean out meta has differs =
+    let is : c.in-Ok.version ≡ pos 1 = search rules in
+    let early : HasCleanDisk (state g.S.Store c.expect_version.new.conn) = omega (arith, c.move_tables.ensures.crash.clean) in
+    absurd (differs (c.in-Ok.ensures.version early meta has ∙ ap Ok is))
+
+pub returns-in-Err-move_tables-clause-unread : goal.returns-in-Err-move_tables-clause-unread
+returns-in-Err-move_tables-clause-unread g c clean meta has =
+    let is : c.in-Ok.version ≡ pos 1 = search rules in
+    let early : HasCleanDisk (state g.S.Store c.expect_version.new.conn) = omega (arith, c.move_tables.ensures.crash.clean) in
+    points_unread (read_version meta) c.in-Err-move_tables.fault c.in-Err-move_tables.ensures.fault (c.in-Ok.ensures.version early meta has ∙ ap Ok is)
+
+pub returns-in-2-clause-opened : goal.returns-in-2-clause-opened
+returns-in-2-clause-opened g c clean is_open meta has two = ?
+
+pub returns-in-2-clause-kept : goal.returns-in-2-clause-kept
+returns-in-2-clause-kept g c clean is_open meta has two = c.expect_version.ensures.committed clean is_open
+
+pub returns-in-2-clause-version : goal.returns-in-2-clause-version
+returns-in-2-clause-version g c clean meta has =
+    let is : c.in-Ok.version ≡ pos 2 = search rules in
+    inr (c.in-Ok.ensures.version clean meta has ∙ ap Ok (is))
+
+pub returns-in-2-clause-was_open : goal.returns-in-2-clause-was_open
+returns-in-2-clause-was_open g c = c.in-Ok.ensures.was_open
+
+pub returns-in-2-clause-crash_moved : goal.returns-in-2-clause-crash_moved
+returns-in-2-clause-crash_moved g c = survives_weaker _ _ _ _ (λ _ _ none. absurd none) c.expect_version.ensures.survives
+
+pub returns-in_default-clause-other : goal.returns-in_default-clause-other
+returns-in_default-clause-other g c clean is n has = absurd (let e = is in cc)
+
+pub returns-in_default-clause-cause : goal.returns-in_default-clause-cause
+returns-in_default-clause-cause g c clean out meta has differs = tt
+
+pub returns-in_default-clause-points_cause : goal.returns-in_default-clause-points_cause
+returns-in_default-clause-points_cause g c clean out t has unread = tt
+
+pub returns-in_default-clause-unread : goal.returns-in_default-clause-unread
+returns-in_default-clause-unread g c clean meta has = ?
