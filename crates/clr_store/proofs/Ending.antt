@@ -128,6 +128,10 @@ pub as_made : {X Done : Type 0} (P : Database → Type 0) (mid new : Database) (
 as_made P mid new (Ok x) made it = subst P (sym it.1) (made it.0)
 as_made P mid new (Err e) made it = tt
 
+pub on_ok : {X P : Type 0} (r : Result X StoreFault) → P → OnOk r P
+on_ok (Ok x) is = is
+on_ok (Err e) is = tt
+
 -- ---- edits
 module _ {S : Type 0} (g : Ghosts S) (old mid new : Held S) (edits : List Edit) where
   pub edits_made : {X : Type 0} (r : Result X StoreFault) → OnOk r (Changes (state g (begun old)) (state g mid) (tables_edited edits) × ((state g new).now ≡ (state g mid).now))

@@ -22,6 +22,7 @@ ghost use Rattle.clr_store.specs.Contract.{AreEditedAt, MakesEditsAt};
 
 use crate::edits::make_all;
 use crate::sql::{create_sql, insert_sql};
+use crate::statements::conclude;
 use crate::values::place_values;
 use clr_load::{StoreFault, TableName};
 use clr_rules::{Change, Edit, Place};
@@ -177,9 +178,8 @@ pub(crate) fn commit_change_at<S: Alter>(
         return Err(StoreFault::Sql);
     }
     let mut tx = conn.transaction();
-    make_all_at(&mut tx, change.edits.as_slice(), place)?;
-    tx.commit()?;
-    Ok(())
+    let done = make_all_at(&mut tx, change.edits.as_slice(), place);
+    conclude(tx, done)
 }
 
 /// Want of memory, where the connection is open. Otherwise the database failed too.
@@ -237,7 +237,6 @@ pub(crate) fn begin_at<S: Alter>(conn: &mut Connection<S>, place: &Place) -> Res
         return Err(StoreFault::Sql);
     }
     let mut tx = conn.transaction();
-    add_journal(&mut tx, place)?;
-    tx.commit()?;
-    Ok(())
+    let done = add_journal(&mut tx, place);
+    conclude(tx, done)
 }

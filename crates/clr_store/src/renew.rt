@@ -18,7 +18,7 @@ ghost use Rattle.clr_store.specs.Renewed.{tables_renewed, with_only};
 
 use crate::create::{add_sections, add_staff};
 use crate::place::{can_set, set_if_given};
-use crate::statements::{clear_table, insert_row};
+use crate::statements::{clear_table, conclude, insert_row};
 use crate::values::{handed_values, point_values};
 use clr_load::{StoreFault, TableName};
 use clr_net::{Network, PointRow, SectionRow};
@@ -62,9 +62,8 @@ pub(crate) fn renew<S: Alter>(
     let points = network.points();
     let employees = staff.rows();
     let mut tx = conn.transaction();
-    replace_all(&mut tx, sections, points, states, employees, place)?;
-    tx.commit()?;
-    Ok(())
+    let done = replace_all(&mut tx, sections, points, states, employees, place);
+    conclude(tx, done)
 }
 
 /// Replaces the rows of sections, points and staff, and sets the place, if one is given.

@@ -11,7 +11,7 @@ ghost use Rattle.clr_store.specs.Contract.{AreTurned, TurnsInto};
 ghost use Rattle.clr_store.specs.StepsTaken.{without_step, without_steps};
 
 use crate::place::{can_set, set_if_given};
-use crate::statements::delete_row;
+use crate::statements::{conclude, delete_row};
 use crate::values::{name_value, number_value};
 use clr_load::{StoreFault, TableName};
 use clr_rules::{Place, StepKey};
@@ -46,9 +46,8 @@ pub(crate) fn take_steps<S: Alter>(
         return Err(StoreFault::Sql);
     }
     let mut tx = conn.transaction();
-    take_all(&mut tx, keys, place)?;
-    tx.commit()?;
-    Ok(())
+    let done = take_all(&mut tx, keys, place);
+    conclude(tx, done)
 }
 
 /// Takes the steps, and sets the place, if one is given.

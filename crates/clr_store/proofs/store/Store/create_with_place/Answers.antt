@@ -1,7 +1,7 @@
 use Rattle.clr_store.proofs.store.Store.create_with_place.Goals as goal
 
 pub returns-in-Ok-clause-made : goal.returns-in-Ok-clause-made
-returns-in-Ok-clause-made g c clean = (c.in-Ok.ensures.saved clean, c.in-Ok.ensures.made clean)
+returns-in-Ok-clause-made g c clean = (c.in-Ok.ensures.saved clean, (c.in-Ok.ensures.made clean).0, (c.in-Ok.ensures.made clean).1)
 
 pub returns-in-Ok-clause-crash_made : goal.returns-in-Ok-clause-crash_made
 returns-in-Ok-clause-crash_made g c = c.make_logged_register.ensures.crash
