@@ -35,7 +35,6 @@ use Rattle.clr_load.proofs.Reopened.{left_of}
 use Rattle.clr_load.proofs.Texts.{create_is, create_text, created_is, defines}
 use Rattle.clr_store.proofs.Creating.{empty_rows, lacks, next_is}
 use Rattle.clr_store.proofs.Effects.{went}
-use Rattle.clr_store.proofs.Inside.{crash_leaves}
 use Rattle.clr_store.proofs.Layouts.{all_at, at_place, two_rows}
 use Rattle.clr_store.specs.Change.{AddsJournal, ChangesPlace, PutsJournal, PutsPlace, with_journal}
 use Rattle.clr_store.specs.Contract.{AreEditedAt}
@@ -169,11 +168,3 @@ begun_at old new place t has named adds =
       record { layout = with_journal l; two = is.two; here = record { holds = it.0; in_order = ordered; placed = (Some place, (is.there, it.1)) } },
       record { layout = with_journal l; two = is.two; listed = it.0.listed; placed = (is.there, it.1) },
     )
-
-pub begin_crash_at : {S : Type 0} (g : Ghosts S) (old mid end : Held S) (place : Row) → Survives (state g (record old { in_transaction = true })) (state g mid) (λ _. ⊥)
-    → Survives (state g mid) (state g end) (λ db. db ≡ (state g mid).now.trees) → table_named (state g old).now.schema (table_text Journal) ≡ None
-    → (HasCleanDisk (state g mid) → AddsJournal (state g (record old { in_transaction = true })) (state g mid) (place ∷ []))
-    → Survives (state g old) (state g end) (AreEditedAt (state g old).now [] place)
-begin_crash_at g old mid end place inside ended named adds = crash_leaves g old mid end _ inside ended (λ clean t has.
-    let it = begun_at (state g (record old { in_transaction = true })) (state g mid) place t has named (adds clean) in
-    (left_of (state g mid).now (tables_edited [] t) it.0, it.1))

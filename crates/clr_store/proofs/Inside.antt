@@ -329,10 +329,3 @@ pub crash_leaves : {S : Type 0} (g : Ghosts S) (old mid end : Held S) (P : Trees
 crash_leaves g old mid end P inside ended has =
     survives_then (state g old) (state g mid) (state g end) _ _ P (λ _ db none. absurd none) (λ clean db is. subst P (sym is) (has (omega (arith, ended.clean))))
     (survives_begin g old (state g mid) _ inside) ended
-
-pub commit_crash : {S : Type 0} (g : Ghosts S) (old mid end : Held S) (edits : List Edit) → Survives (state g (record old { in_transaction = true })) (state g mid) (λ _. ⊥)
-    → Survives (state g mid) (state g end) (λ db. db ≡ (state g mid).now.trees)
-    → (HasCleanDisk (state g mid) → Changes (state g (record old { in_transaction = true })) (state g mid) (tables_edited edits))
-    → Survives (state g old) (state g end) (AreEdited (state g old).now edits)
-commit_crash g old mid end edits inside ended changes = crash_leaves g old mid end _ inside ended (λ clean t has.
-    left_of (state g mid).now (tables_edited edits t) (made_tables (state g (record old { in_transaction = true })) (state g mid) edits t has (changes clean)))

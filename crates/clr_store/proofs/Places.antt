@@ -30,7 +30,7 @@ use Rattle.clr_load.proofs.Inside.{then_runs}
 use Rattle.clr_load.proofs.Loading.{in_layout, then_kept}
 use Rattle.clr_load.proofs.Reopened.{left_of, placed_as}
 use Rattle.clr_store.proofs.Effects.{Wrote, inserts}
-use Rattle.clr_store.proofs.Inside.{crash_leaves, edited_tables, put_in}
+use Rattle.clr_store.proofs.Inside.{edited_tables, put_in}
 use Rattle.clr_store.proofs.Layouts.{apart}
 use Rattle.clr_store.specs.Change.{Changes, ChangesAt, ChangesPlace, Does, MakesAt, PutsPlace, is_same}
 use Rattle.clr_store.specs.Contract.{AreEditedAt, KeepsPlace}
@@ -137,13 +137,6 @@ made_at old new edits place t has named changes =
     let it = placed_at old new (tables_edited edits) place t has named changes in
     (edited_tables (HasTables.layout has) has.two new.now edits t (HasTablesIn.in_order (HasTables.here has)) it.0 it.1, it.2)
 
-pub commit_crash_at : {S : Type 0} (g : Ghosts S) (old mid end : Held S) (edits : List Edit) (place : Row) → Survives (state g (record old { in_transaction = true })) (state g mid) (λ _. ⊥)
-    → Survives (state g mid) (state g end) (λ db. db ≡ (state g mid).now.trees) → (table_named (state g old).now.schema (table_text Journal) ≡ None → ⊥)
-    → (HasCleanDisk (state g mid) → ChangesAt (state g (record old { in_transaction = true })) (state g mid) (tables_edited edits) place)
-    → Survives (state g old) (state g end) (AreEditedAt (state g old).now edits place)
-commit_crash_at g old mid end edits place inside ended named changes = crash_leaves g old mid end _ inside ended (λ clean t has.
-    let it = made_at (state g (record old { in_transaction = true })) (state g mid) edits place t has named (changes clean) in
-    (left_of (state g mid).now (tables_edited edits t) it.0, it.1))
 
 -- a change of the tables leaves the place
 pub keeps_place : (old new : State) (f : Tables → Tables) → Changes old new f → KeepsPlace old.now new.now

@@ -1,5 +1,4 @@
-use Rattle.std.proofs.Common.{Ok, Option, option_copied, option_map, subst, sym}
-use Rattle.clr_rules.specs.declared.place.Place.{Place}
+use Rattle.std.proofs.Common.{Ok, option_copied, option_map, subst, sym}
 use Rattle.clr_load.specs.Tables.{place_row}
 use Rattle.clr_store.specs.Change.{SetsIfGiven}
 use Rattle.clr_store.proofs.Turned.{sets_none}

@@ -12,7 +12,18 @@ use Rattle.clr_load.proofs.Loading.{has_meta}
 use Rattle.clr_store.proofs.Moving.{leaves_moved, opened_cause, surely_open}
 use Rattle.clr_store.proofs.There.{version_there}
 use Rattle.clr_store.proofs.Versions.{expected_moves, move_unread, never_inside, old_failed, outside, points_move, points_unread, one_has, old_stopped, old_unread, one_is_told, points_not_other}
+use Rattle.clr_store.proofs.store.Store.migrate.Given.{Over}
 use Rattle.clr_store.proofs.store.Store.migrate.Goals as goal
+
+-- the version that was read
+moved_one : (g : Over) (c : goal.In-Ok-move_tables g) → c.in-Ok.version ≡ pos 1
+moved_one g c = search rules
+
+stopped_one : (g : Over) (c : goal.In-Err-move_tables g) → c.in-Ok.version ≡ pos 1
+stopped_one g c = search rules
+
+is_two : (g : Over) (c : goal.In-2 g) → c.in-Ok.version ≡ pos 2
+is_two g c = search rules
 
 pub returns-in-Err-clause-cause : goal.returns-in-Err-clause-cause
 returns-in-Err-clause-cause g c clean out meta has differs = c.in-Err.ensures.cause out clean meta has
@@ -57,15 +68,13 @@ pub returns-in-Ok-move_tables-clause-crash_moved : goal.returns-in-Ok-move_table
 returns-in-Ok-move_tables-clause-crash_moved g c =
     leaves_moved (state g.S.Store c.args.connection) (state g.S.Store c.expect_version.new.conn) (state g.S.Store c.move_tables.new.conn) c.expect_version.ensures.survives c.move_tables.ensures.crash
     c.in-Ok.ensures.same (λ early meta has.
-    let told = c.in-Ok.ensures.version early meta has in
-    search rules)
+    c.in-Ok.ensures.version early meta has ∙ ap Ok (moved_one g c))
 
 pub returns-in-Err-move_tables-clause-crash_none : goal.returns-in-Err-move_tables-clause-crash_none
 returns-in-Err-move_tables-clause-crash_none g c =
     leaves_moved (state g.S.Store c.args.connection) (state g.S.Store c.expect_version.new.conn) (state g.S.Store c.move_tables.new.conn) c.expect_version.ensures.survives c.move_tables.ensures.crash
     c.in-Ok.ensures.same (λ early meta has.
-    let told = c.in-Ok.ensures.version early meta has in
-    search rules)
+    c.in-Ok.ensures.version early meta has ∙ ap Ok (stopped_one g c))
 
 pub returns-in-Err-move_tables-clause-none : goal.returns-in-Err-move_tables-clause-none
 returns-in-Err-move_tables-clause-none g c clean is_open =
@@ -77,8 +86,7 @@ returns-in-Err-move_tables-clause-refused g c clean t has =
     let read = state g.S.Store c.expect_version.new.conn in
     let fault = c.in-Err-move_tables.fault in
     let early : HasCleanDisk read = omega (arith, c.move_tables.ensures.crash.clean) in
-    let told = c.in-Ok.ensures.version early t.meta (has_meta OfOne _ t has) in
-    let one : read_version t.meta ≡ Ok (pos 1) = search rules in
+    let one = c.in-Ok.ensures.version early t.meta (has_meta OfOne _ t has) ∙ ap Ok (stopped_one g c) in
     elim (c.in-Err-move_tables.ensures.was_open clean) [
       | inl here ↦ old_stopped t fault c.in-Err-move_tables.ensures.fault one
           (c.in-Err-move_tables.ensures.refused clean t (subst (λ (d : Database). HasOldTables d t) (sym (c.in-Ok.ensures.same early here)) has))
@@ -88,13 +96,12 @@ returns-in-Err-move_tables-clause-refused g c clean t has =
 pub returns-in-2-clause-moved : goal.returns-in-2-clause-moved
 returns-in-2-clause-moved g c clean t has one =
     let told = c.in-Ok.ensures.version clean t.meta (has_meta OfOne _ t has) in
-    search rules
+    absurd (let e = sym one ∙ told ∙ ap Ok (is_two g c) in cc)
 
 pub returns-in-2-clause-register : goal.returns-in-2-clause-register
 returns-in-2-clause-register g c clean R none has =
     let told = c.in-Ok.ensures.version clean (tables_by version_one R).meta (has_meta OfOne _ (tables_by version_one R) has) in
-    let one = one_is_told in
-    search rules
+    absurd (let e = sym one_is_told ∙ told ∙ ap Ok (is_two g c) in cc)
 
 pub returns-in_default-clause-refused : goal.returns-in_default-clause-refused
 returns-in_default-clause-refused g c clean t has =
@@ -104,10 +111,10 @@ returns-in_default-clause-refused g c clean t has =
 pub returns-in-Ok-move_tables-clause-laid_out : goal.returns-in-Ok-move_tables-clause-laid_out
 returns-in-Ok-move_tables-clause-laid_out g c clean =
     let early : HasCleanDisk (state g.S.Store c.expect_version.new.conn) = omega (arith, c.move_tables.ensures.crash.clean) in
-    inl (c.in-Ok.ensures.laid_out early 1 (search rules) (omega arith) (omega arith) (omega arith))
+    inl (c.in-Ok.ensures.laid_out early 1 (moved_one g c) (omega arith) (omega arith) (omega arith))
 
 pub returns-in-2-clause-laid_out : goal.returns-in-2-clause-laid_out
-returns-in-2-clause-laid_out g c clean = inr (c.in-Ok.ensures.laid_out clean 2 (search rules) (omega arith) (omega arith) (omega arith))
+returns-in-2-clause-laid_out g c clean = inr (c.in-Ok.ensures.laid_out clean 2 (is_two g c) (omega arith) (omega arith) (omega arith))
 
 pub returns-in-Err-clause-other : goal.returns-in-Err-clause-other
 returns-in-Err-clause-other g c clean is n has = c.in-Err.ensures.other clean is n has
@@ -123,30 +130,26 @@ returns-in-Err-move_tables-clause-committed g c clean is_open =
 pub returns-in-Ok-move_tables-clause-alone : goal.returns-in-Ok-move_tables-clause-alone
 returns-in-Ok-move_tables-clause-alone g c clean meta has =
     let early : HasCleanDisk (state g.S.Store c.expect_version.new.conn) = omega (arith, c.move_tables.ensures.crash.clean) in
-    c.in-Ok.ensures.alone early 1 (search rules) (omega arith) (omega arith) (omega arith) meta has
+    c.in-Ok.ensures.alone early 1 (moved_one g c) (omega arith) (omega arith) (omega arith) meta has
 
 pub returns-in-2-clause-alone : goal.returns-in-2-clause-alone
-returns-in-2-clause-alone g c clean meta has = c.in-Ok.ensures.alone clean 2 (search rules) (omega arith) (omega arith) (omega arith) meta has
+returns-in-2-clause-alone g c clean meta has = c.in-Ok.ensures.alone clean 2 (is_two g c) (omega arith) (omega arith) (omega arith) meta has
 
 -- ---- there is the version
 pub returns-in-Ok-move_tables-clause-there : goal.returns-in-Ok-move_tables-clause-there
 returns-in-Ok-move_tables-clause-there g c clean whole =
     let early : HasCleanDisk (state g.S.Store c.expect_version.new.conn) = omega (arith, c.move_tables.ensures.crash.clean) in
     let is_open = c.in-Ok.ensures.was_open early in
-    let laid = c.in-Ok.ensures.laid_out early 1 (search rules) (omega arith) (omega arith) (omega arith) in
+    let laid = c.in-Ok.ensures.laid_out early 1 (moved_one g c) (omega arith) (omega arith) (omega arith) in
     inl (version_there 1 (state g.S.Store c.args.connection).now laid (c.expect_version.ensures.live is_open).0 whole (λ meta has.
-    let told = c.in-Ok.ensures.version early meta has in
-    let one : read_version meta ≡ Ok (pos 1) = search rules in
-    (c.in-Ok.ensures.alone early 1 (search rules) (omega arith) (omega arith) (omega arith) meta has, one)))
+    (c.in-Ok.ensures.alone early 1 (moved_one g c) (omega arith) (omega arith) (omega arith) meta has, c.in-Ok.ensures.version early meta has ∙ ap Ok (moved_one g c))))
 
 pub returns-in-2-clause-there : goal.returns-in-2-clause-there
 returns-in-2-clause-there g c clean whole =
     let is_open = c.in-Ok.ensures.was_open clean in
-    let laid = c.in-Ok.ensures.laid_out clean 2 (search rules) (omega arith) (omega arith) (omega arith) in
+    let laid = c.in-Ok.ensures.laid_out clean 2 (is_two g c) (omega arith) (omega arith) (omega arith) in
     inr (version_there 2 (state g.S.Store c.args.connection).now laid (c.expect_version.ensures.live is_open).0 whole (λ meta has.
-    let told = c.in-Ok.ensures.version clean meta has in
-    let two : read_version meta ≡ Ok (pos 2) = search rules in
-    (c.in-Ok.ensures.alone clean 2 (search rules) (omega arith) (omega arith) (omega arith) meta has, two)))
+    (c.in-Ok.ensures.alone clean 2 (is_two g c) (omega arith) (omega arith) (omega arith) meta has, c.in-Ok.ensures.version clean meta has ∙ ap Ok (is_two g c))))
 
 pub returns-in-Ok-move_tables-clause-was_open : goal.returns-in-Ok-move_tables-clause-was_open
 returns-in-Ok-move_tables-clause-was_open g c clean =
@@ -222,49 +225,42 @@ returns-in_default-clause-crash_none g c = survives_weaker _ _ _ _ (λ _ _ none.
 
 pub returns-in-Ok-move_tables-clause-opened : goal.returns-in-Ok-move_tables-clause-opened
 returns-in-Ok-move_tables-clause-opened g c clean is_open meta has two =
-    let is : c.in-Ok.version ≡ pos 1 = search rules in
     let early : HasCleanDisk (state g.S.Store c.expect_version.new.conn) = omega (arith, c.move_tables.ensures.crash.clean) in
-    let one = c.in-Ok.ensures.version early meta has ∙ ap Ok is in
+    let one = c.in-Ok.ensures.version early meta has ∙ ap Ok (moved_one g c) in
     absurd (let e = sym one ∙ two in cc)
 
 pub returns-in-Ok-move_tables-clause-kept : goal.returns-in-Ok-move_tables-clause-kept
 returns-in-Ok-move_tables-clause-kept g c clean is_open meta has two =
-    let is : c.in-Ok.version ≡ pos 1 = search rules in
     let early : HasCleanDisk (state g.S.Store c.expect_version.new.conn) = omega (arith, c.move_tables.ensures.crash.clean) in
-    let one = c.in-Ok.ensures.version early meta has ∙ ap Ok is in
+    let one = c.in-Ok.ensures.version early meta has ∙ ap Ok (moved_one g c) in
     absurd (let e = sym one ∙ two in cc)
 
 pub returns-in-Ok-move_tables-clause-version : goal.returns-in-Ok-move_tables-clause-version
 returns-in-Ok-move_tables-clause-version g c clean meta has =
-    let is : c.in-Ok.version ≡ pos 1 = search rules in
     let early : HasCleanDisk (state g.S.Store c.expect_version.new.conn) = omega (arith, c.move_tables.ensures.crash.clean) in
-    inl (c.in-Ok.ensures.version early meta has ∙ ap Ok is)
+    inl (c.in-Ok.ensures.version early meta has ∙ ap Ok (moved_one g c))
 
 pub returns-in-Err-move_tables-clause-fault : goal.returns-in-Err-move_tables-clause-fault
 returns-in-Err-move_tables-clause-fault g c = points_move c.in-Err-move_tables.fault c.in-Err-move_tables.ensures.fault
 
 pub returns-in-Err-move_tables-clause-cause : goal.returns-in-Err-move_tables-clause-cause
 returns-in-Err-move_tables-clause-cause g c clean out meta has differs =
-    let is : c.in-Ok.version ≡ pos 1 = search rules in
     let early : HasCleanDisk (state g.S.Store c.expect_version.new.conn) = omega (arith, c.move_tables.ensures.crash.clean) in
-    absurd (differs (c.in-Ok.ensures.version early meta has ∙ ap Ok is))
+    absurd (differs (c.in-Ok.ensures.version early meta has ∙ ap Ok (stopped_one g c)))
 
 pub returns-in-Err-move_tables-clause-unread : goal.returns-in-Err-move_tables-clause-unread
 returns-in-Err-move_tables-clause-unread g c clean meta has =
-    let is : c.in-Ok.version ≡ pos 1 = search rules in
     let early : HasCleanDisk (state g.S.Store c.expect_version.new.conn) = omega (arith, c.move_tables.ensures.crash.clean) in
-    points_unread (read_version meta) c.in-Err-move_tables.fault c.in-Err-move_tables.ensures.fault (c.in-Ok.ensures.version early meta has ∙ ap Ok is)
+    points_unread (read_version meta) c.in-Err-move_tables.fault c.in-Err-move_tables.ensures.fault (c.in-Ok.ensures.version early meta has ∙ ap Ok (stopped_one g c))
 
 pub returns-in-2-clause-opened : goal.returns-in-2-clause-opened
-returns-in-2-clause-opened g c clean is_open meta has two = ?
+returns-in-2-clause-opened g c clean is_open meta has two = c.expect_version.ensures.same clean is_open
 
 pub returns-in-2-clause-kept : goal.returns-in-2-clause-kept
 returns-in-2-clause-kept g c clean is_open meta has two = c.expect_version.ensures.committed clean is_open
 
 pub returns-in-2-clause-version : goal.returns-in-2-clause-version
-returns-in-2-clause-version g c clean meta has =
-    let is : c.in-Ok.version ≡ pos 2 = search rules in
-    inr (c.in-Ok.ensures.version clean meta has ∙ ap Ok (is))
+returns-in-2-clause-version g c clean meta has = inr (c.in-Ok.ensures.version clean meta has ∙ ap Ok (is_two g c))
 
 pub returns-in-2-clause-was_open : goal.returns-in-2-clause-was_open
 returns-in-2-clause-was_open g c = c.in-Ok.ensures.was_open
@@ -282,4 +278,6 @@ pub returns-in_default-clause-points_cause : goal.returns-in_default-clause-poin
 returns-in_default-clause-points_cause g c clean out t has unread = tt
 
 pub returns-in_default-clause-unread : goal.returns-in_default-clause-unread
-returns-in_default-clause-unread g c clean meta has = ?
+returns-in_default-clause-unread g c clean meta has =
+    let told = c.in-Ok.ensures.version clean meta has in
+    search rules
