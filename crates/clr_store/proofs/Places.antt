@@ -137,7 +137,6 @@ made_at old new edits place t has named changes =
     let it = placed_at old new (tables_edited edits) place t has named changes in
     (edited_tables (HasTables.layout has) has.two new.now edits t (HasTablesIn.in_order (HasTables.here has)) it.0 it.1, it.2)
 
-
 -- a change of the tables leaves the place
 pub keeps_place : (old new : State) (f : Tables → Tables) → Changes old new f → KeepsPlace old.now new.now
 keeps_place old new f changes t has place are =
