@@ -5,10 +5,10 @@ use Rattle.sqlite.specs.Change.{created, next_tree, KeepsRows}
 use Rattle.sqlite.specs.Command.TheVariants.{CreateTable}
 use Rattle.sqlite.specs.Does.{Tally, lacks_sequence}
 use Rattle.sqlite.specs.Effect.{Database}
-use Rattle.sqlite.specs.Held.{Held, state}
+use Rattle.sqlite.specs.Held.{state}
 use Rattle.sqlite.specs.Order.{Row, row_cmp}
 use Rattle.sqlite.specs.Schema.{Schema}
-use Rattle.sqlite.specs.State.{ExecutesInside, HasCleanDisk, KeepsCommit, State, Survives, Writes}
+use Rattle.sqlite.specs.State.{ExecutesInside, KeepsCommit, State, Writes}
 use Rattle.sqlite.specs.Store.{Ghosts}
 use Rattle.sqlite.specs.declared.transaction.Transaction.{Transaction}
 use Rattle.sqlite.proofs.Callers.{runs_as}
@@ -31,13 +31,11 @@ use Rattle.clr_load.specs.declared.layout.Layout.TheVariants.{AsMade, AsMadeLogg
 use Rattle.clr_load.proofs.AllRead.{same_value}
 use Rattle.clr_load.proofs.Inside.{then_runs}
 use Rattle.clr_load.proofs.Loading.{in_layout, then_kept}
-use Rattle.clr_load.proofs.Reopened.{left_of}
 use Rattle.clr_load.proofs.Texts.{create_is, create_text, created_is, defines}
 use Rattle.clr_store.proofs.Creating.{empty_rows, lacks, next_is}
 use Rattle.clr_store.proofs.Effects.{went}
 use Rattle.clr_store.proofs.Layouts.{all_at, at_place, two_rows}
 use Rattle.clr_store.specs.Change.{AddsJournal, ChangesPlace, PutsJournal, PutsPlace, with_journal}
-use Rattle.clr_store.specs.Contract.{AreEditedAt}
 
 -- ---- the layout with the table of the journal beside the others
 -- a layout and that one: the other tables are the same, and lie in the same trees

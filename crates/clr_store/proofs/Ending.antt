@@ -1,9 +1,9 @@
 -- A transaction that is begun, run and ended.
-use Rattle.std.proofs.Common.{List, ◌≡◌, ◌∙◌, ◌⊎◌, Err, IfErr, IsTrue, Ok, OnErr, OnOk, Result, ap, arith, false, inl, inr, is_ok, refl, subst, sym, true}
+use Rattle.std.proofs.Common.{List, ◌≡◌, ◌∙◌, ◌⊎◌, Err, IfErr, IsTrue, Ok, OnErr, OnOk, Result, ap, arith, false, inl, inr, is_ok, subst, sym, true}
 use Rattle.std.specs.Prelude.{MatchResult}
 use Rattle.sqlite.specs.Effect.{Database}
 use Rattle.sqlite.specs.Held.{Held, state}
-use Rattle.sqlite.specs.State.{Commits, HasCleanDisk, IsRolledBack, KeepsCommit, State, Survives}
+use Rattle.sqlite.specs.State.{Commits, HasCleanDisk, IsRolledBack, KeepsCommit, Survives}
 use Rattle.sqlite.specs.Store.{Ghosts}
 use Rattle.sqlite.specs.Tree.{Trees}
 use Rattle.sqlite.specs.declared.transaction.Transaction.{Transaction}

@@ -40,7 +40,6 @@ use Rattle.clr_load.specs.TableEdits.{added_point, changed_point, handed_row, pl
 use Rattle.clr_load.specs.Tables.{Tables, clearance_row, hand_values, hold_row, position_value, section_row, step_row}
 use Rattle.clr_load.specs.declared.table_name.TableName.{TableName}
 use Rattle.clr_load.specs.declared.table_name.TableName.TheVariants.{Section, Clearance, Step, Hold, NetworkPoint, Journal}
-use Rattle.clr_store.specs.Contract.{AreEdited}
 use Rattle.clr_store.specs.Change.{Changes, Does, Replaces, SamePlace, after_replace, with_rows}
 use Rattle.clr_load.specs.Cause.{fault_of}
 use Rattle.clr_load.specs.Fault.{IsOfDatabase}
@@ -57,7 +56,6 @@ use Rattle.clr_load.proofs.Texts.{tests_from}
 use Rattle.clr_load.proofs.Causes.{told_of_database}
 use Rattle.clr_load.proofs.Inside.{then_runs}
 use Rattle.clr_load.proofs.Loading.{in_layout, then_kept, unchanged_keeps, undone_keeps}
-use Rattle.clr_load.proofs.Reopened.{left_of}
 use Rattle.clr_store.proofs.RowLemmas.{put_fresh, shaped-filter}
 use Rattle.clr_store.proofs.Effects.{Wrote, deletes, inserts, is_met_in}
 use Rattle.clr_store.proofs.Layouts.{apart, each_changed, in_two, not_journal, rows_in_two, same_rows, twice}

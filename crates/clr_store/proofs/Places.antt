@@ -1,12 +1,12 @@
 -- What statements make of the table of the journal, inside a transaction.
-use Rattle.std.proofs.Common.{◌≡◌, ◌∙◌, ◌&&◌, ℕ, List, [], ◌∷◌, Bool, true, false, None, Option, Some, Ok, Err, Result, ap, refl, subst, sym}
+use Rattle.std.proofs.Common.{◌≡◌, ◌∙◌, ℕ, List, [], ◌∷◌, true, false, None, Option, Some, Ok, Err, Result, ap, refl, subst, sym}
 use Rattle.std.specs.Prelude.{MatchResult}
 use Rattle.std.proofs.lemmas.Bool.{true≢false}
 use Rattle.sqlite.specs.Effect.{Database}
-use Rattle.sqlite.specs.Held.{Held, state}
+use Rattle.sqlite.specs.Held.{state}
 use Rattle.sqlite.specs.Order.{Row}
 use Rattle.sqlite.specs.Schema.{Schema}
-use Rattle.sqlite.specs.State.{ExecutesInside, HasCleanDisk, KeepsCommit, State, Survives}
+use Rattle.sqlite.specs.State.{ExecutesInside, KeepsCommit, State}
 use Rattle.sqlite.specs.Store.{Ghosts}
 use Rattle.sqlite.specs.Tree.{Trees}
 use Rattle.sqlite.specs.declared.transaction.Transaction.{Transaction}
@@ -18,22 +18,22 @@ use Rattle.clr_load.specs.Tables.{Tables}
 use Rattle.clr_load.specs.declared.table_name.TableName.{TableName}
 use Rattle.clr_load.specs.declared.table_name.TableName.TheVariants.{Meta, Section, Point, Staff, Clearance, Step, Hold, NetworkPoint, Journal}
 use Rattle.clr_load.specs.Fault.{IsOfDatabase}
-use Rattle.clr_load.specs.Layout.{has_rows, has_table, is_of_register, is_two, tree_in}
+use Rattle.clr_load.specs.Layout.{has_table, is_of_register, is_two, tree_in}
 use Rattle.clr_load.specs.Schema.{columns_in, schema_in}
 use Rattle.clr_load.specs.Sql.{insert_sql}
-use Rattle.clr_load.specs.Stored.{ArePlaced, HasPlaceIn, HasRows, HasTables, HasTablesIn, Holds, IsPlaced, bodies, fits_columns, rows_in}
+use Rattle.clr_load.specs.Stored.{ArePlaced, HasPlaceIn, HasRows, HasTables, HasTablesIn, Holds, IsPlaced, fits_columns, rows_in}
 use Rattle.clr_load.specs.declared.fault.StoreFault.{StoreFault}
 use Rattle.clr_load.specs.declared.layout.Layout.{Layout}
 use Rattle.clr_load.specs.declared.layout.Layout.TheVariants.{AsMade, AsMadeLogged, AsMoved, AsMovedLogged, OfOne}
 use Rattle.clr_load.proofs.Columns.{both_true}
 use Rattle.clr_load.proofs.Inside.{then_runs}
 use Rattle.clr_load.proofs.Loading.{in_layout, then_kept}
-use Rattle.clr_load.proofs.Reopened.{left_of, placed_as}
+use Rattle.clr_load.proofs.Reopened.{placed_as}
 use Rattle.clr_store.proofs.Effects.{Wrote, inserts}
 use Rattle.clr_store.proofs.Inside.{edited_tables, put_in}
 use Rattle.clr_store.proofs.Layouts.{apart}
 use Rattle.clr_store.specs.Change.{Changes, ChangesAt, ChangesPlace, Does, MakesAt, PutsPlace, is_same}
-use Rattle.clr_store.specs.Contract.{AreEditedAt, KeepsPlace}
+use Rattle.clr_store.specs.Contract.{KeepsPlace}
 
 -- ---- the tables of the register stay
 not_own : (name : TableName) → is_of_register name ≡ true → is_same Journal name ≡ false

@@ -1,5 +1,5 @@
 -- Network, staff and states that are replaced in the tables, in one transaction.
-use Rattle.std.proofs.Common.{◌≡◌, ◌∙◌, ◌<◌, ℕ, List, [], ◌∷◌, map, take, get_or, length, true, false, not, Bool, Ok, Some, IsTrue, append-nil, refl, sym, ap, subst, arith}
+use Rattle.std.proofs.Common.{◌≡◌, ◌∙◌, ◌<◌, ℕ, List, [], ◌∷◌, map, take, get_or, length, true, not, Ok, Some, append-nil, refl, sym, ap, subst, arith}
 use Rattle.std.specs.Prelude.{Contains, filter, unwrap_or}
 use Rattle.std.specs.List.Sorted.{IsPermutation}
 use Rattle.std.proofs.lemmas.List.{get_or-map, length-map}
@@ -20,7 +20,7 @@ use Rattle.sqlite_resolve.specs.Compile.{compiled}
 use Rattle.sqlite_resolve.specs.declared.compiled.Compiled.{Compiled}
 use Rattle.sqlite_schema.specs.declared.schema.Column.{Column}
 use Rattle.sqlite_tied.specs.Compute.{everything}
-use Rattle.clr_net.specs.Grid.{Grid, IsNetwork, point_names, unplaced}
+use Rattle.clr_net.specs.Grid.{Grid, IsNetwork, unplaced}
 use Rattle.clr_net.specs.Name.{name_cmp}
 use Rattle.clr_net.specs.declared.point.PointRow.{PointRow}
 use Rattle.clr_rules.proofs.good.Opening.{in_key_order-from_sorted, unplaced_names}

@@ -2,7 +2,6 @@ use Rattle.std.proofs.Common.{◌≡◌, Option, false, rules, subst}
 use Rattle.std.specs.Prelude.{IfErr}
 use Rattle.sqlite.specs.Held.{state}
 use Rattle.sqlite.specs.Order.{Row}
-use Rattle.sqlite.specs.State.{HasCleanDisk}
 use Rattle.clr_rules.specs.declared.place.Place.{Place}
 use Rattle.clr_load.specs.RowsRead.{place_read}
 use Rattle.clr_load.specs.Cause.{SqlHasCause}

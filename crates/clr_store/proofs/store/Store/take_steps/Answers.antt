@@ -1,7 +1,7 @@
 use Rattle.std.proofs.Common.{◌≡◌, OnOk, rules, subst}
 use Rattle.std.proofs.lemmas.Result.{on_ok_weaker}
 use Rattle.sqlite.specs.Held.{state}
-use Rattle.sqlite.specs.State.{HasCleanDisk, Survives}
+use Rattle.sqlite.specs.State.{Survives}
 use Rattle.clr_store.specs.Contract.{KeepsPlace}
 use Rattle.clr_store.specs.StepsTaken.{AreWithoutSteps, TakesSteps}
 use Rattle.clr_store.proofs.store.Store.take_steps.Goals as goal
