@@ -1,6 +1,6 @@
 //! One statement each, inside a transaction.
-ghost use Rattle.std.specs.Prelude.{◌≡◌, ◌⊎◌, [], ◌∷◌, Err, IfErr, IsTrue, OnErr, OnOk, false, is_ok};
-ghost use Rattle.std.specs.Prelude.{take, true};
+ghost use Rattle.std.specs.Prelude.{◌≡◌, ◌⊎◌, [], ◌∷◌, Err, IfErr, IsTrue, OnErr, OnOk, false};
+ghost use Rattle.std.specs.Prelude.{is_ok, take, true};
 ghost use Rattle.sqlite.specs.Held.{state};
 ghost use Rattle.sqlite.specs.State.{Commits, HasCleanDisk, IsRolledBack, Survives};
 ghost use Rattle.sqlite.specs.Values.{bound};
