@@ -67,4 +67,41 @@ impl Object {
         let value = said.to_json(self.alloc)?;
         put(&mut self.members, self.alloc, key.text(), value)
     }
+
+    /// Puts what is said at a key, then at another.
+    pub(crate) fn put_two<T: ToJson, U: ToJson>(
+        &mut self,
+        key: Key,
+        said: &T,
+        next: Key,
+        also: &U,
+    ) -> Result<(), AllocError>
+        ensures { OnOk result (members_view self.new.members.entries
+            ≡ with_member (key_text next) (U.json_data also.now)
+            (with_member (key_text key) (T.json_data said.now)
+            (members_view self.old.members.entries))) }
+    {
+        self.put(key, said)?;
+        self.put(next, also)
+    }
+
+    /// Puts what is said at a key, at another, then at a third.
+    pub(crate) fn put_three<T: ToJson, U: ToJson, V: ToJson>(
+        &mut self,
+        key: Key,
+        said: &T,
+        next: Key,
+        also: &U,
+        last: Key,
+        end: &V,
+    ) -> Result<(), AllocError>
+        ensures { OnOk result (members_view self.new.members.entries
+            ≡ with_member (key_text last) (V.json_data end.now)
+            (with_member (key_text next) (U.json_data also.now)
+            (with_member (key_text key) (T.json_data said.now)
+            (members_view self.old.members.entries)))) }
+    {
+        self.put_two(key, said, next, also)?;
+        self.put(last, end)
+    }
 }

@@ -76,9 +76,7 @@ macro_rules! rows {
     ([put $of:ident into $object:ident]
         $($kind:ident $text:literal ($($field:ident: $key:ident),*))*) => {
         match $of {
-            $(Kind::$kind { $($field),* } => {
-                $($object.put(Key::$key, $field)?;)*
-            })*
+            $(Kind::$kind { $($field),* } => put_each! { $object $($key $field)* },)*
         }
     };
     ([take $of:ident] $($kind:ident $text:literal ($($field:ident: $key:ident),*))*) => {
@@ -115,6 +113,23 @@ macro_rules! read {
         $field:ident: $key:ident $(, $fields:ident: $keys:ident)*) => {
         match at($alloc, $value, Key::$key) {
             Ok($field) => read! { [$alloc $value] $kind $all $($fields: $keys),* },
+            Err(fault) => Err(fault),
+        }
+    };
+}
+
+/// Puts what is said at these keys, one after the other.
+macro_rules! put_each {
+    ($object:ident $key:ident $field:ident) => { $object.put(Key::$key, $field) };
+    ($object:ident $key:ident $field:ident $next:ident $also:ident) => {
+        $object.put_two(Key::$key, $field, Key::$next, $also)
+    };
+    ($object:ident $key:ident $field:ident $next:ident $also:ident $last:ident $end:ident) => {
+        $object.put_three(Key::$key, $field, Key::$next, $also, Key::$last, $end)
+    };
+    ($object:ident $key:ident $field:ident $next:ident $also:ident $($more:ident)+) => {
+        match $object.put_two(Key::$key, $field, Key::$next, $also) {
+            Ok(()) => put_each! { $object $($more)+ },
             Err(fault) => Err(fault),
         }
     };
@@ -204,8 +219,7 @@ pub(crate) fn put_own(object: &mut Object, kind: &Kind) -> Result<(), AllocError
     ensures { OnOk result (members_view object.new.members.entries
         ≡ with_said (own_said kind.now) (members_view object.old.members.entries)) }
 {
-    commands!(put kind into object);
-    Ok(())
+    commands!(put kind into object)
 }
 
 /// What a command of this kind says at its own keys is taken: a law, with nothing to do.
