@@ -6,9 +6,9 @@ ghost use Rattle.clr_text.specs.CommandText.{all_taken, own_said, with_said};
 ghost use Rattle.clr_text.specs.Kinds.{keys_of, kind_in, states_moment, word_named};
 ghost use Rattle.clr_text.specs.Kinds.{word_of, word_text};
 
-use crate::commands::Object;
 use crate::fault::TextFault;
 use crate::key::Key;
+use crate::objects::Object;
 use crate::values::{KeyValue, at};
 use clr_rules::Kind;
 use serde_json::Value;
@@ -120,15 +120,15 @@ macro_rules! read {
 
 /// Puts what is said at these keys, one after the other.
 macro_rules! put_each {
-    ($object:ident $key:ident $field:ident) => { $object.put(Key::$key, $field) };
+    ($object:ident $key:ident $field:ident) => { $object.put(&Key::$key, $field) };
     ($object:ident $key:ident $field:ident $next:ident $also:ident) => {
-        $object.put_two(Key::$key, $field, Key::$next, $also)
+        $object.put_two(&Key::$key, $field, &Key::$next, $also)
     };
     ($object:ident $key:ident $field:ident $next:ident $also:ident $last:ident $end:ident) => {
-        $object.put_three(Key::$key, $field, Key::$next, $also, Key::$last, $end)
+        $object.put_three(&Key::$key, $field, &Key::$next, $also, &Key::$last, $end)
     };
     ($object:ident $key:ident $field:ident $next:ident $also:ident $($more:ident)+) => {
-        match $object.put_two(Key::$key, $field, Key::$next, $also) {
+        match $object.put_two(&Key::$key, $field, &Key::$next, $also) {
             Ok(()) => put_each! { $object $($more)+ },
             Err(fault) => Err(fault),
         }

@@ -9,6 +9,7 @@ mod json_reading;
 mod key;
 mod kinds;
 pub mod laws;
+mod objects;
 mod parts;
 mod pushed;
 mod reading;
