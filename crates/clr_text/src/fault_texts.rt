@@ -4,6 +4,7 @@ ghost use Rattle.serde_json.specs.View.{view};
 ghost use Rattle.clr_text.specs.FaultText.{fault_data, fault_name, fault_text};
 
 use crate::fault::TextFault;
+use crate::objects::object_of_two;
 use serde_json::{Value, json};
 use std::alloc::{AllocError, Global};
 
@@ -21,8 +22,13 @@ fn fault_value(alloc: Global, fault: TextFault) -> Result<Value, AllocError>
 {
     let name = fault_name(fault);
     match fault {
-        TextFault::MissingKey(key) | TextFault::BadValue(key) =>
-            json!(in alloc; {"fault": name, "key": key.text()}),
+        TextFault::MissingKey(key) | TextFault::BadValue(key) => object_of_two(
+            alloc,
+            "fault",
+            &name,
+            "key",
+            &key.text(),
+        ),
         TextFault::NotJson
         | TextFault::NotObject
         | TextFault::UnknownKey

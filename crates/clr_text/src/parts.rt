@@ -5,6 +5,7 @@ ghost use Rattle.serde_json.specs.View.{view};
 ghost use Rattle.clr_text.specs.Json.{hold_data, id_data, list_data, name_data, optional_data};
 ghost use Rattle.clr_text.specs.Json.{point_data, step_data};
 
+use crate::objects::object_of_three;
 use crate::words::position_text;
 use clr_net::Name;
 use clr_order::{Step, step_text};
@@ -33,15 +34,14 @@ pub(crate) fn list_value<T: ToJson>(alloc: Global, items: &[T]) -> Result<Value,
 }
 
 /// What there is, or null.
-pub(crate) fn optional_value<T: ToJson>(
-    alloc: Global,
-    item: &Option<T>,
-) -> Result<Value, AllocError>
-    ensures { IfOk result (λ value. view value ≡ optional_data T.json_data item.now) }
-{
-    match item {
-        Some(item) => item.to_json(alloc),
-        None => Ok(Value::Null),
+impl<T: ToJson> ToJson for Option<T> {
+    ghost json_data = { optional_data T.json_data };
+
+    fn to_json(&self, alloc: Global) -> Result<Value, AllocError> {
+        match self {
+            Some(item) => item.to_json(alloc),
+            None => Ok(Value::Null),
+        }
     }
 }
 
@@ -67,9 +67,8 @@ impl ToJson for Hold {
     ghost json_data = { hold_data };
 
     fn to_json(&self, alloc: Global) -> Result<Value, AllocError> {
-        let by = self.id.to_json(alloc)?;
-        let place = self.place.to_json(alloc)?;
-        json!(in alloc; {"by": by, "kind": self.kind.text(), "place": place})
+        let kind = self.kind.text();
+        object_of_three(alloc, "by", &self.id, "kind", &kind, "place", &self.place)
     }
 }
 
@@ -77,9 +76,16 @@ impl ToJson for PointState {
     ghost json_data = { point_data };
 
     fn to_json(&self, alloc: Global) -> Result<Value, AllocError> {
-        let hand = optional_value(alloc, &self.hand)?;
-        let point = self.point.to_json(alloc)?;
-        json!(in alloc; {"hand": hand, "point": point, "position": position_text(self.position)})
+        let position = position_text(self.position);
+        object_of_three(
+            alloc,
+            "hand",
+            &self.hand,
+            "point",
+            &self.point,
+            "position",
+            &position,
+        )
     }
 }
 
@@ -87,8 +93,8 @@ impl ToJson for Step {
     ghost json_data = { step_data };
 
     fn to_json(&self, alloc: Global) -> Result<Value, AllocError> {
-        let reader = optional_value(alloc, &self.reader)?;
         let text = step_text(alloc, self)?;
+        let reader = self.reader.to_json(alloc)?;
         json!(in alloc; {"reader": reader, "state": self.state.text(), "text": text})
     }
 }

@@ -4,13 +4,13 @@ ghost use Rattle.serde_json.specs.Data.{boolean, string};
 ghost use Rattle.serde_json.specs.View.{view};
 ghost use Rattle.clr_order.specs.Step.{task};
 ghost use Rattle.clr_text.specs.CommandText.{task_data};
-ghost use Rattle.clr_text.specs.Json.{list_data, name_data, whole_data};
+ghost use Rattle.clr_text.specs.Json.{list_data, whole_data};
 ghost use Rattle.clr_text.specs.Kinds.{word_text};
 
 use crate::kinds::Word;
 use crate::parts::{ToJson, list_value};
 use clr_order::{Step, step_text};
-use clr_rules::{Moment, Names, Tasks, Text};
+use clr_rules::{Items, Moment, Tasks, Text};
 use serde_json::Value;
 use std::alloc::{AllocError, Global};
 
@@ -32,7 +32,23 @@ impl ToJson for Moment {
     }
 }
 
+impl ToJson for u8 {
+    ghost json_data = { whole_data };
+
+    fn to_json(&self, _alloc: Global) -> Result<Value, AllocError> {
+        Ok(Value::from(*self))
+    }
+}
+
 impl ToJson for u16 {
+    ghost json_data = { whole_data };
+
+    fn to_json(&self, _alloc: Global) -> Result<Value, AllocError> {
+        Ok(Value::from(*self))
+    }
+}
+
+impl ToJson for usize {
     ghost json_data = { whole_data };
 
     fn to_json(&self, _alloc: Global) -> Result<Value, AllocError> {
@@ -56,8 +72,16 @@ impl ToJson for Text {
     }
 }
 
-impl ToJson for Names {
-    ghost json_data = { list_data name_data };
+impl ToJson for &str {
+    ghost json_data = { λ text. string text.now };
+
+    fn to_json(&self, alloc: Global) -> Result<Value, AllocError> {
+        Value::try_from_str(alloc, *self)
+    }
+}
+
+impl<T: ToJson> ToJson for Items<T> {
+    ghost json_data = { list_data T.json_data };
 
     fn to_json(&self, alloc: Global) -> Result<Value, AllocError> {
         list_value(alloc, self.as_slice())
