@@ -2,6 +2,8 @@
 ghost use Rattle.std.specs.Prelude.{◌≡◌, IfOk};
 ghost use Rattle.serde_json.specs.Data.{Data};
 ghost use Rattle.serde_json.specs.View.{view};
+ghost use Rattle.clr_order.specs.Step.{task};
+ghost use Rattle.clr_text.specs.CommandText.{task_data};
 ghost use Rattle.clr_text.specs.Json.{hold_data, id_data, list_data, name_data, optional_data};
 ghost use Rattle.clr_text.specs.Json.{point_data, step_data};
 
@@ -10,7 +12,7 @@ use crate::words::position_text;
 use clr_net::Name;
 use clr_order::{Step, step_text};
 use clr_rules::{ClearanceId, Hold, PointState};
-use serde_json::{Value, json};
+use serde_json::Value;
 use std::alloc::{AllocError, Global};
 
 /// What is written as a JSON value.
@@ -93,8 +95,38 @@ impl ToJson for Step {
     ghost json_data = { step_data };
 
     fn to_json(&self, alloc: Global) -> Result<Value, AllocError> {
-        let text = step_text(alloc, self)?;
-        let reader = self.reader.to_json(alloc)?;
-        json!(in alloc; {"reader": reader, "state": self.state.text(), "text": text})
+        let state = self.state.text();
+        let text = TextOf { step: self };
+        object_of_three(
+            alloc,
+            "reader",
+            &self.reader,
+            "state",
+            &state,
+            "text",
+            &text,
+        )
     }
+}
+
+/// The text of a step.
+#[derive(Drop)]
+struct TextOf<'a> {
+    step: &'a Step,
+}
+
+impl<'a> ToJson for TextOf<'a> {
+    ghost json_data = { λ text. task_data (task text.step.now) };
+
+    fn to_json(&self, alloc: Global) -> Result<Value, AllocError> {
+        text_value(alloc, self.step)
+    }
+}
+
+/// The text of a step, as a JSON value.
+pub(crate) fn text_value(alloc: Global, step: &Step) -> Result<Value, AllocError>
+    ensures { IfOk result (λ value. view value ≡ task_data (task step.now)) }
+{
+    let text = step_text(alloc, step)?;
+    Ok(Value::String(text))
 }

@@ -8,8 +8,8 @@ ghost use Rattle.clr_text.specs.Json.{list_data, whole_data};
 ghost use Rattle.clr_text.specs.Kinds.{word_text};
 
 use crate::kinds::Word;
-use crate::parts::{ToJson, list_value};
-use clr_order::{Step, step_text};
+use crate::parts::{ToJson, list_value, text_value};
+use clr_order::Step;
 use clr_rules::{Items, Moment, Tasks, Text};
 use serde_json::Value;
 use std::alloc::{AllocError, Global};
@@ -102,8 +102,7 @@ fn tasks_value(alloc: Global, steps: &[Step]) -> Result<Value, AllocError>
 {
     let mut list = Vec::new(alloc);
     for step in steps {
-        let text = step_text(alloc, step)?;
-        list.push(Value::String(text))?;
+        list.push(text_value(alloc, step)?)?;
     }
     Ok(Value::Array(list))
 }
