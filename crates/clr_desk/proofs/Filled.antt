@@ -1,5 +1,5 @@
 -- A book that is filled with the rows of a register has this register.
-use Rattle.std.proofs.Common.{◌≡◌, ◌∙◌, ℕ, true, false, List, [], ◌∷◌, ◌++◌, map, drop, Option, None, Some, IsTrue, refl, sym, ap}
+use Rattle.std.proofs.Common.{◌≡◌, ◌∙◌, ℕ, true, false, List, [], ◌∷◌, ◌++◌, map, drop, Option, None, Some, IsTrue, refl, subst, sym, ap}
 use Rattle.std.specs.Prelude.{Contains, unwrap_or}
 use Rattle.std.specs.List.{AllByRecursion, list_all}
 use Rattle.std.specs.List.Sorted.{IsPermutation, IsStrictlySortedBy}
@@ -13,12 +13,14 @@ use Rattle.std.proofs.lemmas.List.{length-map}
 use Rattle.std.proofs.lemmas.List.Elements.{All-map}
 use Rattle.std.proofs.lemmas.List.Sorted.{IsPermutation-refl}
 use Rattle.std.proofs.lemmas.Map.Keys.{sorted_head, sorted_tail}
+use Rattle.clr_staff.specs.Staff.{IsStaffOf}
 use Rattle.clr_staff.specs.declared.employee.StaffRow.{StaffRow}
 use Rattle.clr_staff.specs.declared.staff_fault.StaffFault.{StaffFault}
 use Rattle.clr_staff.proofs.StaffFacts.{staff_has_no_fault}
 use Rattle.clr_net.proofs.BuildFacts.{network_has_no_fault}
 use Rattle.clr_net.specs.Grid.{Grid, IsNetwork, has_ends, has_one_section, point_names, section_names, unplaced}
 use Rattle.clr_net.specs.Name.{name_cmp}
+use Rattle.clr_net.specs.Network.{IsGridOf}
 use Rattle.clr_net.specs.declared.net_fault.NetFault.{NetFault}
 use Rattle.clr_net.specs.declared.point.PointRow.{PointRow}
 use Rattle.clr_net.specs.declared.section.SectionRow.{SectionRow}
@@ -45,10 +47,10 @@ use Rattle.clr_rules.specs.declared.point_state.PointState.{PointState}
 use Rattle.clr_rules.specs.declared.record.Record.{Record}
 use Rattle.clr_rules.specs.declared.step_row.StepRow.{StepRow}
 use Rattle.clr_desk.specs.Shelving.{put_all, shelved}
-use Rattle.clr_load.specs.RowsRead.{with_its_position}
+use Rattle.clr_load.specs.RowsRead.{Rows, with_its_position}
 use Rattle.clr_load.specs.Tables.{state_at}
 use Rattle.clr_desk.specs.Filling.{filling, grid_now, hand_edit}
-use Rattle.clr_desk.specs.Opening.{OpensAgain, bad_network, bad_staff}
+use Rattle.clr_desk.specs.Opening.{IsRegisterOf, OpensAgain, bad_network, bad_staff}
 
 abbrev first_or : {X : Type 0} → X → List X → X
 first_or x [] = x
@@ -195,6 +197,28 @@ shelves_fill states holds records steps g staff handed R record_shelf step_shelf
     taken
     ∙ (λ i. record (set i) { records = of_records i; steps = of_steps i; holds = of_holds i })
     ∙ sym (all_edited states holds records steps (opening g staff))
+
+-- and it is that of the rows
+pub register_of : (rows : Rows) (sections : List SectionRow) (points : List PointRow) (states : List PointState) (employees : List StaffRow)
+    (record_shelf : List Record) (step_shelf : List StepRow) (hold_shelf : List Hold) (handed R : Register)
+    → sections ≡ rows.sections → points ≡ rows.points → states ≡ rows.states → employees ≡ rows.staff
+    → record_shelf ≡ shelved id_cmp record_key rows.records → step_shelf ≡ shelved step_key_cmp step_key rows.steps
+    → hold_shelf ≡ shelved hold_cmp hold_key rows.holds
+    → (g : Grid) × (staff : List StaffRow) × IsGridOf sections points g × IsStaffOf employees staff × (handed ≡ after_edits (map hand_edit states) (opening g staff))
+    → R ≡ record handed { records = record_shelf; steps = step_shelf; holds = hold_shelf }
+    → IsRegisterOf rows R
+register_of rows sections points states employees record_shelf step_shelf hold_shelf handed R
+    same_sections same_points same_states same_staff of_records of_steps of_holds (g, staff, grid, are, hands) taken = record {
+      grid = g;
+      staff = staff;
+      network =
+          subst (λ (l : List PointRow). IsGridOf rows.sections l g) same_points
+          (subst (λ (l : List SectionRow). IsGridOf l points g) same_sections grid);
+      employees = subst (λ (l : List StaffRow). IsStaffOf l staff) same_staff are;
+      filled =
+          shelves_fill rows.states rows.holds rows.records rows.steps g staff handed R record_shelf step_shelf hold_shelf
+          (hands ∙ ap (λ (l : List PointState). after_edits (map hand_edit l) (opening g staff)) same_states) taken of_records of_steps of_holds;
+    }
 
 -- ---- the network with the positions of a register
 

@@ -1,8 +1,9 @@
 //! An archive of the register of a desk: the steps of its past records leave the tables.
-ghost use Rattle.std.specs.Prelude.{◌≡◌, ⊤, IfErr, IfOk, IsTrue, OnErr, OnOk};
+ghost use Rattle.std.specs.Prelude.{◌≡◌, ⊤, IfErr, IfOk, IsTrue, OnErr, OnOk, map};
 ghost use Rattle.sqlite.specs.Held.{state};
 ghost use Rattle.sqlite.specs.State.{HasCleanDisk, Survives};
-ghost use Rattle.clr_changes.specs.Archive.{archived};
+ghost use Rattle.clr_changes.specs.Archive.{archived, steps_that_go};
+ghost use Rattle.clr_rules.specs.StepKey.{step_key};
 ghost use Rattle.clr_load.specs.Contract.{IsSaved};
 ghost use Rattle.clr_load.specs.Stored.{HasTables};
 ghost use Rattle.clr_load.specs.Tables.{tables_of};
@@ -52,6 +53,14 @@ impl<S: Alter + Drop> Desk<Store<S>> {
     }
 }
 
+/// The keys of the steps of a book that go.
+fn keys_of(alloc: Global, book: &DeskBook, before: Moment) -> Result<Vec<StepKey>, AllocError>
+    ensures { IfOk result (λ keys. keys.items
+        ≡ map step_key (steps_that_go before book.now.register)) }
+{
+    keys_that_go(alloc, book, before)
+}
+
 /// Takes the steps that go out of the tables of a book's register.
 fn archive_tables<S: Alter + Drop>(
     alloc: Global,
@@ -74,7 +83,7 @@ fn archive_tables<S: Alter + Drop>(
     ensures crash { Survives (state S.Store store.old) (state S.Store store.new)
         (AreArchived (state S.Store store.old).now before book.now.register) }
 {
-    let keys = keys_that_go(alloc, book, before)?;
+    let keys = keys_of(alloc, book, before)?;
     store.take_steps(keys.as_slice())?;
     Ok(())
 }
@@ -92,7 +101,7 @@ struct Left {
 fn left_of(alloc: Global, book: &DeskBook, before: Moment) -> Result<Left, AllocError>
     ensures { IfOk result (IsLeft before book.now.register) }
 {
-    let keys = keys_that_go(alloc, book, before)?;
+    let keys = keys_of(alloc, book, before)?;
     let book = book_archived(alloc, book, before)?;
     Ok(Left { keys, book })
 }

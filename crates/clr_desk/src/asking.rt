@@ -8,8 +8,10 @@ ghost use Rattle.clr_book.specs.Own.{asked_answer};
 
 use crate::book::DeskBook;
 use clr_answer::Decision;
+use clr_book::Book;
 use clr_book::own::answer;
-use clr_rules::Command;
+use clr_rules::{Command, Hold, PointState, Record, StepRow};
+use clr_shelf::Shelf;
 use std::alloc::AllocError;
 
 /// What the book answers to a command. Then there is room in the book for its change, which is not
@@ -17,6 +19,27 @@ use std::alloc::AllocError;
 ///
 /// Where memory runs out the book has the rows that it had, and so has its network.
 pub(crate) fn prepare(book: &mut DeskBook, command: &Command) -> Result<Decision, AllocError>
+    ensures answer { IfOk result
+        (λ d. answer_of_decision d ≡ asked_answer book.old.register command.now) }
+    ensures nothing { IfOk result ChangesIfAccepted }
+    ensures fits { IfOk result (λ d. fit book.new.register.net d.change.edits.items ≡ true) }
+    ensures room { IfOk result (λ d. Fits (needs d.change.edits.items) book.new.room) }
+    ensures register { book.new.register ≡ book.old.register }
+    ensures network { book.new.network ≡ book.old.network }
+{
+    prepared(book, command)
+}
+
+/// The same of a book on any shelves.
+fn prepared<P, C, T, H>(
+    book: &mut Book<P, C, T, H>,
+    command: &Command,
+) -> Result<Decision, AllocError>
+where
+    P: Shelf<PointState>,
+    C: Shelf<Record>,
+    T: Shelf<StepRow>,
+    H: Shelf<Hold>,
     ensures answer { IfOk result
         (λ d. answer_of_decision d ≡ asked_answer book.old.register command.now) }
     ensures nothing { IfOk result ChangesIfAccepted }

@@ -1,5 +1,5 @@
 //! The book of a desk, and what a desk does with it.
-ghost use Rattle.std.specs.Prelude.{◌≡◌, true, IfOk};
+ghost use Rattle.std.specs.Prelude.{◌≡◌, true, IfOk, OnOk};
 ghost use Rattle.clr_book.specs.Book.{Fits, needs};
 ghost use Rattle.clr_book.specs.Growth.{network_after_all};
 ghost use Rattle.clr_rules.specs.Edits.{after_edits, fit};
@@ -10,7 +10,7 @@ ghost use Rattle.clr_load.specs.TypedRows.{IsTyped};
 use crate::typed::Typed;
 use clr_book::Book;
 use clr_net::Network;
-use clr_rules::{Change, Hold, PointState, Record, StepRow};
+use clr_rules::{Change, Edit, Hold, PointState, Record, StepRow};
 use clr_shelf::SortedShelf;
 use clr_staff::Staff;
 use std::alloc::{AllocError, Global};
@@ -63,4 +63,18 @@ pub(crate) fn apply(book: &mut DeskBook, change: Change)
     ensures network { book.new.network ≡ network_after_all change.edits.items book.old.network }
 {
     book.apply(change);
+}
+
+/// Makes edits that a network takes, if there is room for them.
+pub(crate) fn make(book: &mut DeskBook, edits: Vec<Edit>) -> Result<(), AllocError>
+    requires { fit book.old.register.net edits.items ≡ true }
+    ensures register { OnOk result
+        (book.new.register ≡ after_edits edits.items book.old.register) }
+    ensures network { OnOk result
+        (book.new.network ≡ network_after_all edits.items book.old.network) }
+{
+    let change = Change { edits };
+    book.reserve(&change)?;
+    apply(book, change);
+    Ok(())
 }

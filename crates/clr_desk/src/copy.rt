@@ -3,20 +3,29 @@ ghost use Rattle.std.specs.Prelude.{◌≡◌, IfOk, map};
 ghost use Rattle.clr_desk.specs.Shelving.{shelved};
 ghost use Rattle.clr_net.specs.Grid.{unplaced};
 ghost use Rattle.clr_rules.specs.Good.{IsGood};
-ghost use Rattle.clr_load.specs.RowsRead.{rows_of, with_its_position};
+ghost use Rattle.clr_load.specs.RowsRead.{with_its_position};
 ghost use Rattle.clr_load.specs.TypedRows.{IsTyped};
-ghost use Rattle.clr_desk.specs.Loaded.{HasRows};
 
 use crate::book::DeskBook;
-use crate::opening::{LoadedShelves, book_of};
+use crate::opening::bare_book;
+use crate::shelves::{refilled, shelves_in};
 use crate::typed::Typed;
 use crate::typed_shelf::TypedShelf;
 use clr_book::{Book, all_rows};
-use clr_load::{Fill, Loaded};
-use clr_net::{PointRow, Position};
+use clr_load::Fill;
+use clr_net::{PointRow, Position, SectionRow};
 use clr_rules::{Hold, PointState, Record, StepRow};
 use clr_shelf::{Row, Shelf};
+use clr_staff::StaffRow;
 use std::alloc::{AllocError, Global};
+
+/// Sections, points, states and staff.
+type Lists = (
+    Vec<SectionRow>,
+    Vec<PointRow>,
+    Vec<PointState>,
+    Vec<StaffRow>,
+);
 
 /// Another book with the register of a book, which is good in every register that is reached.
 pub fn copy_of(alloc: Global, book: &DeskBook) -> Result<DeskBook, AllocError>
@@ -32,40 +41,34 @@ pub(crate) fn typed_copy(alloc: Global, book: &DeskBook) -> Result<DeskBook, All
         → IfOk result (λ copy. copy.register ≡ book.now.register) }
     ensures typed { IfOk result (λ copy. IsTyped copy.register) }
 {
-    let loaded = rows_of(alloc, book)?;
-    match book_of(loaded) {
-        Ok(copy) => Ok(copy),
+    let shelves = shelves_in(alloc, book)?;
+    let lists = lists_of(alloc, book)?;
+    match bare_book(lists.0, lists.1, lists.3, &lists.2) {
+        Ok(bare) => refilled(bare, shelves),
         Err(_) => Err(AllocError),
     }
 }
 
-/// All rows of a book, as a store that has its tables loads them.
-fn rows_of<P, C, T, H>(alloc: Global, book: &Book<P, C, T, H>) -> Result<LoadedShelves, AllocError>
+/// The sections, the points in their present positions, the states and the staff of a book.
+fn lists_of<P, C, T, H>(alloc: Global, book: &Book<P, C, T, H>) -> Result<Lists, AllocError>
 where
     P: Shelf<PointState>,
     C: Shelf<Record>,
     T: Shelf<StepRow>,
     H: Shelf<Hold>,
-    ensures { IfOk result (λ loaded. HasRows loaded (rows_of book.now.register)) }
+    ensures sections { IfOk result (λ it. it.0.items ≡ book.now.register.net.sections) }
+    ensures points { IfOk result (λ it. it.1.items
+        ≡ map (with_its_position book.now.register.states) book.now.register.net.points) }
+    ensures states { IfOk result (λ it. it.2.items ≡ book.now.register.states) }
+    ensures staff { IfOk result (λ it. it.3.items ≡ book.now.register.staff) }
 {
-    let (states, records, steps, holds) = book.shelves();
-    let sections = Vec::from_slice(alloc, book.network().sections())?;
-    let points = points_now(alloc, book, book.network().points())?;
+    let (states, _, _, _) = book.shelves();
+    let network = book.network();
+    let sections = Vec::from_slice(alloc, network.sections())?;
+    let points = points_now(alloc, book, network.points())?;
     let states = copied(alloc, states)?;
     let staff = Vec::from_slice(alloc, book.staff().rows())?;
-    let records = copied_shelf(alloc, records)?;
-    let steps = copied_shelf(alloc, steps)?;
-    let holds = copied_shelf(alloc, holds)?;
-    Ok(Loaded {
-        version: 2,
-        sections,
-        points,
-        states,
-        staff,
-        records,
-        steps,
-        holds,
-    })
+    Ok((sections, points, states, staff))
 }
 
 /// Copies of the rows of a shelf, in key order.
@@ -76,25 +79,16 @@ pub fn copied<R: Row + Copy, S: Shelf<R>>(alloc: Global, shelf: &S) -> Result<Ve
     filled(alloc, &rows)
 }
 
-/// A shelf with copies of the rows of a shelf, put in key order.
-fn copied_shelf<R: Row + Typed + Copy, S: Shelf<R>, T: Shelf<R>>(
-    alloc: Global,
-    shelf: &S,
-) -> Result<TypedShelf<R, T>, AllocError>
-    ensures { IfOk result (λ copy. copy ≡ shelved R.key_cmp R.key_of (S.rows shelf.now)) }
-{
-    let rows = all_rows(alloc, shelf)?;
-    filled(alloc, &rows)
-}
-
-/// A shelf with copies of the rows of a shelf.
+/// A shelf with copies of the rows of a shelf, put one after another.
 pub(crate) fn same_shelf<R: Row + Typed + Copy, S: Shelf<R>, T: Shelf<R>>(
     alloc: Global,
     shelf: &S,
 ) -> Result<TypedShelf<R, T>, AllocError>
-    ensures { IfOk result (λ copy. copy ≡ S.rows shelf.now) }
+    ensures put { IfOk result (λ copy. copy ≡ shelved R.key_cmp R.key_of (S.rows shelf.now)) }
+    ensures rows { IfOk result (λ copy. copy ≡ S.rows shelf.now) }
 {
-    copied_shelf(alloc, shelf)
+    let rows = all_rows(alloc, shelf)?;
+    filled(alloc, &rows)
 }
 
 /// Copies of rows, in what takes them one after another.

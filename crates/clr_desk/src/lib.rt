@@ -13,6 +13,7 @@ pub mod laws;
 mod opening;
 mod renewing;
 mod run;
+mod shelves;
 mod stated;
 mod typed;
 mod typed_shelf;

@@ -1,6 +1,6 @@
 //! Opening: the book of the rows that a store has loaded.
 ghost use Rattle.std.specs.Prelude.{◌≡◌, ◌⊎◌, ℕ, List, Option, Some, None, IfErr, IfOk, IsErrAnd};
-ghost use Rattle.std.specs.Prelude.{IsTrue, length, map, nat_lt};
+ghost use Rattle.std.specs.Prelude.{IsTrue, OnOk, length, map, nat_lt};
 ghost use Rattle.clr_staff.specs.Staff.{IsStaffOf, first_fault as staff_fault};
 ghost use Rattle.clr_net.specs.Network.{IsGridOf, first_fault as network_fault};
 ghost use Rattle.clr_rules.specs.Edits.{after_edits};
@@ -19,15 +19,17 @@ ghost use Rattle.sqlite.specs.State.{HasCleanDisk, Survives};
 ghost use Rattle.clr_desk.specs.Filling.{hand_edit};
 ghost use Rattle.clr_desk.specs.Loaded.{HasRows};
 ghost use Rattle.clr_desk.specs.Opening.{FailsToOpen, HasNetworkOf, IsRegisterOf, OpensAs};
-ghost use Rattle.clr_desk.specs.Opening.{bad_table, table_of};
+ghost use Rattle.clr_desk.specs.Opening.{bad_network, bad_staff, bad_table, table_of};
+ghost use Rattle.clr_net.specs.Grid.{Grid};
 ghost use Rattle.clr_load.specs.declared.fault.StoreFault.TheVariants.{BadRow, NoMemory};
 
-use crate::book::{DeskBook, apply, opening_book};
-use crate::typed::{Typed, all_typed};
+use crate::book::{DeskBook, make, opening_book};
+use crate::shelves::{Shelves, refilled};
+use crate::typed::all_typed;
 use crate::typed_shelf::TypedShelf;
 use clr_load::{Loaded, StoreFault, TableName};
 use clr_net::{MAX_SECTIONS, NetFault, Network, PointRow, SectionRow};
-use clr_rules::{Change, Edit, Hold, PointState, Record, StepRow};
+use clr_rules::{Edit, Hold, PointState, Record, StepRow};
 use clr_shelf::SortedShelf;
 use clr_staff::{Staff, StaffFault, StaffRow};
 use clr_store::Store;
@@ -65,13 +67,24 @@ fn handed_book(
     ensures typed { IfOk result (λ book. IsTyped book.register) }
 {
     all_typed(states);
-    let change = Change {
-        edits: hand_edits(alloc, states)?,
-    };
     let mut book = opening_book(alloc, network, staff)?;
-    book.reserve(&change)?;
-    apply(&mut book, change);
+    put_in_hands(alloc, &mut book, states)?;
     Ok(book)
+}
+
+/// Puts each point of a book into the hand that it is in.
+pub(crate) fn put_in_hands(
+    alloc: Global,
+    book: &mut DeskBook,
+    states: &[PointState],
+) -> Result<(), AllocError>
+    ensures register { OnOk result
+        (book.new.register ≡ after_edits (map hand_edit states.now) book.old.register) }
+    ensures network { OnOk result (book.new.network ≡ book.old.network) }
+{
+    let hands = hand_edits(alloc, states)?;
+    make(book, hands)?;
+    Ok(())
 }
 
 /// The network of loaded rows.
@@ -125,9 +138,41 @@ fn built_staff(alloc: Global, rows: Vec<StaffRow>) -> Result<Staff, StoreFault>
     }
 }
 
+/// The book of the rows of a network and a staff, with each point in the hand that it is in, and
+/// no clearance.
+pub(crate) fn bare_book(
+    sections: Vec<SectionRow>,
+    points: Vec<PointRow>,
+    rows: Vec<StaffRow>,
+    states: &[PointState],
+) -> Result<DeskBook, StoreFault>
+    ensures register { IfOk result (λ book. (grid : Grid) × (staff : List _)
+        × IsGridOf sections.items points.items grid × IsStaffOf rows.items staff
+        × (book.register ≡ after_edits (map hand_edit states.now) (opening grid staff))) }
+    ensures network { IfOk result (λ book. IsGridOf sections.items points.items book.network) }
+    ensures typed { IfOk result (λ book. IsTyped book.register) }
+    ensures none { IfOk result (λ _. bad_network sections.items
+        (network_fault sections.items points.items) (bad_staff (staff_fault rows.items)) ≡ None) }
+    ensures fault { IfErr result (λ fault. (fault ≡ NoMemory) ⊎ ((bad : _)
+        × (bad_network sections.items (network_fault sections.items points.items)
+        (bad_staff (staff_fault rows.items)) ≡ Some bad) × (fault ≡ BadRow bad))) }
+{
+    let alloc = *sections.allocator();
+    match built_network(alloc, sections, points) {
+        Ok(network) => match built_staff(alloc, rows) {
+            Ok(staff) => match handed_book(alloc, network, staff, states) {
+                Ok(book) => Ok(book),
+                Err(_) => Err(StoreFault::NoMemory),
+            },
+            Err(fault) => Err(fault),
+        },
+        Err(fault) => Err(fault),
+    }
+}
+
 /// The book of loaded rows. It takes their shelves, and copies of these rows the open records
 /// alone.
-pub(crate) fn book_of(loaded: LoadedShelves) -> Result<DeskBook, StoreFault>
+fn book_of(loaded: LoadedShelves) -> Result<DeskBook, StoreFault>
     ensures register { (rows : Rows) → HasRows loaded rows
         → IfOk result (λ book. IsRegisterOf rows book.register) }
     ensures network { (rows : Rows) → HasRows loaded rows
@@ -137,18 +182,28 @@ pub(crate) fn book_of(loaded: LoadedShelves) -> Result<DeskBook, StoreFault>
         → IfOk result (λ _. bad_table rows ≡ None) }
     ensures fault { (rows : Rows) → HasRows loaded rows → IfErr result (FailsToOpen rows) }
 {
-    loaded.records.typed();
-    loaded.steps.typed();
-    loaded.holds.typed();
-    let alloc = *loaded.sections.allocator();
-    let network = built_network(alloc, loaded.sections, loaded.points)?;
-    let staff = built_staff(alloc, loaded.staff)?;
-    let book = handed_book(alloc, network, staff, &loaded.states)?;
-    let records = loaded.records.into_shelf();
-    let steps = loaded.steps.into_shelf();
-    let holds = loaded.holds.into_shelf();
-    let filled = book.with_shelves(records, steps, holds)?;
-    Ok(filled)
+    let Loaded {
+        version: _version,
+        sections,
+        points,
+        states,
+        staff,
+        records,
+        steps,
+        holds,
+    } = loaded;
+    let shelves = Shelves {
+        records,
+        steps,
+        holds,
+    };
+    match bare_book(sections, points, staff, &states) {
+        Ok(bare) => match refilled(bare, shelves) {
+            Ok(book) => Ok(book),
+            Err(_) => Err(StoreFault::NoMemory),
+        },
+        Err(fault) => Err(fault),
+    }
 }
 
 /// The book of what a store has. The store is only read.

@@ -3,7 +3,7 @@ ghost use Rattle.std.specs.Prelude.{◌≡◌, IfErr, IfOk, IsTrue, OnErr, OnOk,
 ghost use Rattle.sqlite.specs.Held.{state};
 ghost use Rattle.sqlite.specs.State.{HasCleanDisk, Survives};
 ghost use Rattle.clr_changes.specs.Lines.{change_lines};
-ghost use Rattle.clr_changes.specs.Outcome.{register_after};
+ghost use Rattle.clr_changes.specs.Outcome.{IsOutcome, register_after};
 ghost use Rattle.clr_changes.specs.Report.{IsReport};
 ghost use Rattle.clr_changes.specs.Shown.{as_update};
 ghost use Rattle.clr_load.specs.Stored.{HasTables};
@@ -61,6 +61,13 @@ impl<S: Alter + Drop> Desk<Store<S>> {
     }
 }
 
+/// What comes of an update of a book.
+fn outcome_in(alloc: Global, book: &DeskBook, update: Update) -> Result<Outcome, AllocError>
+    ensures { IfOk result (IsOutcome book.now.register (as_update update)) }
+{
+    outcome_of(alloc, book, update)
+}
+
 /// Updates network and staff in the tables of a book's register.
 fn update_tables<S: Alter + Drop>(
     alloc: Global,
@@ -85,7 +92,7 @@ fn update_tables<S: Alter + Drop>(
         (AreUpdated (state S.Store store.old).now book.now.register (as_update update)) }
 {
     update.is_read();
-    let outcome = outcome_of(alloc, book, update)?;
+    let outcome = outcome_in(alloc, book, update)?;
     match outcome {
         Outcome::InTheWay(obstacle) => Ok(Report::InTheWay(obstacle)),
         Outcome::Accepted(after) => {
@@ -145,7 +152,7 @@ fn plan_of(alloc: Global, book: &DeskBook, update: Update) -> Result<Plan, Alloc
     ensures { IfOk result (IsPlan book.now.register (as_update update)) }
 {
     update.is_read();
-    let outcome = outcome_of(alloc, book, update)?;
+    let outcome = outcome_in(alloc, book, update)?;
     match outcome {
         Outcome::InTheWay(obstacle) => Ok(Plan::InTheWay(obstacle)),
         Outcome::Accepted(after) => {

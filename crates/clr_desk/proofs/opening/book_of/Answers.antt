@@ -1,32 +1,43 @@
-use Rattle.std.proofs.Common.{◌∙◌, List, ap, map, subst}
-use Rattle.clr_net.specs.Network.{IsGridOf}
+use Rattle.std.proofs.Common.{◌∙◌, List, inl, inr, refl, subst, sym, ⊎_elim}
+use Rattle.clr_net.specs.Grid.{Grid}
+use Rattle.clr_net.specs.Network.{IsGridOf, first_fault as network_fault}
 use Rattle.clr_net.specs.declared.point.PointRow.{PointRow}
 use Rattle.clr_net.specs.declared.section.SectionRow.{SectionRow}
-use Rattle.clr_staff.specs.Staff.{IsStaffOf}
-use Rattle.clr_staff.specs.declared.employee.StaffRow.{StaffRow}
-use Rattle.clr_rules.specs.Edits.{after_edits}
-use Rattle.clr_rules.specs.Register.{opening}
-use Rattle.clr_rules.specs.declared.point_state.PointState.{PointState}
-use Rattle.clr_desk.specs.Filling.{hand_edit}
-use Rattle.clr_desk.proofs.Filled.{shelves_fill}
+use Rattle.clr_staff.specs.Staff.{first_fault as staff_fault}
+use Rattle.clr_desk.specs.Opening.{bad_network, bad_staff}
+use Rattle.clr_desk.proofs.Filled.{register_of}
 use Rattle.clr_desk.proofs.opening.book_of.Goals as goal
 
-pub returns-clause-register : goal.returns-clause-register
-returns-clause-register c rows has =
-    let network = c.in_ok-network.network in
-    let staff = c.in_ok-staff.staff in
-    record {
-      grid = network;
-      staff = staff;
-      network =
-          subst (λ (points : List PointRow). IsGridOf rows.sections points network) has.points
-          (subst (λ (sections : List SectionRow). IsGridOf sections c.args.loaded.points.items network) has.sections c.in_ok-network.ensures.built);
-      employees = subst (λ (employees : List StaffRow). IsStaffOf employees staff) has.staff c.in_ok-staff.ensures.built;
-      filled =
-          shelves_fill rows.states rows.holds rows.records rows.steps network staff c.in_ok-book.book.register c.in_ok-filled.filled.register _ _ _
-          (c.in_ok-book.ensures.register ∙ ap (λ (states : List PointState). after_edits (map hand_edit states) (opening network staff)) (c.deref.ensures.value ∙ has.states))
-          c.in_ok-filled.ensures.register
-          (c.into_shelf-records.ensures ∙ has.records_are)
-          (c.into_shelf-steps.ensures ∙ has.steps_are)
-          (c.into_shelf-holds.ensures ∙ has.holds_are);
-    }
+pub returns-in-Ok-refilled-clause-register : goal.returns-in-Ok-refilled-clause-register
+returns-in-Ok-refilled-clause-register c rows has =
+    register_of rows _ _ _ _ _ _ _ c.in-Ok.bare.register c.in-Ok-refilled.book.register
+    has.sections has.points (c.deref.ensures.value ∙ has.states) has.staff has.records_are has.steps_are has.holds_are
+    c.in-Ok.ensures.register c.in-Ok-refilled.ensures.register
+
+pub returns-in-Ok-refilled-clause-network : goal.returns-in-Ok-refilled-clause-network
+returns-in-Ok-refilled-clause-network c rows has =
+    let g = c.in-Ok.bare.network in
+    subst (λ (it : Grid). IsGridOf rows.sections rows.points it) (sym c.in-Ok-refilled.ensures.network)
+    (subst (λ (l : List PointRow). IsGridOf rows.sections l g) has.points
+    (subst (λ (l : List SectionRow). IsGridOf l c.args.loaded.points.items g) has.sections c.in-Ok.ensures.network))
+
+pub returns-in-Ok-refilled-clause-typed : goal.returns-in-Ok-refilled-clause-typed
+returns-in-Ok-refilled-clause-typed c = c.in-Ok-refilled.ensures.typed c.in-Ok.ensures.typed
+
+pub returns-in-Ok-refilled-clause-none : goal.returns-in-Ok-refilled-clause-none
+returns-in-Ok-refilled-clause-none c rows has =
+    (λ i. bad_network (sym has.sections i) (network_fault (sym has.sections i) (sym has.points i)) (bad_staff (staff_fault (sym has.staff i))))
+    ∙ c.in-Ok.ensures.none
+
+pub returns-in-Ok-clause-fault : goal.returns-in-Ok-clause-fault
+returns-in-Ok-clause-fault c rows has = inl refl
+
+pub returns-clause-fault : goal.returns-clause-fault
+returns-clause-fault c rows has =
+    ⊎_elim inl
+    (λ it. let (bad, is, says) = it in inr (
+      bad,
+      (λ i. bad_network (sym has.sections i) (network_fault (sym has.sections i) (sym has.points i)) (bad_staff (staff_fault (sym has.staff i)))) ∙ is,
+      says,
+    ))
+    c.in-Err.ensures.fault
