@@ -1,6 +1,6 @@
 -- What is kept stays as it is.
 use Rattle.std.proofs.Common.{◌∙◌, IsTrue, Result, Ok, Err, arith, inl, refl, subst, sym}
-use Rattle.std.specs.Prelude.{OnErr}
+use Rattle.std.specs.Prelude.{IfOk, IsErr, OnErr, OnOk}
 use Rattle.sqlite.specs.State.{State, Survives}
 use Rattle.sqlite.specs.Tree.{Trees}
 use Rattle.sqlite.proofs.StateLemmas.{survives_weaker}
@@ -35,3 +35,17 @@ stays_left old new Left stays = survives_weaker old new (λ _. ⊥) Left (λ cle
 pub still_saved : {A E : Type 0} (old new : State) (result : Result A E) → Stays old new → IsSaved old → OnErr result (IsSaved new)
 still_saved old new (Ok value) stays saved = tt
 still_saved old new (Err fault) stays saved = stays_saved old new stays saved
+
+-- ---- what a call that met a fault says
+
+pub if_ok : {A E : Type 0} (result : Result A E) (P : A → Type 0) → IsErr result → IfOk result P
+if_ok (Ok value) P err = absurd (cc err)
+if_ok (Err fault) P err = tt
+
+pub on_ok : {A E : Type 0} (result : Result A E) (P : Type 0) → IsErr result → OnOk result P
+on_ok (Ok value) P err = absurd (cc err)
+on_ok (Err fault) P err = tt
+
+pub on_err : {A E : Type 0} (result : Result A E) (P : Type 0) → P → OnErr result P
+on_err (Ok value) P is = tt
+on_err (Err fault) P is = is
