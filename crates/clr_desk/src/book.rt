@@ -11,7 +11,7 @@ use crate::typed::Typed;
 use clr_book::Book;
 use clr_net::Network;
 use clr_rules::{Change, Edit, Hold, PointState, Record, StepRow};
-use clr_shelf::SortedShelf;
+use clr_shelf::{Shelf, SortedShelf};
 use clr_staff::Staff;
 use std::alloc::{AllocError, Global};
 
@@ -41,18 +41,25 @@ pub(crate) fn opening_book(
     Ok(book)
 }
 
-/// The network of a book.
-pub(crate) fn network_of(book: &DeskBook) -> &Network
-    ensures { result.now ≡ book.now.network }
+/// The network and the staff of a desk's book.
+pub(crate) fn network_and_staff(book: &DeskBook) -> (&Network, &Staff)
+    ensures network { result.0.now ≡ book.now.network }
+    ensures staff { result.1.now ≡ book.now.register.staff }
 {
-    book.network()
+    of_book(book)
 }
 
-/// The staff of a book.
-pub(crate) fn staff_of(book: &DeskBook) -> &Staff
-    ensures { result.now ≡ book.now.register.staff }
+/// The network and the staff of a book.
+fn of_book<P, C, T, H>(book: &Book<P, C, T, H>) -> (&Network, &Staff)
+where
+    P: Shelf<PointState>,
+    C: Shelf<Record>,
+    T: Shelf<StepRow>,
+    H: Shelf<Hold>,
+    ensures network { result.0.now ≡ book.now.network }
+    ensures staff { result.1.now ≡ book.now.register.staff }
 {
-    book.staff()
+    (book.network(), book.staff())
 }
 
 /// Makes a change for which there is room, and which the network takes.

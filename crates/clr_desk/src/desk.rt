@@ -32,7 +32,7 @@ ghost use Rattle.clr_desk.specs.NearRun.{IsNearRun, near_network_all};
 ghost use Rattle.clr_desk.specs.Taking.{Takes, TakesOne, TakesRun};
 
 use crate::asking::prepare;
-use crate::book::{DeskBook, apply, network_of, opening_book, staff_of};
+use crate::book::{DeskBook, apply, network_and_staff, opening_book};
 use crate::commit::{Commit, Unkept};
 use crate::desk_fault::DeskFault;
 use crate::opening::book_in;
@@ -93,7 +93,8 @@ impl<S: Alter + Drop> Desk<Store<S>> {
         let Ok(book) = opening_book(alloc, network, staff) else {
             return Err((DeskFault::NoMemory, connection));
         };
-        match Store::create(connection, network_of(&book), staff_of(&book)) {
+        let (network, staff) = network_and_staff(&book);
+        match Store::create(connection, network, staff) {
             Ok(store) => Ok(Desk::over(book, store)),
             Err(Back { fault, connection }) => Err((DeskFault::from(fault), connection)),
         }

@@ -19,7 +19,7 @@ ghost use Rattle.clr_desk.specs.Planning.{IsPlan, MakesRenewal};
 ghost use Rattle.clr_desk.specs.Renewing.{IsUpdatedAt};
 ghost use Rattle.clr_desk.specs.Updating.{AreUpdated, SavesIfAccepted};
 
-use crate::book::{DeskBook, network_of, staff_of};
+use crate::book::{DeskBook, network_and_staff};
 use crate::commit_at::CommitAt;
 use crate::desk::Desk;
 use crate::desk_fault::DeskFault;
@@ -180,7 +180,8 @@ fn keep_at<K: CommitAt>(
         states,
         lines,
     } = renewal;
-    match keeper.update_at(network_of(&after), staff_of(&after), &states, place) {
+    let (network, staff) = network_and_staff(&after);
+    match keeper.update_at(network, staff, &states, place) {
         Ok(()) => (Ok(Report::Changes(lines)), Desk::of(after, keeper, faults)),
         Err(fault) => (Err(fault), Desk::of(book, keeper, faults.saturating_add(1))),
     }

@@ -31,8 +31,8 @@ returns-in-Ok-create-clause-typed g c =
 
 pub returns-in-Ok-create-clause-made : goal.returns-in-Ok-create-clause-made
 returns-in-Ok-create-clause-made g c =
-    let network = c.network_of.ensures ∙ c.in-Ok.ensures.network in
-    let staff = c.staff_of.ensures ∙ ap (λ (R : Register). R.staff) c.in-Ok.ensures.register in
+    let network = c.network_and_staff.ensures.network ∙ c.in-Ok.ensures.network in
+    let staff = c.network_and_staff.ensures.staff ∙ ap (λ (R : Register). R.staff) c.in-Ok.ensures.register in
     subst (λ h. HasCleanDisk (state g.S.Store h) → IsSaved (state g.S.Store h)
     × HasTables (state g.S.Store h).now (tables_of (opening c.args.network c.args.staff)))
     (sym c.over.ensures.store)
@@ -43,8 +43,8 @@ returns-in-Ok-create-clause-made g c =
 
 pub returns-in-Ok-create-clause-crash_made : goal.returns-in-Ok-create-clause-crash_made
 returns-in-Ok-create-clause-crash_made g c =
-    let network = c.network_of.ensures ∙ c.in-Ok.ensures.network in
-    let staff = c.staff_of.ensures ∙ ap (λ (R : Register). R.staff) c.in-Ok.ensures.register in
+    let network = c.network_and_staff.ensures.network ∙ c.in-Ok.ensures.network in
+    let staff = c.network_and_staff.ensures.staff ∙ ap (λ (R : Register). R.staff) c.in-Ok.ensures.register in
     subst (λ h. Survives (state g.S.Store c.args.connection) (state g.S.Store h)
     (λ trees. AreTables trees (tables_of (opening c.args.network c.args.staff))))
     (sym c.over.ensures.store)
@@ -61,8 +61,8 @@ returns-in-Err-clause-none g c = c.in-Err.ensures.none
 
 pub returns-in-Err-clause-crash_none : goal.returns-in-Err-clause-crash_none
 returns-in-Err-clause-crash_none g c =
-    let network = c.network_of.ensures ∙ c.in-Ok.ensures.network in
-    let staff = c.staff_of.ensures ∙ ap (λ (R : Register). R.staff) c.in-Ok.ensures.register in
+    let network = c.network_and_staff.ensures.network ∙ c.in-Ok.ensures.network in
+    let staff = c.network_and_staff.ensures.staff ∙ ap (λ (R : Register). R.staff) c.in-Ok.ensures.register in
     subst (λ (R : Register). Survives (state g.S.Store c.args.connection)
     (state g.S.Store c.in-Err.field-0.connection) (λ trees. AreTables trees (tables_of R)))
     (λ i. opening (network i) (staff i)) c.in-Err.ensures.crash_none
