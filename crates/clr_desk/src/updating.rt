@@ -132,13 +132,13 @@ fn renewal_of(alloc: Global, book: &DeskBook, after: After) -> Result<Renewal, A
         ≡ change_lines (as_changes after.changes)) }
     ensures typed { IfOk result (λ it. IsTyped it.book.register) }
 {
+    let lines = print_changes(alloc, &after.changes)?;
     let After {
         network,
         staff,
         states,
-        changes,
+        changes: _changes,
     } = after;
-    let lines = print_changes(alloc, &changes)?;
     let book = book_with(alloc, book, network, staff, &states)?;
     Ok(Renewal {
         book,
