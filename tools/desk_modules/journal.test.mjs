@@ -6,7 +6,8 @@ import test from "node:test";
 import { ageWords } from "../../desk/page/board/ages.js";
 import { lacking, noteLacking } from "../../desk/page/log/board-lacks.js";
 import { earlier, hasEarlier, isWhole, journal, newest } from "../../desk/page/log/journal.js";
-import { logRows, replyWords, whoWords } from "../../desk/page/log/log-words.js";
+import { sectionsIn } from "../../desk/page/log/log-search.js";
+import { employeesIn, logRows, pointsIn, replyWords, whoWords } from "../../desk/page/log/log-words.js";
 import { isBegun, readBackTo } from "../../desk/page/log/reading-back.js";
 
 const files = new Map(); // path: text, as a proxy serves it
@@ -70,7 +71,7 @@ test("another register's journal is read from its end, and back as far as a reco
 });
 
 test("an update and an archive are entries, between commands and as the last lines of a part", async () => {
-  const none = { come: [], go: [] }, updated = { points: none, sections: { come: [{ name: "X9", source: false }], go: [] }, staff: { come: [{ name: "KIM" }], go: [{ name: "KIM" }, { name: "DALE" }] } };
+  const none = { come: [], go: [] }, updated = { points: { come: [{ name: "S7" }], go: [{ name: "S7" }] }, sections: { come: [{ name: "X9", source: false }], go: [] }, staff: { come: [{ name: "KIM" }], go: [{ name: "KIM" }, { name: "DALE" }] } };
   const changed = (number, what) => `${JSON.stringify({ ...what, number, received: 7000, sum: sum(number, 6000) })}\n`;
   files.clear();
   files.set("journal", first(0, 6000) + changed(1, { updated }) + line(2, 6000));
@@ -87,9 +88,11 @@ test("an update and an archive are entries, between commands and as the last lin
   await newest();
   assert.deepEqual([numbers(), isWhole()], [upTo(6), true]);
   const rows = logRows();
-  assert.deepEqual([rows[0].what, rows[4].what], ["update: section X9 comes, employee KIM changes, employee DALE goes", "update: nothing changes"]);
+  assert.deepEqual([rows[0].what, rows[4].what], ["update: section X9 comes, point S7 changes, employee KIM changes, employee DALE goes", "update: nothing changes"]);
   assert.match(rows[2].what, /^archive of what was closed before /);
   assert.deepEqual([rows[0].id, rows[0].at, whoWords(rows[0].entry), replyWords(rows[0].entry)], [null, 7000, "–", "accepted"]);
+  assert.deepEqual([pointsIn(rows[0]), employeesIn(rows[0]), sectionsIn(rows[0])], [["S7", "S7"], ["KIM", "DALE", "KIM"], ["X9"]]);
+  for (const row of rows) assert.ok([pointsIn(row), employeesIn(row), sectionsIn(row)].every(Array.isArray), row.what);
 });
 
 test("the line of an update that is longer than a piece", async () => {

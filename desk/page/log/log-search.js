@@ -6,7 +6,7 @@ import { wholeTime } from "../shared/moments.js";
 import { network } from "../shared/network.js";
 import { viewOf } from "../shared/watch.js";
 import { journal } from "./journal.js";
-import { employeesIn, pointsIn } from "./log-words.js";
+import { changedNames, employeesIn, pointsIn } from "./log-words.js";
 
 const FIELDS = { clearance: "Clearance", point: "Point", section: "Section", employee: "Employee", login: "Login" };
 const REPLIES = [["", "all"], ["accepted", "accepted"], ["refused", "refused"]];
@@ -24,9 +24,9 @@ function workOf(id) {
 
 // The sections that an entry is about: its own, and those at its points; without any that of its record's work.
 export function sectionsIn(row) {
-  const { section, from, to } = row.entry.command;
+  const { section, from, to, sections } = row.entry.command;
   const atPoints = pointsIn(row).map((name) => network.points.get(name)).filter(Boolean).flatMap((point) => [point.from, point.to]);
-  const own = [section, from, to, ...atPoints].filter(Boolean);
+  const own = [section, from, to, ...atPoints, ...(sections ? changedNames(sections) : [])].filter(Boolean);
   return own.length ? own : [workOf(row.id)].filter(Boolean);
 }
 

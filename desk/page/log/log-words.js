@@ -139,13 +139,20 @@ function foundLive(rows) {
   return [...live.values()];
 }
 
-// The points that an entry is about.
+// The names of the rows of one kind that an update changed.
+export function changedNames(changes) {
+  return [...changes.go, ...changes.come].map(({ name }) => name);
+}
+
+// The points that an entry is about. Those of an update are rows, not names.
 export function pointsIn({ entry, text }) {
   const { command } = entry;
+  if (command.do === "update") return changedNames(command.points);
   return [...(command.points ?? []), ...(command.point ? [command.point] : []), ...[...(command.steps ?? []), ...(text ? [text] : [])].map((one) => one.split(" ")[1])];
 }
 
 // Those whom an entry names.
 export function employeesIn({ entry }) {
+  if (entry.command.do === "update") return changedNames(entry.command.staff);
   return [entry.command.by, entry.command.to, entry.reply.card?.holder].filter(Boolean);
 }
