@@ -35,7 +35,7 @@ import { pointStates } from "./shared/point-states.js";
 import { guardPresses } from "./shared/press-guard.js";
 import { onContact } from "./shared/register.js";
 import { namePage } from "./shared/tab-title.js";
-import { drawAlarms, drawContact, startTop } from "./shared/top.js";
+import { drawAlarms, drawContact, noteDrawn, startTop } from "./shared/top.js";
 import { fromAfar, keepStill } from "./shared/waiting-lists.js";
 import { onRoom, room, startWatch, viewOf, watchAs } from "./shared/watch.js";
 
@@ -178,6 +178,7 @@ function update() {
   learn();
   drawDiagram();
   lookAtChosen();
+  noteDrawn(true);
 }
 
 function speakAs(name) {
@@ -249,6 +250,7 @@ async function start() {
   startSeveral(at("several"), update);
   followNetwork();
   onRoom(() => {
+    noteDrawn(false); // until it is: a fault of the page may come between
     noteRoom(room);
     followLog();
     fromAfar(update);

@@ -11,7 +11,15 @@ import { alarmTab } from "./tab-title.js";
 
 const PERIOD = 500; // milliseconds
 
+const UNDRAWN = "A fault of this page kept it from showing what the register has answered: what is shown may be old. "
+  + "Load the page again; if that does not help, tell whoever keeps this desk.";
+
 const at = (id) => document.getElementById(id);
+let drawn = true; // whether all that the register last answered is shown
+
+export function noteDrawn(all) {
+  drawn = all;
+}
 
 // Since when no answer came, and what is known of it.
 function silentWords() {
@@ -28,9 +36,10 @@ function refusedWords() {
 }
 
 // What is amiss, in the tab's title and at the top; nothing where all is well.
-function troubleWords() {
+export function troubleWords() {
   if (contact.silentSince !== null || !isFresh()) return { tab: "NO ANSWER", text: silentWords() };
   if (contact.trouble) return { tab: "NOTHING GOES THROUGH", text: contact.trouble };
+  if (!drawn) return { tab: "WHAT IS SHOWN MAY BE OLD", text: UNDRAWN };
   if (contact.refused !== null || lacking.entry) return { tab: "503: NO COMMAND IS TAKEN", text: refusedWords() };
   return null;
 }
