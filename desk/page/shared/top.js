@@ -12,7 +12,7 @@ import { alarmTab } from "./tab-title.js";
 const PERIOD = 500; // milliseconds
 
 const UNDRAWN = "A fault of this page kept it from showing what the register has answered: what is shown may be old. "
-  + "Load the page again; if that does not help, tell whoever keeps this desk.";
+  + "Load the page again; if that does not help, report it to whoever keeps this desk.";
 
 const at = (id) => document.getElementById(id);
 let drawn = true; // whether all that the register last answered is shown
