@@ -72,7 +72,7 @@ export class PointsPage {
     const states = this.#desk.states();
     const found = this.#found(states), shown = found.slice(0, MOST_LISTED);
     this.#count.textContent = `${shown.length} of ${found.length} points, as the register had them at ${shortTime(room.network)}.`;
-    panel(this.#rows, [shown.map((state) => [state.point.name, state.position, state.hand, state.holds, state.steps])], () =>
+    panel(this.#rows, [shown.map((state) => [state.point, state.position, state.hand, state.holds, state.steps])], () =>
       table(["Point", "Between", "Marks", "Position", "Normally", "In hand of", "Holds", "Steps left"], shown.map((state) => row(state)), { class: "wide" }));
   }
 }

@@ -54,12 +54,12 @@ export class PointPicker {
     const shown = [...first, ...found.filter((point) => !this.picked.has(point.name))].slice(0, MOST_LISTED);
     this.#count.textContent = shown.length < found.length ? `the first ${shown.length} of ${found.length}` : `${found.length} ${found.length === 1 ? "point" : "points"}`;
     const known = this.#desk.states();
-    const rows = shown.map(({ name }) => [name, this.picked.has(name), known.get(name).position, flagOf(this.#desk, name, this.#own, known)]);
+    const rows = shown.map((point) => [point, this.picked.has(point.name), known.get(point.name).position, flagOf(this.#desk, point.name, this.#own, known)]);
     panel(this.#list, rows, () => rows.map((row) => this.#row(...row)));
   }
 
-  #row(name, picked, position, flag) {
-    const point = this.#network.points.get(name);
+  #row(point, picked, position, flag) {
+    const { name } = point;
     const box = el("input", { type: "checkbox", checked: picked, "data-name": `pick ${name}`, onchange: () => this.toggle(name) });
     return el("li", {}, el("label", {}, box, el("strong", {}, name), ` ${point.from} – ${point.to} `, el("strong", { class: "position" }, position), " ",
       el("span", { class: "hint" }, `marks: ${marksOf(point)}`), " ", flag ? el("span", { class: "flag" }, flag) : null));

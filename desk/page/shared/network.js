@@ -38,6 +38,13 @@ function fillWays() {
   for (const point of network.points.values()) for (const end of [point.from, point.to]) network.ways.get(end)?.push(point);
 }
 
+// All that the diagram and a fence are worked out from: an update may give a point of the same name other ends.
+function shapeOf(known) {
+  const sections = [...network.sections.values()].map(({ name, source }) => (source ? `${name} source` : name));
+  const points = [...network.points.values()].map(({ name, from, to, jumper }) => `${name} ${from} ${to}${jumper ? " jumper" : ""}`);
+  return [known, ...sections, "|", ...points].join(" ");
+}
+
 // Takes what the register has answered.
 export async function takeNetwork({ sections, points, staff }) {
   const normal = await normalPositions();
@@ -45,7 +52,7 @@ export async function takeNetwork({ sections, points, staff }) {
   refill(network.points, points.map((row) => pointOf(row, normal)));
   refill(network.staff, staff.map(({ employee: name, role, supervisor }) => ({ name, role, supervisor })));
   fillWays();
-  network.shape = [normal.known, ...network.sections.keys(), "|", ...network.points.keys()].join(" ");
+  network.shape = shapeOf(normal.known);
 }
 
 export function marksOf(point) {
