@@ -73,13 +73,13 @@ async function pieceOf(file, range) {
   }
 }
 
-// The newest file from its end, at first and where it is another one than before, as after a rotation.
+// The newest file from its end, at first and where it is another one than before, as after a rotation. Whether it was read.
 async function readFromEnd() {
   const answer = await pieceOf(NEWEST, (size) => `-${size}`);
   if (!answer.bytes) {
     journal.state = answer.status === 404 ? "none" : "failed";
     missed = performance.now();
-    return;
+    return false;
   }
   const before = withdrawn;
   withdrawn = new Set();
@@ -89,30 +89,29 @@ async function readFromEnd() {
   Object.assign(journal, { begin, end, last, file: NEWEST, older: null });
   keep([...journal.entries.filter(({ number }) => number < (found[0]?.number ?? Infinity)), ...found]);
   if (!begin && !isWhole()) journal.older = await partFiles();
+  return true;
 }
 
-// What has come to the journal since: the last line counts once its line feed is there.
+// What has come to the journal since: the last line counts once its line feed is there. Whether it was read as far as it
+// goes now; where no answer came, what was read before stays.
 async function readNewest() {
-  if (journal.state !== "read") {
-    if (performance.now() - missed >= AGAIN) await readFromEnd();
-    return;
-  }
+  if (journal.state !== "read") return performance.now() - missed >= AGAIN && readFromEnd();
   const answer = await bytesOf(NEWEST, `${journal.end}-`);
   if (!answer.bytes) {
     missed = performance.now();
     if (answer.status) journal.state = answer.status === 404 ? "none" : "failed";
-    return;
+    return false;
   }
   const isOther = answer.from === null ? answer.size < journal.end : answer.from !== journal.end;
   const { found, end, last, isTorn } = isOther ? { found: [] } : linesOf(answer, true);
   if (isOther || isTorn || (found.length && journal.last && found[0].number !== journal.last.number + 1)) {
-    await readFromEnd();
-    return;
+    return readFromEnd();
   }
   if (answer.bytes.length && end > journal.end) {
     Object.assign(journal, { end, last: last ?? journal.last });
     keep([...journal.entries, ...found]);
   }
+  return true;
 }
 
 // Where a file is read to its beginning, on to the part before it; false where there is none.

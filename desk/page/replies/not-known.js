@@ -4,7 +4,7 @@
 
 import { noteGiven } from "../clearances/steps-given-out.js";
 import { isLacking } from "../log/board-lacks.js";
-import { journal, newest } from "../log/journal.js";
+import { isWhole, journal, newest } from "../log/journal.js";
 import { loginUsed } from "../shared/caller.js";
 import { isNear } from "../shared/clocks.js";
 import { dropDraftOf } from "../shared/drafts.js";
@@ -17,8 +17,7 @@ import { saidOf } from "./command-words.js";
 import { judgeJumper, judgeLogged, judgeNew, judgeRecord } from "./outcome.js";
 import { addReply, changeReply, line, onReplyAct, plainLines, repliesOf } from "./replies.js";
 
-const WAIT = 3000;    // between two looks
-const LOOKS = 1200;   // an hour of looks, then the operator has to look
+const WAIT = 3000; // between two looks
 
 const newestNumber = () => journal.entries.at(-1)?.number ?? 0;
 
@@ -41,13 +40,14 @@ async function newRecords(command, known) {
 async function judgedByBoard(command, known) {
   if (command.do === "jumper") return judgeJumper(command, known.existed, network.points.get(command.point));
   if (!command.clearance) return judgeNew(command, await newRecords(command, known));
-  await lookAt(command.clearance);
-  return judgeRecord(command, known.view, viewOf(command.clearance), boardLine(command.clearance)?.last ?? null);
+  const answer = await lookAt(command.clearance), isShown = answer?.body?.reply === "shown"; // otherwise the view is from before
+  return judgeRecord(command, known.view, isShown ? viewOf(command.clearance) : null, boardLine(command.clearance)?.last ?? null);
 }
 
-// The entries since then; all, where another journal has begun.
+// The entries since then; all, where another journal has begun. Null where some of them are in a part that was not read.
 function entriesSince(number) {
-  return journal.entries.filter((entry) => entry.number > (newestNumber() < number ? 0 : number));
+  const from = newestNumber() < number ? 0 : number, since = journal.entries.filter((entry) => entry.number > from);
+  return isWhole() || journal.entries[0]?.number <= from + 1 ? since : null;
 }
 
 // A second command of one second leaves the record's line as it was. While the register takes no command, one that was
@@ -57,9 +57,9 @@ function lacksUnseen({ command, known, isRefused }) {
 }
 
 async function judgedByLog(asked) {
-  await newest();
-  if (journal.state !== "read") return null;
-  const found = judgeLogged(asked.command, entriesSince(asked.known.number), loginUsed());
+  const isRead = await newest(), entries = isRead ? entriesSince(asked.known.number) : null, login = loginUsed();
+  if (!entries || login === null) return null;
+  const found = judgeLogged(asked.command, entries, login);
   const lacks = found.entry && (isLacking(found.entry, room) || lacksUnseen(asked));
   return lacks ? { ...found, found: "waits", text: `${found.text} The board lacks it.` } : found;
 }
@@ -75,12 +75,8 @@ function pause(milliseconds) {
   return new Promise((settle) => setTimeout(settle, milliseconds));
 }
 
-async function lookUntilAnswered() {
-  for (let looks = 0; looks < LOOKS; looks++) {
-    if (await lookNow()) return true;
-    await pause(WAIT);
-  }
-  return false;
+async function untilAnswered() {
+  while (!(await lookNow())) await pause(WAIT);
 }
 
 // A reply that says so at once.
@@ -103,7 +99,8 @@ export function addRefused(command, known) {
 
 // Looks it up once the register answers.
 export async function lookUp(reply) {
-  if (await lookUntilAnswered() && reply.kind !== "found") await sayFound(reply);
+  await untilAnswered();
+  if (reply.kind !== "found") await sayFound(reply);
 }
 
 const FOUND = {
@@ -147,7 +144,7 @@ function noteCarriedOut({ command, known }, sure) {
 }
 
 async function lookAgain(reply) {
-  await lookNow();
+  await untilAnswered();
   await sayFound(reply);
 }
 

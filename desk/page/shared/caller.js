@@ -11,14 +11,14 @@ const KEPT = "gridclear-caller"; // the name that this tab speaks in, over a rel
 const ROLES = [["operator", "Operators"], ["charge", "May be in charge"], ["field", "Field"]];
 
 const at = (id) => document.getElementById(id);
-let own = { login: "", names: null };
+let own = { login: null, names: null };
 
 export async function readLogin() {
   own = await ownLogin();
   at("believed").textContent = own.names ? `${own.login || "Without a login nobody"} may use these names.` : "The register believes this name.";
 }
 
-// "" without one.
+// "" without one, null where it is not known.
 export function loginUsed() {
   return own.login;
 }

@@ -39,8 +39,8 @@ export async function normalPositions() {
   return normal ?? NOTHING;
 }
 
-// Whose login this is, and the names that it may use: null for all, where there is no list of logins.
+// Whose login this is, null where no answer came; and the names that it may use: null for all, where there is no list of logins.
 export async function ownLogin() {
-  const login = (await text("login")) ?? "", found = await rows("logins", "login,employee");
+  const login = await text("login"), found = await rows("logins", "login,employee");
   return { login, names: found && new Set(found.filter((row) => row.login === login).map(({ employee }) => employee)) };
 }
