@@ -25,8 +25,18 @@ const CHANGES = {
   grant: () => ({}), release: () => ({}), cancel: () => ({}), transfer: () => ({}),
 };
 
-// Null where the command changes what only the register can say.
+const MAKES_ROUND = ["order", "restore"];
+
+// Whether the steps that the view has are those of the record as the reply has it. What is read out may be a LEAVE by now:
+// another desk amends a CLOSE of a restoring order.
+function hasSteps(view, { do: what, step }, { phase, round, steps }) {
+  if (MAKES_ROUND.includes(what)) return true;
+  const mayBeAmended = what === "instruct" && phase === "Restoring" && view.steps[step - 1]?.text.startsWith("CLOSE ");
+  return view.card.round === round && view.steps.length === steps && !mayBeAmended;
+}
+
+// Null where the command changes what only the register can say, or the view is an older one.
 export function viewAfter(view, command, card) {
   const changes = CHANGES[command.do];
-  return changes ? { ...view, ...changes(view, command), card } : null;
+  return changes && hasSteps(view, command, card) ? { ...view, ...changes(view, command), card } : null;
 }
