@@ -212,13 +212,13 @@ export class ClearancePage {
 
   #context(view) {
     const { network, caller, pick, redraw, states } = this.#desk;
-    return { view, network, staff: network.staff, caller, pick, redraw, states, desk: this.#desk, act: (parts) => this.#act(parts) };
+    return { view, network, staff: network.staff, caller, pick, redraw, states, desk: this.#desk, act: (parts) => this.#act(parts, view) };
   }
 
   // After a command that was accepted the heading has the focus, so that a key pressed twice gives no second one; or, in
   // the row of a desk that speaks for several, what is next there.
-  async #act(parts) {
-    const result = await this.#desk.act(parts);
+  async #act(parts, view) {
+    const result = await this.#desk.act(parts, view);
     if (result.accepted) (this.#next.querySelector("[data-goes]") ?? this.#heading).focus();
     return result;
   }

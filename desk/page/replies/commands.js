@@ -10,11 +10,12 @@ import { ask } from "../shared/question.js";
 import { postCommand } from "../shared/register.js";
 import { keepIn, readKept } from "../shared/storage.js";
 import { asOwn } from "../shared/waiting-lists.js";
-import { boardLine, lookAt, lookNow, putView, viewOf } from "../shared/watch.js";
+import { boardLine, isOldView, lookAt, lookNow, putView, viewOf } from "../shared/watch.js";
 import { saidOf } from "./command-words.js";
 import { giveAgain } from "./give-again.js";
 import { addLost, addRefused, knownBefore, lookUp } from "./not-known.js";
 import { addReply, changeReply, onReplyAct, plainLines, repliesOf, replyOf } from "./replies.js";
+import { isStillMeant } from "./still-meant.js";
 
 const FAR = 120;     // seconds off the clock that are asked about
 const PENDING = "gridclear-pending";
@@ -98,8 +99,19 @@ function noteUnsent(command, text) {
   addReply({ kind: "unsent", said: saidOf(command), clearance: command.clearance, lines: plainLines(text) });
 }
 
-// Gives the command; the answer is whether it was accepted, with the clearance's name.
-export async function give(parts) {
+// Why it is not to be sent: the record is another one than its control was made from. Where it was not looked at for a
+// while it is looked at first. Null where it may be sent.
+async function whyNot(command, seen) {
+  const { clearance } = command;
+  if (!clearance || !seen) return null;
+  const answer = isOldView(clearance) ? await asOwn(() => lookAt(clearance)) : null;
+  if (isOldView(clearance)) return `What is shown of ${clearance} is old, and no newer answer came${answer?.why ? `: ${answer.why}` : ""}.`;
+  return isStillMeant(command, seen, viewOf(clearance)) ? null : `${clearance} has changed since this was shown. Look at it, and give the command then.`;
+}
+
+// Gives the command; the answer is whether it was accepted, with the clearance's name. `seen` is the view that its control
+// was made from, if it was made from one.
+export async function give(parts, seen = null) {
   const command = { by: caller, ...parts };
   if (sending) {
     if (Date.now() - since > DOUBLE) noteUnsent(command, "Another command still waits for its reply. Look at the replies, and give this one when that is over.");
@@ -107,6 +119,11 @@ export async function give(parts) {
   }
   noteSending(true);
   try {
+    const why = await whyNot(command, seen);
+    if (why) {
+      noteUnsent(command, why);
+      return { accepted: false };
+    }
     const at = TIMELESS.has(command.do) ? undefined : await momentFor(command);
     if (at === null) {
       noteUnsent(command, "You did not let it be sent. The register is as it was.");
@@ -121,7 +138,7 @@ export async function give(parts) {
 // What is given again is a command of its own: the first is not looked for any more.
 onReplyAct("again", "Give it again", (reply) => {
   changeReply(reply, { kind: "found" });
-  giveAgain(reply.asked.command, give);
+  giveAgain(reply.asked.command, (parts) => give(parts, reply.asked.known.view));
 });
 
 // The command that is under way is kept in the tab's storage, so that a page that is loaded again meanwhile knows of it.

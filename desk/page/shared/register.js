@@ -25,13 +25,18 @@ export function onContact(listener) {
 }
 
 // One clock may stop while the machine sleeps, and the other may be set.
-function moments() {
+export function moments() {
   return [performance.now(), Date.now()];
+}
+
+// Whether it was less than this many milliseconds ago, by both clocks.
+export function isWithin(since, time) {
+  return moments().every((moment, clock) => moment - since[clock] < time);
 }
 
 // Whether an answer came just now; a page that nobody sees asks less often.
 export function isFresh() {
-  return document.hidden || moments().every((moment, clock) => moment - begun[clock] < FRESH);
+  return document.hidden || isWithin(begun, FRESH);
 }
 
 function report() {

@@ -3,12 +3,13 @@
 
 import { now, secondsOfPrinted } from "./moments.js";
 import { takeNetwork } from "./network.js";
-import { getBoard, getNetwork, getView } from "./register.js";
+import { getBoard, getNetwork, getView, isWithin, moments } from "./register.js";
 
 const PERIOD = 3000;      // between two looks at the board
 const HIDDEN = 20000;     // the same while nobody sees the page
 const AT_ONCE = 25;       // views that are asked for in one turn
 const ALL_AGAIN = 10;     // turns after which each view is asked for again
+const OLD = 30000;        // after which a view is looked at before anything is sent by it
 const QUICK = 50;         // milliseconds: a network that is answered in this time is asked for with each board
 
 export const room = {
@@ -24,6 +25,7 @@ export const room = {
 
 const urgent = new Set(); // what has changed, and is to be asked for first
 const stale = new Set();  // what may have
+const answered = new Map(); // id: when its view last came, by two clocks
 const listeners = [];
 let caller = null;
 let chosen = null;
@@ -94,6 +96,11 @@ function keepView(id, view) {
   if (over) room.views.delete(id);
 }
 
+// Whether its view is one from before a while, as after a sleep of the machine.
+export function isOldView(id) {
+  return !answered.has(id) || !isWithin(answered.get(id), OLD);
+}
+
 // What an accepted command has made of a view, until the register is asked for it.
 export function putView(view) {
   const { clearance } = view.card;
@@ -107,7 +114,10 @@ async function readView(id) {
   if (answer.kind !== "answered") return answer;
   urgent.delete(id);
   stale.delete(id);
-  if (answer.body.reply === "shown") keepView(id, answer.body.view);
+  if (answer.body.reply === "shown") {
+    keepView(id, answer.body.view);
+    answered.set(id, moments());
+  }
   room.barred = answer.body.fault === "NotCaller" ? by : null;
   return answer;
 }
