@@ -118,7 +118,7 @@ function idleWords(view, caller) {
 }
 
 export class ClearancePage {
-  #desk; #id; #made = new Map(); #missing = false; #tall = 0;
+  #desk; #id; #made = new Map(); #missing = false; #known = false; #tall = 0;
   #card = el("div", { class: "card-place" }); #reading = el("div"); #next = el("div", { class: "next-body" }); #others = el("div"); #steps = el("div", { class: "steps-place" }); #facts = el("div", { class: "facts-place" }); #way = el("div", { class: "way-place" }); #story;
   #heading = el("h3", { tabindex: -1, id: "next" }, "Next");
   title;
@@ -151,11 +151,10 @@ export class ClearancePage {
   update() {
     const view = viewOf(this.#id);
     if (!view) {
-      const text = this.#missing ? "The register has no clearance or switch order of this name."
-        : this.#desk.caller ? "Asking the register…" : "Say who you are, above: the register shows clearances to a name of the staff.";
-      panel(this.#card, text, () => el("p", {}, text));
+      this.#drawNone();
       return;
     }
+    this.#known = true;
     askLastMoment(view, () => this.update());
     panel(this.#card, [view.card, view.work, view.crews, lastMoment(this.#id)], () => card(view, this.#desk.network.staff));
     this.#drawNext(view);
@@ -164,6 +163,16 @@ export class ClearancePage {
     panel(this.#way, view.card.phase === "Closed", () => (view.card.phase === "Closed" ? [] : [wayBackOf(this.#id)]));
     this.#story.draw();
     panel(this.#facts, [view.points, view.holds, view.fence, view.crews, view.card, liveIn(view.fence)], () => facts(view));
+  }
+
+  // Without a view nothing of an older one is left.
+  #drawNone() {
+    const text = this.#missing || this.#known ? "The register has no clearance or switch order of this name."
+      : this.#desk.caller ? "Asking the register…" : "Say who you are, above: the register shows clearances to a name of the staff.";
+    panel(this.#card, text, () => el("p", {}, text));
+    if (!this.#known) return;
+    this.#reading.replaceChildren();
+    for (const place of [this.#next, this.#others, this.#steps, this.#facts, this.#way]) panel(place, "none", () => []);
   }
 
   #drawNext(view) {

@@ -54,10 +54,10 @@ export function showCaller(row) {
   drawNameless(row);
 }
 
-// Without a name, or in one that this login may not use, no clearance is read, and so no alarm.
+// Without a name, or in one that this login may not use or the staff has no more, no clearance is read, and so no alarm.
 export function drawNameless(row) {
   const node = at("nameless");
   node.hidden = Boolean(row) && room.barred !== row.name;
   const alarms = journal.state === "read" ? "the alarms of the log, and its own" : "no alarms but its own";
-  node.textContent = row ? `⚠ Your login may not speak as ${row.name}: choose another name.` : `⚠ No name is chosen: this desk shows ${alarms}.`;
+  node.textContent = row ? `⚠ The register shows no clearance to ${row.name}: choose another name. What is shown of clearances is old.` : `⚠ No name is chosen: this desk shows ${alarms}.`;
 }

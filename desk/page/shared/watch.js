@@ -20,7 +20,7 @@ export const room = {
   views: new Map(),     // what is on the board: id to view
   closed: new Map(),    // what is over: id to view
   network: null,        // when the network was answered
-  barred: null,         // a name that this login may not use
+  barred: null,         // a name that this login may not use, or the staff has no more
 };
 
 const urgent = new Set(); // what has changed, and is to be asked for first
@@ -93,7 +93,12 @@ function keepBoard(text) {
 function keepView(id, view) {
   const over = view.card.phase === "Closed";
   (over ? room.closed : room.views).set(id, view);
-  if (over) room.views.delete(id);
+  (over ? room.views : room.closed).delete(id);
+}
+
+// A register that was restored may not have a record any more.
+function forget(id) {
+  for (const kept of [room.views, room.closed, answered]) kept.delete(id);
 }
 
 // Whether its view is one from before a while, as after a sleep of the machine.
@@ -111,14 +116,15 @@ export function putView(view) {
 
 async function readView(id) {
   const by = caller, answer = await getView(by, id);
-  if (answer.kind !== "answered") return answer;
+  if (answer.kind !== "answered" || answer.status === 503) return answer;
   urgent.delete(id);
   stale.delete(id);
   if (answer.body.reply === "shown") {
     keepView(id, answer.body.view);
     answered.set(id, moments());
   }
-  room.barred = answer.body.fault === "NotCaller" ? by : null;
+  if (answer.body.refusal === "UNKNOWN_CLEARANCE") forget(id);
+  room.barred = answer.body.fault === "NotCaller" || answer.body.refusal === "UNKNOWN_CALLER" ? by : null;
   return answer;
 }
 

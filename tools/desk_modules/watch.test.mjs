@@ -1,0 +1,60 @@
+// What the page keeps of the register's answers, where the register is another one by now, or did not answer.
+
+import assert from "node:assert/strict";
+import test from "node:test";
+
+globalThis.document = { hidden: false };
+const wait = globalThis.setTimeout;
+globalThis.setTimeout = (...parts) => wait(...parts).unref(); // the watch goes on for ever
+
+const { lookAt, lookNow, room, viewOf, watchAs } = await import("../../desk/page/shared/watch.js");
+
+const viewWith = (phase) => ({ card: { clearance: "KIM/1", phase, holder: "KIM", round: 0, done: 0, steps: 0 }, crews: [], fence: [], holds: [], points: [], work: "L2", steps: [] });
+const row = (phase, time) => `${"KIM/1".padEnd(29)} ${phase.padEnd(9)} ${"L2".padEnd(24)} 2026-11-24 ${time} +00:00 KIM\n`;
+
+let board = row("Granted", "07:00:00"), shown = { reply: "shown", view: viewWith("Granted") }, status = 200;
+globalThis.fetch = async (path) => {
+  if (path === "board") return new Response(`head\n${board}`, { headers: { "Content-Type": "text/plain" } });
+  if (path === "network") return Response.json({ sections: [], points: [], staff: [] });
+  return path.startsWith("clearance/") ? Response.json(shown, { status }) : new Response("", { status: 404 });
+};
+
+await lookNow();
+watchAs("NG");
+await lookNow();
+
+test("a view that was answered with 503 is asked for again", async () => {
+  board = row("Released", "07:01:00");
+  [shown, status] = [{ fault: "Unavailable" }, 503];
+  await lookNow();
+  assert.equal(viewOf("KIM/1").card.phase, "Granted");
+  [shown, status] = [{ reply: "shown", view: viewWith("Released") }, 200];
+  await lookNow();
+  assert.equal(viewOf("KIM/1").card.phase, "Released");
+});
+
+test("a record that is open again, in a register that was restored, is no longer over", async () => {
+  board = "";
+  shown = { reply: "shown", view: viewWith("Closed") };
+  await lookNow();
+  assert.deepEqual([room.views.size, viewOf("KIM/1").card.phase], [0, "Closed"]);
+  board = row("Granted", "07:00:00");
+  shown = { reply: "shown", view: viewWith("Granted") };
+  await lookNow();
+  assert.deepEqual([room.closed.size, viewOf("KIM/1").card.phase], [0, "Granted"]);
+});
+
+test("a record that the register does not have any more is not shown", async () => {
+  board = "";
+  shown = { reply: "refused", refusal: "UNKNOWN_CALLER", number: 1 };
+  await lookNow();
+  assert.deepEqual([viewOf("KIM/1").card.phase, room.barred], ["Granted", "NG"]);
+  shown = { reply: "refused", refusal: "UNKNOWN_CLEARANCE", number: 5 };
+  await lookNow();
+  assert.equal(viewOf("KIM/1"), undefined);
+  shown = { reply: "shown", view: viewWith("Closed") };
+  await lookAt("KIM/1");
+  shown = { reply: "refused", refusal: "UNKNOWN_CLEARANCE", number: 5 };
+  await lookAt("KIM/1");
+  assert.equal(viewOf("KIM/1"), undefined);
+});
