@@ -10,7 +10,7 @@ import { ask } from "../shared/question.js";
 import { postCommand } from "../shared/register.js";
 import { keepIn, readKept } from "../shared/storage.js";
 import { asOwn } from "../shared/waiting-lists.js";
-import { boardLine, isOldView, lookAt, lookNow, putView, viewOf } from "../shared/watch.js";
+import { boardLine, isOldView, lookAt, lookNow, putView, room, viewOf } from "../shared/watch.js";
 import { saidOf } from "./command-words.js";
 import { giveAgain } from "./give-again.js";
 import { addLost, addRefused, knownBefore, lookUp } from "./not-known.js";
@@ -172,7 +172,7 @@ async function send(command) {
 }
 
 function noteUnknown(command, { kind, why }, known) {
-  noteTest(command, false);
+  noteTest(command, false, room);
   return kind === "lost" ? addLost(command, why, known) : addRefused(command, known);
 }
 
@@ -196,6 +196,6 @@ function showAccepted(command, card) {
 
 function noteAccepted(command, card) {
   if (command.do === "instruct") noteGiven({ ...command, round: card.round }, isNear(command.at));
-  noteTest(command, true);
+  noteTest(command, true, room);
   dropDraftOf(command);
 }

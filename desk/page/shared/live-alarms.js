@@ -31,9 +31,10 @@ export function onAlarmElsewhere(listener) {
   });
 }
 
-// A test that this page has given: accepted, or without a reply.
-export function noteTest({ do: what, clearance: id, section, dead }, accepted) {
+// A test that this page has given: accepted, or without a reply. The views that came before its reply say nothing of it.
+export function noteTest({ do: what, clearance: id, section, dead }, accepted, room) {
   if (what !== "test" || (dead && !accepted)) return;
+  noteRoom(room);
   const key = `${id} ${section}`;
   if (dead) {
     own.delete(key);
