@@ -9,6 +9,8 @@ globalThis.setTimeout = (...parts) => wait(...parts).unref(); // the watch goes 
 
 const { lookAt, lookNow, room, viewOf, watchAs } = await import("../../desk/page/shared/watch.js");
 
+const { recordRows } = await import("../../desk/page/board/board-page.js");
+
 const viewWith = (phase) => ({ card: { clearance: "KIM/1", phase, holder: "KIM", round: 0, done: 0, steps: 0 }, crews: [], fence: [], holds: [], points: [], work: "L2", steps: [] });
 const row = (phase, time) => `${"KIM/1".padEnd(29)} ${phase.padEnd(9)} ${"L2".padEnd(24)} 2026-11-24 ${time} +00:00 KIM\n`;
 
@@ -57,4 +59,13 @@ test("a record that the register does not have any more is not shown", async () 
   shown = { reply: "refused", refusal: "UNKNOWN_CLEARANCE", number: 5 };
   await lookAt("KIM/1");
   assert.equal(viewOf("KIM/1"), undefined);
+});
+
+test("a record that was not read is no record without work on the sheet of a hand-over", async () => {
+  board = row("Granted", "07:02:00");
+  await lookNow();
+  assert.deepEqual(recordRows()[0].slice(0, 5), ["KIM/1", "Granted", "L2", "not read", "not read"]);
+  shown = { reply: "shown", view: { ...viewWith("Granted"), crews: ["C1"] } };
+  await lookAt("KIM/1");
+  assert.deepEqual(recordRows()[0].slice(3, 5), ["no steps", "crews C1"]);
 });

@@ -41,12 +41,14 @@ function workWords(view) {
   ];
 }
 
+// Its steps and its work on paper, where an empty place says that there is no work.
+function paperWords(view) {
+  return view ? [stepsWords(view), workWords(view).map(([, text]) => text).join("; ")] : ["not read", "not read"];
+}
+
 // Each record in words, as its row on paper.
 export function recordRows() {
-  return room.board.map((row) => {
-    const view = viewOf(row.id);
-    return [row.id, row.phase, row.work === "-" ? "switch order" : row.work, stepsWords(view), workWords(view).map(([, text]) => text).join("; "), row.holder, shortTime(row.last)];
-  });
+  return room.board.map((row) => [row.id, row.phase, row.work === "-" ? "switch order" : row.work, ...paperWords(viewOf(row.id)), row.holder, shortTime(row.last)]);
 }
 
 function boardRow(row, staff, chosen) {
