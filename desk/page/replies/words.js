@@ -51,7 +51,7 @@ export function stateWord(state) {
 
 const PHASES = {
   Requested: "asked for, nothing done", Ordered: "isolating steps are being done", Granted: "the holder has the line",
-  Released: "given back, still isolated", Restoring: "restoring steps are being done",
+  Released: "given back, not restored yet", Restoring: "restoring steps are being done",
   Switching: "switch order, steps are being done", Closed: "over",
 };
 
