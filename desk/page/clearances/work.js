@@ -16,7 +16,7 @@ function crewWords(view) {
 async function testedLive(view, section, give) {
   const { clearance } = view.card;
   const answer = await ask(`${section}: tested live?`, [
-    `It was found live: its test is taken away, and every desk that has a name shows an alarm until it is tested dead or ${clearance} is released.`,
+    `It was found live: its test, if it has one, is taken away. Each desk with a log shows an alarm until it is tested dead or ${clearance} is released; another may show none, so say it on the line too.`,
     crewWords(view),
   ], [["yes", `${section} is live`], [null, "Do not send it"]]);
   if (answer === "yes") await give({ do: "test", dead: false });
