@@ -1,4 +1,5 @@
-// The words of each command, what is shown after one, what the board lacks of the log, who is offered what, and the title of the tab.
+// The words of each command, what is shown after one, what the board lacks of the log, who is offered what, who gives at a
+// desk that speaks for several, and the title of the tab.
 
 import assert from "node:assert/strict";
 import { readFileSync } from "node:fs";
@@ -6,6 +7,7 @@ import test from "node:test";
 
 import { viewAfter } from "../../desk/page/clearances/after-command.js";
 import { momentInOrder } from "../../desk/page/clearances/last-moment.js";
+import { giverUnder, keepGiver } from "../../desk/page/clearances/several-names.js";
 import { offersOf } from "../../desk/page/clearances/offers.js";
 import { isLacking } from "../../desk/page/log/board-lacks.js";
 import { COMMANDS } from "../../desk/page/replies/command-words.js";
@@ -68,4 +70,12 @@ test("the title of the tab", () => {
 test("the last moment of a printed order", () => {
   assert.equal(momentInOrder("ORDER KIM/1 ROUND 1\nLAST 2026-11-24 07:02:00 +00:00\n  1 OPEN S1"), 1795503720);
   assert.equal(momentInOrder("none"), null);
+});
+
+test("nobody gives in a name that was chosen before another came to the top", () => {
+  assert.equal(giverUnder("NG"), "NG");
+  keepGiver("DISP2", "NG");
+  assert.deepEqual([giverUnder("NG"), giverUnder("BERT")], ["DISP2", "BERT"]);
+  keepGiver("", "NG");
+  assert.equal(giverUnder("NG"), "");
 });

@@ -12,7 +12,8 @@ import { heardInput, repeatAs } from "./steps.js";
 const KEPT = "gridclear-several";
 const PARTS = { Waiting: "giver", Instructed: "hearer", Repeated: "reporter" };
 
-// Whether the desk speaks for several, who gives, and by clearance who hears and reports: { on, giver, fields }.
+// Whether the desk speaks for several, who gives while whose name is at the top, and by clearance who hears and reports:
+// { on, giver: { name, top }, fields }.
 const kept = readKept("sessionStorage", KEPT) ?? {};
 
 function keep(changes) {
@@ -44,6 +45,16 @@ function nameChoice(part, names, chosen, keepName) {
   return choice([["", "choose"], ...names.map((name) => [name, name])], { "data-name": part, onchange: (event) => keepName(event.target.value) }, known);
 }
 
+export function keepGiver(name, top) {
+  keep({ giver: { name, top } });
+}
+
+// Who gives: once another name is at the top, as after a hand-over, nobody gives in the name that was chosen before it.
+export function giverUnder(top) {
+  const { giver } = kept;
+  return giver && giver.top === top ? giver.name : top;
+}
+
 // Those in the field are others at another record: a name that was chosen there is not chosen here.
 function fieldNames(clearance) {
   const own = kept.fields?.[clearance] ?? {};
@@ -54,7 +65,7 @@ function nameChoices(clearance, step, staff, caller) {
   const operators = namesOfRole(staff, "operator").filter(mayUse), fields = namesOfRole(staff, "field").filter(mayUse);
   const known = fieldNames(clearance);
   return {
-    giver: nameChoice("giver", operators, kept.giver ?? caller?.name, (name) => keep({ giver: name })),
+    giver: nameChoice("giver", operators, giverUnder(caller?.name), (name) => keepGiver(name, caller?.name)),
     hearer: nameChoice("hearer", fields, known.hearer, known.keepName("hearer")),
     reporter: nameChoice("reporter", fields, step.reader ?? known.hearer, known.keepName("reporter")),
   };
