@@ -1,17 +1,19 @@
 // Speaking to the register: one request at a time, in turn, each once. What comes back is one of
 //   { kind: "answered", status, body }   the register has answered; body is its JSON, or text
 //   { kind: "barred", status }           the proxy did not pass it on
-//   { kind: "lost", why }                nobody knows: no answer, or a proxy's word that there was none
+//   { kind: "lost", why, status }        nobody knows: no answer, or a proxy's word that there was none, with its status
 
 import { noteDate } from "./clocks.js";
 import { now, shortTime } from "./moments.js";
 
 const FRESH = 6000;     // milliseconds for which an answer shows that the register answers
+const NONE = 502;       // the proxy's status where no register is there
 const PATIENCE = 15000; // the proxy gives up after 10 seconds, and says so
 
 // When the register last answered, and when it first did not since then; null: it answers. Trouble is what it, or the
 // proxy, answers in place of what was asked. Refused is when a command was last answered with 503; null: it takes commands.
-export const contact = { answered: null, silentSince: null, why: "", trouble: "", refused: null };
+// Ended: the proxy has found none since its last answer.
+export const contact = { answered: null, silentSince: null, why: "", trouble: "", refused: null, ended: false };
 
 let leaving = false; // whether the page is being left: its requests are ended then
 globalThis.addEventListener?.("beforeunload", () => { leaving = true; });
@@ -47,6 +49,7 @@ function noteAnswer(answer) {
   if (answer.kind === "lost") {
     contact.silentSince = contact.silentSince ?? now();
     contact.why = answer.why;
+    contact.ended ||= answer.status === NONE;
   } else {
     if (answer.kind === "answered") noteContact();
     contact.silentSince = null;
@@ -55,11 +58,12 @@ function noteAnswer(answer) {
   report();
 }
 
-// After a silence it was started again, and decides then what it could not carry out.
+// One that had ended was started again, and has decided what it could not carry out. An answer that was lost shows no end.
 function noteContact() {
   contact.answered = now();
   begun = moments();
-  if (contact.silentSince !== null) contact.refused = null;
+  if (contact.ended) contact.refused = null;
+  contact.ended = false;
 }
 
 // Since when it takes no command; null where it does.
@@ -91,7 +95,7 @@ function judged(status, type, text) {
   const printed = status === 200 && type.includes("text/plain");
   if (printed || body?.reply || body?.fault || body?.sections) return { kind: "answered", status, body };
   if (status >= 400 && status < 500) return { kind: "barred", status };
-  return { kind: "lost", why: `the proxy said ${status}${text.includes("<title>") ? titleOf(text) : ""}` };
+  return { kind: "lost", status, why: `the proxy said ${status}${text.includes("<title>") ? titleOf(text) : ""}` };
 }
 
 function titleOf(text) {
