@@ -7,17 +7,21 @@ globalThis.document = { hidden: false };
 const wait = globalThis.setTimeout;
 globalThis.setTimeout = (...parts) => wait(...parts).unref(); // the watch goes on for ever
 
-const { lookAt, lookNow, room, viewOf, watchAs } = await import("../../desk/page/shared/watch.js");
+const { choose, lookAt, lookNow, room, viewOf, watchAs } = await import("../../desk/page/shared/watch.js");
 
+const { network } = await import("../../desk/page/shared/network.js");
 const { recordRows } = await import("../../desk/page/board/board-page.js");
 
 const viewWith = (phase) => ({ card: { clearance: "KIM/1", phase, holder: "KIM", round: 0, done: 0, steps: 0 }, crews: [], fence: [], holds: [], points: [], work: "L2", steps: [] });
 const row = (phase, time) => `${"KIM/1".padEnd(29)} ${phase.padEnd(9)} ${"L2".padEnd(24)} 2026-11-24 ${time} +00:00 KIM\n`;
 
-let board = row("Granted", "07:00:00"), shown = { reply: "shown", view: viewWith("Granted") }, status = 200;
+let board = row("Granted", "07:00:00"), shown = { reply: "shown", view: viewWith("Granted") }, status = 200, sections = [], late = 0;
 globalThis.fetch = async (path) => {
   if (path === "board") return new Response(`head\n${board}`, { headers: { "Content-Type": "text/plain" } });
-  if (path === "network") return Response.json({ sections: [], points: [], staff: [] });
+  if (path === "network") {
+    if (late) await new Promise((settle) => { wait(settle, late); });
+    return Response.json({ sections, points: [], staff: [] });
+  }
   return path.startsWith("clearance/") ? Response.json(shown, { status }) : new Response("", { status: 404 });
 };
 
@@ -68,4 +72,25 @@ test("a record that was not read is no record without work on the sheet of a han
   shown = { reply: "shown", view: { ...viewWith("Granted"), crews: ["C1"] } };
   await lookAt("KIM/1");
   assert.deepEqual(recordRows()[0].slice(3, 5), ["no steps", "crews C1"]);
+});
+
+test("a second command of one second, which leaves the line as it was, is seen with the next board", async () => {
+  board = row("Granted", "07:03:00");
+  shown = { reply: "shown", view: { ...viewWith("Granted"), crews: ["C1"] } };
+  await lookNow();
+  shown = { reply: "shown", view: { ...viewWith("Granted"), crews: ["C1", "C2"] } };
+  await lookNow();
+  assert.deepEqual(viewOf("KIM/1").crews, ["C1", "C2"]);
+});
+
+test("the network is asked for where the chosen record has changed, though the board has not and it takes long", async () => {
+  late = 60;
+  choose("KIM/1");
+  for (let turn = 0; turn < 3; turn++) await lookNow();
+  sections = [{ section: "L2", source: false, live: false, holds: [] }];
+  await lookNow();
+  assert.equal(network.sections.size, 0);
+  shown = { reply: "shown", view: { ...viewWith("Granted"), crews: [] } };
+  for (let turn = 0; turn < 2; turn++) await lookNow();
+  assert.equal(network.sections.size, 1);
 });

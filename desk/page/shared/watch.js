@@ -32,7 +32,8 @@ let chosen = null;
 let timer = null;
 let running = null;
 let shown = "";        // the board at which the network was last asked for
-let settled = false;   // whether that board was the same one look before
+let settled = false;   // whether that board was the same one look before, and the chosen record since then
+let lately = [];       // the records whose lines the last board had changed
 let slow = 0;          // how long the network took then
 
 export function onRoom(listener) {
@@ -86,8 +87,10 @@ function keepBoard(text) {
   const changed = room.board.filter((row) => before.get(row.id) !== row.line).map((row) => row.id);
   const gone = [...room.views.keys()].filter((id) => !present.has(id));
   for (const id of [...changed, ...gone]) urgent.add(id);
+  for (const id of lately) if (present.has(id)) stale.add(id); // two commands of one second leave its line as it was
+  lately = changed;
   if (changed.length || gone.length || room.turns % ALL_AGAIN === 0) for (const id of present) stale.add(id);
-  if (chosen && present.has(chosen)) stale.add(chosen); // two commands of one second leave its line as it was
+  if (chosen && present.has(chosen)) stale.add(chosen);
 }
 
 function keepView(id, view) {
@@ -120,6 +123,7 @@ async function readView(id) {
   urgent.delete(id);
   stale.delete(id);
   if (answer.body.reply === "shown") {
+    if (id === chosen && JSON.stringify(viewOf(id)) !== JSON.stringify(answer.body.view)) settled = false;
     keepView(id, answer.body.view);
     answered.set(id, moments());
   }
@@ -129,7 +133,7 @@ async function readView(id) {
 }
 
 // The network may have changed where the board has, and once more after that, since two commands of one second leave it as
-// it was. Further it is asked for with each board, or with some of them where that takes long.
+// it was; and where the chosen record has, whose commands may all have one moment. Further it is asked for with each board, or with some of them where that takes long.
 async function readNetwork(text) {
   const isSame = text === shown;
   if (isSame && settled && room.network !== null && slow > QUICK && room.turns % ALL_AGAIN) return;
