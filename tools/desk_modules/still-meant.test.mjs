@@ -8,7 +8,7 @@ globalThis.window = {}; // nothing is kept
 const wait = globalThis.setTimeout;
 globalThis.setTimeout = (...parts) => wait(...parts).unref(); // the watch goes on for ever
 
-const { give, setCaller } = await import("../../desk/page/replies/commands.js");
+const { give, setCaller, setMomentField } = await import("../../desk/page/replies/commands.js");
 const { repliesOf } = await import("../../desk/page/replies/replies.js");
 const { isStillMeant } = await import("../../desk/page/replies/still-meant.js");
 const { lookAt, lookNow, viewOf, watchAs } = await import("../../desk/page/shared/watch.js");
@@ -75,4 +75,12 @@ test("where it is as it was the command is sent", async () => {
   sleep();
   assert.equal((await give(INSTRUCT, seen)).accepted, true);
   assert.deepEqual(sent.map(({ do: what, step, by }) => [what, step, by]), [["instruct", 1, "NG"]]);
+});
+
+test("with a moment that is half written nothing is sent: a browser has no value of it", async () => {
+  sent = [];
+  setMomentField({ value: "", validity: { badInput: true } });
+  await give(INSTRUCT, viewOf("KIM/1"));
+  assert.deepEqual([sent, /half written/.test(unsent()[0])], [[], true]);
+  setMomentField(null);
 });

@@ -15,9 +15,9 @@ function findingsOf(desk, view, step) {
 
 // Sends the instruct, after a question where something is in its way.
 export async function instruct(desk, view, step, act, by = {}) {
-  const found = [{ text: step.text, found: findingsOf(desk, view, step) }];
-  if (!(await mayGo(`Before step ${step.number} is given out`, found, "Give it out"))) return null;
-  return act({ do: "instruct", clearance: view.card.clearance, step: step.number, ...by });
+  const found = [{ text: step.text, found: findingsOf(desk, view, step) }], { clearance } = view.card;
+  if (!(await mayGo(`Before step ${step.number} of ${clearance} is given out`, found, "Give it out"))) return null;
+  return act({ do: "instruct", clearance, step: step.number, ...by });
 }
 
 // What is in the way of the present step, kept up to date.

@@ -41,7 +41,7 @@ function differenceWords(said, typed) {
 export async function repeatAs(view, step, text, act, by = {}) {
   if (text !== step.text) {
     const answer = await ask("The repeat differs", [
-      `The step says: ${step.text}`, `You typed: ${text || "nothing"}`, differenceWords(step.text, text),
+      `Step ${step.number} of ${view.card.clearance} says: ${step.text}`, `You typed: ${text || "nothing"}`, differenceWords(step.text, text),
     ], [["send", "Send it as typed"], [null, "Correct it"]]);
     if (answer !== "send") return null;
   }

@@ -20,6 +20,7 @@ import { isStillMeant } from "./still-meant.js";
 const FAR = 120;     // seconds off the clock that are asked about
 const PENDING = "gridclear-pending";
 const TIMELESS = new Set(["jumper"]); // commands without a moment
+const HALF = "The moment at the top is half written. Complete it, or use the clock.";
 const DOUBLE = 1000; // milliseconds within which a second press is none
 
 let caller = null;
@@ -99,10 +100,11 @@ function noteUnsent(command, text) {
   addReply({ kind: "unsent", said: saidOf(command), clearance: command.clearance, lines: plainLines(text) });
 }
 
-// Why it is not to be sent: the record is another one than its control was made from. Where it was not looked at for a
-// while it is looked at first. Null where it may be sent.
+// Why it is not to be sent: its moment is none yet, or the record is another one than its control was made from. Where it was
+// not looked at for a while it is looked at first. Null where it may be sent.
 async function whyNot(command, seen) {
   const { clearance } = command;
+  if (!TIMELESS.has(command.do) && momentField?.validity?.badInput) return HALF;
   if (!clearance || !seen) return null;
   const answer = isOldView(clearance) ? await asOwn(() => lookAt(clearance)) : null;
   if (isOldView(clearance)) return `What is shown of ${clearance} is old, and no newer answer came${answer?.why ? `: ${answer.why}` : ""}.`;
