@@ -171,6 +171,8 @@ export class ClearancePage {
       : this.#desk.caller ? "Asking the register…" : "Say who you are, above: the register shows clearances to a name of the staff.";
     panel(this.#card, text, () => el("p", {}, text));
     if (!this.#known) return;
+    if (this.#made.size) this.#desk.pick(null);
+    this.#made = new Map();
     this.#reading.replaceChildren();
     for (const place of [this.#next, this.#others, this.#steps, this.#facts, this.#way]) panel(place, "none", () => []);
   }

@@ -2,7 +2,7 @@
 // works here. It is asked for at the start and whenever the board has changed, and kept in the same maps all the time,
 // since a jumper may come.
 
-import { normalPositions } from "./served-files.js";
+import { forgetNormal, normalPositions } from "./served-files.js";
 
 export const network = {
   sections: new Map(), // name: { name, source, live, holds }
@@ -45,8 +45,13 @@ function shapeOf(known) {
   return [known, ...sections, "|", ...points].join(" ");
 }
 
+let ends = ""; // the points as they were last answered, with their ends
+
 // Takes what the register has answered.
 export async function takeNetwork({ sections, points, staff }) {
+  const now = JSON.stringify(points.map(({ point, from, to }) => [point, from, to]));
+  if (now !== ends) forgetNormal();
+  ends = now;
   const normal = await normalPositions();
   refill(network.sections, sections.map(sectionOf));
   refill(network.points, points.map((row) => pointOf(row, normal)));

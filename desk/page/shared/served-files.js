@@ -1,10 +1,12 @@
 // Files that the proxy serves where they are there: the points file, whose positions are the normal ones, and the list of
 // logins. Names have no comma, no quote and no blank, so a field is what lies between two commas.
 
+const PATIENCE = 15000; // milliseconds: the watch over the register waits for it
+
 // The text of a file: empty where it is not there, null where no answer came.
 async function text(path) {
-  const answer = await fetch(path, { cache: "no-store" }).catch(() => null);
-  if (answer?.ok) return answer.text();
+  const answer = await fetch(path, { cache: "no-store", signal: AbortSignal.timeout(PATIENCE) }).catch(() => null);
+  if (answer?.ok) return answer.text().catch(() => null);
   return answer && answer.status < 500 ? "" : null;
 }
 
@@ -28,6 +30,11 @@ function normalIn(found) {
     return row && row.from === from && row.to === to && ["open", "closed"].includes(row.position) ? row.position : null;
   };
   return { known: true, of };
+}
+
+// Of another network: an update gives the points that have come with it their normal positions.
+export function forgetNormal() {
+  normal = null;
 }
 
 // Normal positions, by the points file that the register was made from: { known, of(name, from, to) }. Asked for once, and
