@@ -10,7 +10,7 @@ import { watchGiven } from "./clearances/steps-given-out.js";
 import { Diagram, MOST_DRAWN } from "./diagram/diagram.js";
 import { NetList } from "./diagram/network-list.js";
 import { PointsPage } from "./diagram/points-page.js";
-import { noteLacking } from "./log/board-lacks.js";
+import { dueOn, noteLacking } from "./log/board-lacks.js";
 import { journal, newest } from "./log/journal.js";
 import { LogPage } from "./log/log-page.js";
 import { readBackTo } from "./log/reading-back.js";
@@ -210,8 +210,8 @@ let logged = 0;
 async function followLog() {
   if (logged === room.turns) return;
   logged = room.turns;
-  noteLacking();
-  await updatedBy(newest);
+  const due = dueOn(room);
+  await updatedBy(async () => { noteLacking(await newest() ? due : null); });
   lookUpOpen();
   const granted = room.board.filter(({ phase }) => phase === "Granted").map(({ id }) => id);
   await updatedBy(() => readBackTo(granted)); // for what was found live there

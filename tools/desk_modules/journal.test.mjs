@@ -4,7 +4,7 @@ import assert from "node:assert/strict";
 import test from "node:test";
 
 import { ageWords } from "../../desk/page/board/ages.js";
-import { lacking, noteLacking } from "../../desk/page/log/board-lacks.js";
+import { dueOn, lacking, noteLacking } from "../../desk/page/log/board-lacks.js";
 import { earlier, hasEarlier, isWhole, journal, newest } from "../../desk/page/log/journal.js";
 import { sectionsIn } from "../../desk/page/log/log-search.js";
 import { employeesIn, logRows, pointsIn, replyWords, whoWords } from "../../desk/page/log/log-words.js";
@@ -80,8 +80,7 @@ test("an update and an archive are entries, between commands and as the last lin
   files.set("journal", files.get("journal") + changed(3, { archived: { before: 6000 } }) + line(4, 6000) + changed(5, { updated: { points: none, sections: none, staff: none } }));
   await newest();
   assert.deepEqual([numbers(), isWhole(), journal.last.number], [upTo(5), true, 5]);
-  noteLacking();
-  noteLacking();
+  for (let board = 0; board < 2; board++) noteLacking(dueOn({ board: [], jumpers: [] }));
   assert.equal(lacking.entry, null);
   files.set("journals/journal-2026-01-01T000000Z", files.get("journal"));
   files.set("journal", first(5, 6000) + line(6, 6000));
@@ -93,6 +92,27 @@ test("an update and an archive are entries, between commands and as the last lin
   assert.deepEqual([rows[0].id, rows[0].at, whoWords(rows[0].entry), replyWords(rows[0].entry)], [null, 7000, "–", "accepted"]);
   assert.deepEqual([pointsIn(rows[0]), employeesIn(rows[0]), sectionsIn(rows[0])], [["S7", "S7"], ["KIM", "DALE", "KIM"], ["X9"]]);
   for (const row of rows) assert.ok([pointsIn(row), employeesIn(row), sectionsIn(row)].every(Array.isArray), row.what);
+});
+
+test("a board lacks the newest accepted entry alone, and only where nothing was accepted since", async () => {
+  const row = (id, last) => ({ id, last, phase: "Switching", holder: "OPS" }), card = (id) => ({ clearance: id, round: 1, phase: "Switching", holder: "OPS" });
+  const moved = (number) => `${JSON.stringify({ command: { at: number, by: "OPS", clearance: "OPS/1", do: "instruct", step: 1 }, login: null, number, received: number, reply: { card: card("OPS/1"), reply: "accepted" }, sum: sum(number, 7500) })}\n`;
+  files.clear();
+  files.set("journal", first(0, 7500) + moved(1));
+  await newest();
+  const looked = async (last) => {
+    const due = dueOn({ board: [row("OPS/1", last)], jumpers: [] });
+    await newest();
+    noteLacking(due);
+    return lacking.entry?.number ?? null;
+  };
+  assert.deepEqual([await looked(1), await looked(1)], [null, null]);
+  files.set("journal", files.get("journal") + moved(2)); // by another desk, before the next board
+  assert.equal(await looked(2), null);
+  assert.deepEqual([await looked(2), await looked(2)], [null, null]);
+  files.set("journal", files.get("journal") + moved(3)); // and this one is not carried out
+  assert.deepEqual([await looked(2), await looked(2)], [null, null]);
+  assert.equal(await looked(2), 3);
 });
 
 test("the line of an update that is longer than a piece", async () => {

@@ -3,7 +3,7 @@
 // otherwise at the board, and says what it found before it offers the command again.
 
 import { noteGiven } from "../clearances/steps-given-out.js";
-import { isLacking } from "../log/board-lacks.js";
+import { isLacking, isNewest } from "../log/board-lacks.js";
 import { isWhole, journal, newest } from "../log/journal.js";
 import { loginUsed } from "../shared/caller.js";
 import { isNear } from "../shared/clocks.js";
@@ -60,7 +60,7 @@ async function judgedByLog(asked) {
   const isRead = await newest(), entries = isRead ? entriesSince(asked.known.number) : null, login = loginUsed();
   if (!entries || login === null) return null;
   const found = judgeLogged(asked.command, entries, login);
-  const lacks = found.entry && (isLacking(found.entry, room) || lacksUnseen(asked));
+  const lacks = found.entry && isNewest(found.entry) && (isLacking(found.entry, room) || lacksUnseen(asked));
   return lacks ? { ...found, found: "waits", text: `${found.text} The board lacks it.` } : found;
 }
 
