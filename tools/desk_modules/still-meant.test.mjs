@@ -17,8 +17,9 @@ const card = (phase, round, holder = "KIM") => ({ clearance: "KIM/1", phase, hol
 const viewWith = (text, phase = "Ordered", round = 1) => ({ card: card(phase, round), crews: [], fence: ["L2"], holds: [], points: [], work: "L2", steps: [{ text, state: "Waiting", reader: null }] });
 const INSTRUCT = { do: "instruct", clearance: "KIM/1", step: 1 };
 
-let view = viewWith("OPEN S1"), sent = [];
+let view = viewWith("OPEN S1"), sent = [], asked = [];
 globalThis.fetch = async (path, { body } = {}) => {
+  asked.push(path);
   if (path === "command") sent.push(JSON.parse(body));
   if (path === "command") return Response.json({ reply: "accepted", card: view.card });
   if (path === "board") return new Response("head\n", { headers: { "Content-Type": "text/plain" } });
@@ -83,4 +84,14 @@ test("with a moment that is half written nothing is sent: a browser has no value
   await give(INSTRUCT, viewOf("KIM/1"));
   assert.deepEqual([sent, /half written/.test(unsent()[0])], [[], true]);
   setMomentField(null);
+});
+
+test("a request is sent after a look, for the server's clock, where the last one is long ago", async () => {
+  for (const pause of [() => {}, sleep]) {
+    pause();
+    asked = [];
+    await give({ do: "request", section: "L2" });
+    assert.equal(asked.indexOf("board") >= 0 && asked.indexOf("board") < asked.indexOf("command"), pause === sleep);
+    await lookNow();
+  }
 });

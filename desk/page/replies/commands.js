@@ -7,7 +7,7 @@ import { dropDraftOf } from "../shared/drafts.js";
 import { noteTest } from "../shared/live-alarms.js";
 import { secondsOfField, shortTime, span, wholeTime } from "../shared/moments.js";
 import { ask } from "../shared/question.js";
-import { postCommand } from "../shared/register.js";
+import { isFresh, postCommand } from "../shared/register.js";
 import { keepIn, readKept } from "../shared/storage.js";
 import { asOwn } from "../shared/waiting-lists.js";
 import { boardLine, isOldView, lookAt, lookNow, putView, room, viewOf } from "../shared/watch.js";
@@ -105,7 +105,10 @@ function noteUnsent(command, text) {
 async function whyNot(command, seen) {
   const { clearance } = command;
   if (!TIMELESS.has(command.do) && momentField?.validity?.badInput) return HALF;
-  if (!clearance || !seen) return null;
+  if (!clearance || !seen) {
+    if (!isFresh()) await asOwn(lookNow); // for the server's clock: this desk's may have been set meanwhile
+    return null;
+  }
   const answer = isOldView(clearance) ? await asOwn(() => lookAt(clearance)) : null;
   if (isOldView(clearance)) return `What is shown of ${clearance} is old, and no newer answer came${answer?.why ? `: ${answer.why}` : ""}.`;
   return isStillMeant(command, seen, viewOf(clearance)) ? null : `${clearance} has changed since this was shown. Look at it, and give the command then.`;
