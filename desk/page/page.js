@@ -121,7 +121,7 @@ function placeDiagram() {
 
 // The diagram is made again where a jumper has come, and the list of names where the register is another.
 function followNetwork() {
-  const staff = [...network.staff.keys()].join(" ");
+  const staff = JSON.stringify([...network.staff.values()]);
   if (drawnShape !== network.shape) {
     drawnShape = network.shape;
     const before = desk.diagram;
@@ -133,7 +133,16 @@ function followNetwork() {
   if (listedStaff !== staff) {
     listedStaff = staff;
     listCallers(network.staff);
+    followCaller();
   }
+}
+
+// Who speaks, as an update has made the row.
+function followCaller() {
+  const row = network.staff.get(desk.caller?.name);
+  if (!row) return;
+  desk.caller = row;
+  showCaller(row);
 }
 
 // The sections of a clearance; of a switch order those at its first point.

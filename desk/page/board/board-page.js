@@ -100,9 +100,9 @@ export class BoardPage {
     const chosen = this.#desk.chosen();
     const rows = this.#choice.rows(room.board);
     const views = rows.map((row) => [viewOf(row.id), row]).map(([view, row]) => [view?.card, view?.fence.length, stepsWords(view), workWords(view), ageWords(ageOf(row)), outWords(view, row)]);
-    const lines = [...rows, ...room.jumpers].map((row) => row.line);
+    const lines = [...rows, ...room.jumpers].map((row) => row.line), supervisors = rows.map(({ holder }) => staff.get(holder)?.supervisor);
     this.#choice.node.hidden = !room.board.length;
-    panel(this.#rows, [room.read === null, lines, views, chosen, Boolean(this.#desk.caller)], () => {
+    panel(this.#rows, [room.read === null, lines, views, supervisors, chosen, Boolean(this.#desk.caller)], () => {
       if (room.read === null) return el("p", {}, "The board was not read yet.");
       const nobody = this.#desk.caller ? null : el("p", { class: "warning" }, "Say who you are, above: without a name no steps and no work are shown.");
       const jumpers = room.jumpers.length ? table(["Jumper", "From", "To", "Position"], room.jumpers.map(jumperRow)) : null;

@@ -156,7 +156,8 @@ export class ClearancePage {
     }
     this.#known = true;
     askLastMoment(view, () => this.update());
-    panel(this.#card, [view.card, view.work, view.crews, lastMoment(this.#id)], () => card(view, this.#desk.network.staff));
+    const { staff } = this.#desk.network;
+    panel(this.#card, [view.card, view.work, view.crews, lastMoment(this.#id), staff.get(view.card.holder)?.supervisor], () => card(view, staff));
     this.#drawNext(view);
     const found = stepsFindings(view, this.#desk);
     panel(this.#steps, [view.steps, found], () => (view.steps.length ? [el("h3", {}, `Steps of round ${view.card.round}`), stepsTable(view, found)] : []));
