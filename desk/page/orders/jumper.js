@@ -110,6 +110,7 @@ export class JumperForm {
     const { accepted } = await this.#desk.act({ do: "jumper", point, from, to, lockable: this.#lockable.checked, remote: this.#remote.checked });
     if (!accepted) return;
     for (const input of Object.values(this.#inputs)) input.value = "";
+    this.#lockable.checked = this.#remote.checked = false; // the next one is another
     learn();
     this.#desk.diagram.lookAt([from, to]);
   }
