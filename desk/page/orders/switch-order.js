@@ -76,7 +76,8 @@ export class SwitchEditor {
 
   async #send() {
     if (!(await mayGo("Before the switch order is given", findingsOfSteps(this.#desk, this.#list.steps), "Give the switch order"))) return;
-    const { accepted, id } = await this.#desk.act({ do: "switch", steps: this.#list.steps });
+    const isKept = draft(DRAFT) !== null, { accepted, id } = await this.#desk.act({ do: "switch", steps: this.#list.steps });
     if (accepted) location.hash = `#/clearance/${id}`;
+    else if (isKept && draft(DRAFT) === null) this.#take({ points: [], steps: [] }); // its reply was lost, and it was carried out
   }
 }
