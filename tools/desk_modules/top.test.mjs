@@ -5,7 +5,12 @@ import test from "node:test";
 
 globalThis.document = { hidden: true }; // which may have its last answer from earlier
 
+const wait = globalThis.setTimeout;
+globalThis.setTimeout = (...parts) => wait(...parts).unref(); // the watch goes on for ever
+
 const { noteDrawn, troubleWords } = await import("../../desk/page/shared/top.js");
+const { getBoard } = await import("../../desk/page/shared/register.js");
+const { lookNow } = await import("../../desk/page/shared/watch.js");
 
 test("what a fault of the page has left undrawn is not green", () => {
   assert.equal(troubleWords(), null);
@@ -13,4 +18,17 @@ test("what a fault of the page has left undrawn is not green", () => {
   assert.match(troubleWords().text, /what is shown may be old/);
   noteDrawn(true);
   assert.equal(troubleWords(), null);
+});
+
+test("a board that comes without the network is not green", async () => {
+  const answers = { board: () => new Response("head\n", { headers: { "Content-Type": "text/plain" } }), normal: () => new Response("", { status: 404 }) };
+  const network = () => Response.json({ sections: [], points: [], staff: [] }), cut = () => { throw new TypeError("cut off"); };
+  globalThis.fetch = async (path) => answers[path]();
+  for (const [answer, found] of [[network, null], [cut, /^The network could not be read since .* are those of /], [network, null]]) {
+    answers.network = answer;
+    await lookNow();
+    await getBoard();
+    if (found) assert.match(troubleWords().text, found);
+    else assert.equal(troubleWords(), null);
+  }
 });

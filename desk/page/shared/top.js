@@ -8,6 +8,7 @@ import { alarms } from "./live-alarms.js";
 import { now, shortTime } from "./moments.js";
 import { contact, isFresh } from "./register.js";
 import { alarmTab } from "./tab-title.js";
+import { room } from "./watch.js";
 
 const PERIOD = 500; // milliseconds
 
@@ -35,10 +36,17 @@ function refusedWords() {
   return `NO COMMAND IS TAKEN${since}: the register answers them with 503.${lacks} Is its disk full? Whether they are carried out, a restart of the register decides.`;
 }
 
+// The board may come, and the network, which is much longer, may not.
+function unreadWords() {
+  const last = room.network === null ? "It was not read yet." : `The diagram, and the positions and holds of points, are those of ${shortTime(room.network)}.`;
+  return `The network could not be read since ${shortTime(room.unread)}, though the register answers. ${last}`;
+}
+
 // What is amiss, in the tab's title and at the top; nothing where all is well.
 export function troubleWords() {
   if (contact.silentSince !== null || !isFresh()) return { tab: "NO ANSWER", text: silentWords() };
   if (contact.trouble) return { tab: "NOTHING GOES THROUGH", text: contact.trouble };
+  if (room.unread !== null) return { tab: "THE NETWORK IS OLD", text: unreadWords() };
   if (!drawn) return { tab: "WHAT IS SHOWN MAY BE OLD", text: UNDRAWN };
   if (contact.refused !== null || lacking.entry) return { tab: "503: NO COMMAND IS TAKEN", text: refusedWords() };
   return null;

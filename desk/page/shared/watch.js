@@ -20,6 +20,7 @@ export const room = {
   views: new Map(),     // what is on the board: id to view
   closed: new Map(),    // what is over: id to view
   network: null,        // when the network was answered
+  unread: null,         // since when it was asked for in vain; null: it was answered
   barred: null,         // a name that this login may not use, or the staff has no more
 };
 
@@ -139,10 +140,14 @@ async function readNetwork(text) {
   const isSame = text === shown;
   if (isSame && settled && room.network !== null && slow > QUICK && room.turns % ALL_AGAIN) return;
   const begun = performance.now(), answer = await getNetwork();
-  if (answer.kind !== "answered" || !answer.body.sections) return;
+  if (answer.kind !== "answered" || !answer.body.sections) {
+    room.unread ??= now();
+    return;
+  }
   slow = performance.now() - begun;
   await takeNetwork(answer.body);
   room.network = now();
+  room.unread = null;
   settled = isSame;
   shown = text;
 }
