@@ -8,7 +8,7 @@ import test from "node:test";
 import { viewAfter } from "../../desk/page/clearances/after-command.js";
 import { momentInOrder } from "../../desk/page/clearances/last-moment.js";
 import { giverUnder, keepGiver } from "../../desk/page/clearances/several-names.js";
-import { offersOf } from "../../desk/page/clearances/offers.js";
+import { offersOf, presentStep } from "../../desk/page/clearances/offers.js";
 import { isLacking } from "../../desk/page/log/board-lacks.js";
 import { COMMANDS } from "../../desk/page/replies/command-words.js";
 import { titleOf } from "../../desk/page/shared/tab-title.js";
@@ -78,4 +78,9 @@ test("nobody gives in a name that was chosen before another came to the top", ()
   assert.deepEqual([giverUnder("NG"), giverUnder("BERT")], ["DISP2", "BERT"]);
   keepGiver("", "NG");
   assert.equal(giverUnder("NG"), "");
+});
+
+test("what a cancel has left of an order is no step to be done", () => {
+  for (const phase of ["Ordered", "Restoring", "Switching"]) assert.equal(presentStep(view(phase, "Waiting")).number, 1);
+  for (const phase of ["Released", "Closed"]) assert.equal(presentStep(view(phase, "Waiting")), null);
 });

@@ -14,7 +14,7 @@ import { choose, lookAt, viewOf } from "../shared/watch.js";
 import { cancelControl, emergencyControl, grantControl, releaseControl, releaseObstacles, transferControl } from "./grant-release.js";
 import { instructControl, readingOf } from "./instruct.js";
 import { askLastMoment, lastMoment } from "./last-moment.js";
-import { offersOf, presentStep } from "./offers.js";
+import { isUnderWay, offersOf, presentStep } from "./offers.js";
 import { printedOrders } from "./printed-order.js";
 import { severalControl, withRow } from "./several-names.js";
 import { amendControl, repeatControl, reportControl, stepsFindings, stepsTable } from "./steps.js";
@@ -160,7 +160,7 @@ export class ClearancePage {
     panel(this.#card, [view.card, view.work, view.crews, lastMoment(this.#id), staff.get(view.card.holder)?.supervisor], () => card(view, staff));
     this.#drawNext(view);
     const found = stepsFindings(view, this.#desk);
-    panel(this.#steps, [view.steps, found], () => (view.steps.length ? [el("h3", {}, `Steps of round ${view.card.round}`), stepsTable(view, found)] : []));
+    panel(this.#steps, [view.steps, found, isUnderWay(view)], () => (view.steps.length ? [el("h3", {}, `Steps of round ${view.card.round}`), stepsTable(view, found)] : []));
     panel(this.#way, view.card.phase === "Closed", () => (view.card.phase === "Closed" ? [] : [wayBackOf(this.#id)]));
     this.#story.draw();
     panel(this.#facts, [view.points, view.holds, view.fence, view.crews, view.card, liveIn(view.fence)], () => facts(view));

@@ -4,8 +4,14 @@
 import { WORK } from "../replies/command-words.js";
 import { namesOfRole } from "../shared/network.js";
 
-// The first step that is not done, with its number; null where none is left.
+// Whether its steps are being done. What a cancel has left is not done any more.
+export function isUnderWay({ card: { phase } }) {
+  return ["Ordered", "Restoring", "Switching"].includes(phase);
+}
+
+// The first step that is not done, with its number; null where none is left to be done.
 export function presentStep(view) {
+  if (!isUnderWay(view)) return null;
   const place = view.steps.findIndex((step) => step.state !== "Done");
   return place < 0 ? null : { number: place + 1, ...view.steps[place] };
 }

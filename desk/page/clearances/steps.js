@@ -7,24 +7,25 @@ import { drafted, draftName } from "../shared/drafts.js";
 import { el, button, field, table, unbroken } from "../shared/elements.js";
 import { exampleStep } from "../shared/network.js";
 import { ask } from "../shared/question.js";
-import { presentStep, waitingCloses } from "./offers.js";
+import { isUnderWay, presentStep, waitingCloses } from "./offers.js";
 
 const SIGNS = { Waiting: "○", Instructed: "◔", Repeated: "◑", Done: "●" };
 
-// What is in the way of each step that is not done.
+// What is in the way of each step that is to be done.
 export function stepsFindings(view, desk) {
+  if (!isUnderWay(view)) return view.steps.map(() => []);
   const left = view.steps.filter((step) => step.state !== "Done").map((step) => step.text);
   const found = findingsOfSteps(desk, left, view.card.clearance).map((one) => one.found);
   return view.steps.map((step) => (step.state === "Done" ? [] : found.shift()));
 }
 
 export function stepsTable(view, found) {
-  const present = presentStep(view)?.number;
+  const present = presentStep(view)?.number, stateOf = ({ state }) => (state === "Waiting" && !isUnderWay(view) ? "not done" : stateWord(state));
   const rows = view.steps.map((step, place) =>
     el("tr", { class: `step ${step.state}`, "aria-current": place + 1 === present ? "step" : null },
       el("td", { class: "number" }, String(place + 1)),
       el("td", {}, el("span", { class: "text" }, unbroken(step.text)), findingsList(found[place])),
-      el("td", {}, el("span", { class: "sign", "aria-hidden": "true" }, SIGNS[step.state]), `\u00a0${stateWord(step.state)}`),
+      el("td", {}, el("span", { class: "sign", "aria-hidden": "true" }, SIGNS[step.state]), `\u00a0${stateOf(step)}`),
       el("td", {}, step.reader ?? "–")));
   return table(["No", "Step", "State", "Reader"], rows, { class: "steps" });
 }

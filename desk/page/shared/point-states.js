@@ -1,6 +1,7 @@
 // What is known of each point: its position, hand and holds, as the register has them; and the steps that are not done
 // there, of the records on the board.
 
+import { isUnderWay } from "../clearances/offers.js";
 import { network } from "./network.js";
 
 function addSteps(known, id, view) {
@@ -12,7 +13,7 @@ function addSteps(known, id, view) {
 // By name: { point, position, hand, holds, steps }.
 export function pointStates(room) {
   const known = new Map([...network.points.values()].map((point) => [point.name, { point, position: point.position, hand: point.hand, holds: point.holds, steps: [] }]));
-  for (const [id, view] of room.views) addSteps(known, id, view);
+  for (const [id, view] of room.views) if (isUnderWay(view)) addSteps(known, id, view);
   return known;
 }
 
