@@ -7,8 +7,8 @@ use std::test::Fail;
 
 /// The fault that was reported, if one was. Out of memory ends the test, of a reader that has not
 /// failed.
-fn fault_in<T: Drop>(told: Result<T, CsvFault>, failures: u64) -> Result<Option<CsvFault>, Fail> {
-    let fault = told.err();
+fn fault_in<T: Drop>(read: Result<T, CsvFault>, failures: u64) -> Result<Option<CsvFault>, Fail> {
+    let fault = read.err();
     if fault == Some(CsvFault::NoMemory) && failures == 0 {
         Err(CsvFault::NoMemory.into())
     } else {
@@ -21,8 +21,8 @@ fn fault_of_sections<R: CountedRead>(
     alloc: Global,
     reader: &mut R,
 ) -> Result<Option<CsvFault>, Fail> {
-    let told = read_sections(alloc, reader);
-    fault_in(told, reader.failures())
+    let read = read_sections(alloc, reader);
+    fault_in(read, reader.failures())
 }
 
 /// The fault of a file of points, if it has one.
@@ -30,8 +30,8 @@ fn fault_of_points<R: CountedRead>(
     alloc: Global,
     reader: &mut R,
 ) -> Result<Option<CsvFault>, Fail> {
-    let told = read_points(alloc, reader);
-    fault_in(told, reader.failures())
+    let read = read_points(alloc, reader);
+    fault_in(read, reader.failures())
 }
 
 #[test]

@@ -13,9 +13,9 @@ use std::test::Fail;
 /// More calls than a desk makes of a file to open and to answer one request.
 const MOST_CALLS: u64 = 1000;
 
-/// What a client gets to know.
+/// What a client sees.
 #[derive(Clone, Copy, PartialEq)]
-enum Told {
+enum Seen {
     /// That it has the first clearance, or the second.
     First,
     Second,
@@ -36,81 +36,81 @@ struct Request<'a> {
 }
 
 impl<'a> Work for Request<'a> {
-    type Told = Told;
+    type Outcome = Seen;
 
-    fn go<S: Alter + Drop>(self, connection: Connection<S>) -> (Told, Connection<S>) {
+    fn go<S: Alter + Drop>(self, connection: Connection<S>) -> (Seen, Connection<S>) {
         match opened(connection) {
             Ok(mut desk) => {
-                let told = told_at(self.alloc, &mut desk, self.second);
-                (told, desk.end().end())
+                let seen = seen_at(self.alloc, &mut desk, self.second);
+                (seen, desk.end().end())
             }
-            Err((DeskFault::NoMemory, connection)) => (Told::NoMemory, connection),
-            Err((_fault, connection)) => (Told::NoDesk, connection),
+            Err((DeskFault::NoMemory, connection)) => (Seen::NoMemory, connection),
+            Err((_fault, connection)) => (Seen::NoDesk, connection),
         }
     }
 }
 
-/// What a client gets to know at a desk.
-fn told_at<D: Registrar>(alloc: Global, desk: &mut D, second: &str) -> Told {
+/// What a client sees at a desk.
+fn seen_at<D: Registrar>(alloc: Global, desk: &mut D, second: &str) -> Seen {
     match response(alloc, desk, REQUEST.as_bytes()) {
-        Ok(response) => told_by(response.as_slice(), second),
-        Err(HttpFault::NoMemory) => Told::NoMemory,
-        Err(_fault) => Told::Other,
+        Ok(response) => seen_in(response.as_slice(), second),
+        Err(HttpFault::NoMemory) => Seen::NoMemory,
+        Err(_fault) => Seen::Other,
     }
 }
 
 /// What a response says.
-fn told_by(response: &[u8], second: &str) -> Told {
+fn seen_in(response: &[u8], second: &str) -> Seen {
     if response == RESPONSE.as_bytes() {
-        Told::First
+        Seen::First
     } else if response == second.as_bytes() {
-        Told::Second
+        Seen::Second
     } else if response == UNAVAILABLE.as_bytes() {
-        Told::Unavailable
+        Seen::Unavailable
     } else {
-        Told::Other
+        Seen::Other
     }
 }
 
-/// What a client gets to know over files of which one stops after n calls, and what they hold
+/// What a client sees over files of which one stops after n calls, and what they hold
 /// then.
-fn told_over(
+fn seen_over(
     alloc: Global,
     second: &str,
     held: &Held,
     part: Part,
     calls: u64,
-) -> Result<(Told, Behind), Fail> {
-    let (told, behind) = over_files(alloc, held, part, calls, Request { alloc, second })?;
-    match told {
-        Ok(told) => Ok((told, behind)),
-        Err(StoreFault::NoMemory) => Ok((Told::NoMemory, behind)),
-        Err(_fault) => Ok((Told::NoDesk, behind)),
+) -> Result<(Seen, Behind), Fail> {
+    let (seen, behind) = over_files(alloc, held, part, calls, Request { alloc, second })?;
+    match seen {
+        Ok(seen) => Ok((seen, behind)),
+        Err(StoreFault::NoMemory) => Ok((Seen::NoMemory, behind)),
+        Err(_fault) => Ok((Seen::NoDesk, behind)),
     }
 }
 
-/// What a client gets to know while a file stops after n calls, and the next one, once the file
+/// What a client sees while a file stops after n calls, and the next one, once the file
 /// works again. Out of memory ends the test.
-fn two_told(
+fn two_seen(
     alloc: Global,
     second: &str,
     register: &Held,
     part: Part,
     calls: u64,
-) -> Result<(Told, Told), Fail> {
-    let (first, behind) = told_over(alloc, second, register, part, calls)?;
-    let (next, _behind) = told_over(alloc, second, &behind.seen(), part, u64::MAX)?;
-    if first == Told::NoMemory || next == Told::NoMemory {
+) -> Result<(Seen, Seen), Fail> {
+    let (first, behind) = seen_over(alloc, second, register, part, calls)?;
+    let (next, _behind) = seen_over(alloc, second, &behind.seen(), part, u64::MAX)?;
+    if first == Seen::NoMemory || next == Seen::NoMemory {
         return Err(Fail::new("out of memory"));
     }
     Ok((first, next))
 }
 
 /// Whether each clearance is given once, as it is when out of memory too.
-fn is_given_once(told: (Told, Told)) -> bool {
+fn is_given_once(seen: (Seen, Seen)) -> bool {
     !matches!(
-        told,
-        (Told::First, Told::First) | (Told::NoDesk, Told::Second)
+        seen,
+        (Seen::First, Seen::First) | (Seen::NoDesk, Seen::Second)
     )
 }
 
@@ -125,19 +125,19 @@ fn unavailable_count<R: Abort>(
     let second = nth_response(alloc, 2)?;
     let mut unavailable: u64 = 0;
     for calls in 0..MOST_CALLS {
-        let told = two_told(alloc, second.as_str(), register, part, calls)?;
-        assert!(rt; is_given_once(told), "{part:?} at {calls}");
+        let seen = two_seen(alloc, second.as_str(), register, part, calls)?;
+        assert!(rt; is_given_once(seen), "{part:?} at {calls}");
         // A 503 is sent when out of memory too, and not when all is done once more.
-        if two_told(alloc, second.as_str(), register, part, calls)? != told {
+        if two_seen(alloc, second.as_str(), register, part, calls)? != seen {
             return Err(Fail::new("out of memory"));
         }
-        match told {
-            (Told::NoDesk, Told::First) => {}
-            (Told::Unavailable, Told::First | Told::Second) => {
+        match seen {
+            (Seen::NoDesk, Seen::First) => {}
+            (Seen::Unavailable, Seen::First | Seen::Second) => {
                 unavailable = unavailable.saturating_add(1);
             }
             _ => {
-                assert!(rt; told == (Told::First, Told::Second), "{part:?} at {calls}");
+                assert!(rt; seen == (Seen::First, Seen::Second), "{part:?} at {calls}");
                 return Ok(unavailable);
             }
         }

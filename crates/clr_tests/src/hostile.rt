@@ -31,7 +31,7 @@ const MAX_FIELDS: usize = 64;
 const EMPTY_BOARD: &str = "BOARD 0\n";
 
 /// A response that reports a fault: its status, its length and its word.
-macro_rules! tells {
+macro_rules! fault_response {
     ($status:literal, $length:literal, $fault:literal) => {
         concat!(
             "HTTP/1.1 ",
@@ -45,13 +45,13 @@ macro_rules! tells {
     };
 }
 
-const HEAD_CUT: &str = tells!("400 Bad Request", 19, "HeadCut");
+const HEAD_CUT: &str = fault_response!("400 Bad Request", 19, "HeadCut");
 
-const BODY_CUT: &str = tells!("400 Bad Request", 19, "BodyCut");
+const BODY_CUT: &str = fault_response!("400 Bad Request", 19, "BodyCut");
 
-const HEAD_TOO_LARGE: &str = tells!("400 Bad Request", 24, "HeadTooLarge");
+const HEAD_TOO_LARGE: &str = fault_response!("400 Bad Request", 24, "HeadTooLarge");
 
-pub const UNAVAILABLE: &str = tells!("503 Service Unavailable", 23, "Unavailable");
+pub const UNAVAILABLE: &str = fault_response!("503 Service Unavailable", 23, "Unavailable");
 
 const BOARD: &str = "HTTP/1.1 200 OK\r\nContent-Type: text/plain\r\nContent-Length: 8\r\n\
     Connection: close\r\n\r\nBOARD 0\n";

@@ -49,7 +49,7 @@ fn chain_fault(alloc: Global, sections: u16, points: u16) -> Result<Option<NetFa
 {
     match chain(alloc, sections, points)? {
         Err(NetFault::NoMemory) => Err(NetFault::NoMemory.into()),
-        told => Ok(told.err()),
+        outcome => Ok(outcome.err()),
     }
 }
 
@@ -60,8 +60,8 @@ fn one_section_too_many(rt: HostRuntime) -> Result<(), Fail> {
         (5001, 5000, Some(NetFault::TooLarge)),
         (5000, 10001, Some(NetFault::TooLarge)),
     ] {
-        let told = chain_fault(rt.alloc(), sections, points)?;
-        assert_eq!(rt; told, fault, "{sections} sections and {points} points");
+        let outcome = chain_fault(rt.alloc(), sections, points)?;
+        assert_eq!(rt; outcome, fault, "{sections} sections and {points} points");
     }
     Ok(())
 }
@@ -82,7 +82,7 @@ fn staff_fault(alloc: Global, count: u16) -> Result<Option<StaffFault>, Fail> {
     }
     match Staff::build(alloc, rows) {
         Err(StaffFault::NoMemory) => Err(StaffFault::NoMemory.into()),
-        told => Ok(told.err()),
+        outcome => Ok(outcome.err()),
     }
 }
 

@@ -42,7 +42,7 @@ struct Making {
 }
 
 impl Work for Making {
-    type Told = Option<StoreFault>;
+    type Outcome = Option<StoreFault>;
 
     fn go<S: Alter + Drop>(self, connection: Connection<S>) -> (Option<StoreFault>, Connection<S>) {
         match Store::create(connection, &self.network, &self.staff) {
@@ -59,7 +59,7 @@ struct Running {
 }
 
 impl Work for Running {
-    type Told = Result<Run, DeskFault>;
+    type Outcome = Result<Run, DeskFault>;
 
     fn go<S: Alter + Drop>(
         self,
@@ -80,7 +80,7 @@ impl Work for Running {
 struct Reading;
 
 impl Work for Reading {
-    type Told = Result<Rows, StoreFault>;
+    type Outcome = Result<Rows, StoreFault>;
 
     fn go<S: Alter + Drop>(
         self,
@@ -109,8 +109,8 @@ pub fn make_over(
         network,
         staff: staff(alloc)?,
     };
-    let (told, behind) = over_files(alloc, held, part, calls, making)?;
-    match told {
+    let (outcome, behind) = over_files(alloc, held, part, calls, making)?;
+    match outcome {
         Ok(fault) => Ok((fault, behind)),
         Err(fault) => Ok((Some(fault), behind)),
     }
@@ -125,8 +125,8 @@ pub fn run_over(
     calls: u64,
     commands: Vec<Command>,
 ) -> Result<(Result<Run, DeskFault>, Behind), Fail> {
-    let (told, behind) = over_files(alloc, held, part, calls, Running { commands })?;
-    match told {
+    let (outcome, behind) = over_files(alloc, held, part, calls, Running { commands })?;
+    match outcome {
         Ok(run) => Ok((run, behind)),
         Err(fault) => Ok((Err(fault.into()), behind)),
     }
@@ -134,8 +134,8 @@ pub fn run_over(
 
 /// The rows of the database that two files hold, or why they are not read.
 pub fn read_over(alloc: Global, held: &Held) -> Result<Result<Rows, StoreFault>, Fail> {
-    let (told, _behind) = over_files(alloc, held, Part::Log, u64::MAX, Reading)?;
-    Ok(told?)
+    let (outcome, _behind) = over_files(alloc, held, Part::Log, u64::MAX, Reading)?;
+    Ok(outcome?)
 }
 
 /// The rows of the database that two files hold, or none where it is refused as `Sql`, as one

@@ -81,9 +81,9 @@ impl Behind {
 /// Work over a connection. It is stated for any store: what a check makes of a database of two
 /// files is made once, in `over_files`.
 pub trait Work {
-    type Told: Drop;
+    type Outcome: Drop;
 
-    fn go<S: Alter + Drop>(self, connection: Connection<S>) -> (Self::Told, Connection<S>);
+    fn go<S: Alter + Drop>(self, connection: Connection<S>) -> (Self::Outcome, Connection<S>);
 }
 
 /// Does some work over the database of two files, of which one stops after n calls, where a
@@ -96,14 +96,14 @@ pub fn over_files<W: Work + Drop>(
     part: Part,
     calls: u64,
     work: W,
-) -> Result<(Result<W::Told, StoreFault>, Behind), Fail> {
+) -> Result<(Result<W::Outcome, StoreFault>, Behind), Fail> {
     let files = files_of(alloc, held, part, calls)?;
-    let (told, files) = in_files(alloc, files, work);
+    let (outcome, files) = in_files(alloc, files, work);
     let behind = left_behind(alloc, files)?;
-    if told.is_err() && calls == u64::MAX {
+    if outcome.is_err() && calls == u64::MAX {
         return Err(AllocError.into());
     }
-    Ok((told, behind))
+    Ok((outcome, behind))
 }
 
 /// Does some work over the database of two files, where a connection can be opened.
@@ -111,11 +111,11 @@ fn in_files<D: Disk + Drop, W: Work + Drop>(
     alloc: Global,
     files: Files<D>,
     work: W,
-) -> (Result<W::Told, StoreFault>, Files<D>) {
+) -> (Result<W::Outcome, StoreFault>, Files<D>) {
     match connect(alloc, files) {
         Ok(connection) => {
-            let (told, connection) = work.go(connection);
-            (Ok(told), close(connection))
+            let (outcome, connection) = work.go(connection);
+            (Ok(outcome), close(connection))
         }
         Err((fault, files)) => (Err(fault), files),
     }

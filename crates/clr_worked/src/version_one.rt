@@ -52,7 +52,7 @@ struct Writing<'a> {
 }
 
 impl<'a> Work for Writing<'a> {
-    type Told = Option<StoreFault>;
+    type Outcome = Option<StoreFault>;
 
     fn go<S: Alter + Drop>(
         self,
@@ -70,7 +70,7 @@ impl<'a> Work for Writing<'a> {
 struct Moving;
 
 impl Work for Moving {
-    type Told = Option<StoreFault>;
+    type Outcome = Option<StoreFault>;
 
     fn go<S: Alter + Drop>(self, connection: Connection<S>) -> (Option<StoreFault>, Connection<S>) {
         match Store::migrate(connection) {
@@ -84,8 +84,8 @@ impl Work for Moving {
 /// statements are right, so that any fault comes of refused memory.
 fn written(alloc: Global, held: &Held, statements: &str) -> Result<Held, Fail> {
     let writing = Writing { statements };
-    let (told, behind) = over_files(alloc, held, Part::Log, u64::MAX, writing)?;
-    match told {
+    let (outcome, behind) = over_files(alloc, held, Part::Log, u64::MAX, writing)?;
+    match outcome {
         Ok(None) => Ok(behind.synced()),
         _ => Err(AllocError.into()),
     }
@@ -105,8 +105,8 @@ pub fn move_over(
     part: Part,
     calls: u64,
 ) -> Result<(Option<StoreFault>, Behind), Fail> {
-    let (told, behind) = over_files(alloc, held, part, calls, Moving)?;
-    match told {
+    let (outcome, behind) = over_files(alloc, held, part, calls, Moving)?;
+    match outcome {
         Ok(fault) => Ok((fault, behind)),
         Err(fault) => Ok((Some(fault), behind)),
     }
