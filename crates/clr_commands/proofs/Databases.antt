@@ -1,5 +1,5 @@
 -- What is printed of registers that databases have, and why nothing is.
-use Rattle.std.proofs.Common.{◌≡◌, ◌⊎◌, ap, inl, inr, subst, sym, ℕ, List, Result, Ok, Err}
+use Rattle.std.proofs.Common.{◌≡◌, ◌⊎◌, ◌∙◌, ap, inl, inr, subst, sym, ℕ, List, Result, Ok, Err}
 use Rattle.std.specs.Prelude.{IfErr, IfOk, IsErrAnd, String, string_bytes}
 use Rattle.std.specs.declared.alloc.Global.{Global}
 use Rattle.sqlite.specs.Held.{Held}
@@ -10,12 +10,13 @@ use Rattle.clr_rules.specs.Fit.{IsFit}
 use Rattle.clr_rules.specs.Good.{IsGood}
 use Rattle.clr_rules.proofs.good.CrewSafety.{crews_are_safe}
 use Rattle.clr_rules.specs.Register.{Register}
-use Rattle.clr_edge.specs.Database.{IsOfLine, IsOnlyRead, IsRefused, ReadsAs}
+use Rattle.clr_edge.specs.Database.{IsDatabaseFault, IsOnlyRead, IsRefused, ReadsAs}
 use Rattle.clr_keeping.specs.Keeping.{IsNotRead, IsNotUp, IsReadFrom, IsUp, plain}
-use Rattle.clr_edge.specs.Visit.{Comes, Done, Ending, Ends, Opening, Shutting}
+use Rattle.clr_edge.specs.Visit.{Closed, Comes, Ending, Opening, Shutting}
+use Rattle.clr_edge.specs.declared.fault.DatabaseFault.TheVariants.{NoMemory}
 use Rattle.clr_edge.specs.declared.fault.Fault.{Fault}
 use Rattle.clr_edge.specs.declared.fault.Fault.TheVariants.{Memory}
-use Rattle.clr_edge.proofs.Databases.{OnOk-any}
+use Rattle.clr_edge.proofs.Databases.{OnOk-any, visits-as}
 use Rattle.clr_commands.specs.Answers.{GivesText, IsMemory, Prints}
 use Rattle.clr_commands.specs.Stored.{AnswersOf, IsUnanswered, WhileOpen}
 
@@ -32,9 +33,9 @@ GivesText-text text (Err fault) is memory = λ other. absurd (other memory)
 
 -- an answer that only want of memory may come in place of
 gives_line : (Is IsToo : Result (List ℕ) Fault → Type 0) (result : Result (String Global) Fault) → ((known : Result (List ℕ) Fault) → Is known → IsToo known)
-    → Prints IsMemory Is result → Prints IsOfLine IsToo result
+    → Prints IsMemory Is result → Prints IsDatabaseFault IsToo result
 gives_line Is IsToo (Ok value) same gives = same (Ok (string_bytes value)) gives
-gives_line Is IsToo (Err fault) same gives = λ other. same (Err fault) (gives (λ memory. other (inl memory)))
+gives_line Is IsToo (Err fault) same gives = λ other. same (Err fault) (gives (λ memory. other (NoMemory, memory)))
 
 unanswered : {T S : Type 0} (g : Ghosts S) (IsOwn : Fault → Type 0) (before after : Held S) (Q : Register) (result : Result T Fault) → IfErr result IsOwn
     → ReadsAs g before after Q → IsOnlyRead g before after → IfErr result (IsUnanswered g before after IsOwn)
@@ -80,8 +81,8 @@ answers_none g IsOwn Is fault before after it = record {
 module _ {M S : Type 0} (g : Ghosts S) (opens : Opening M S) (shuts : Shutting M) (ends : Ending M S) (path : List ℕ) (IsOwn : Fault → Type 0)
     (Is : Register → Result (List ℕ) Fault → Type 0) where
   -- a register was taken up from the database at a path, answered, and let go
-  pub visited : (result : Result (String Global) Fault) (old between new : M) (desk : Desk (Held S)) (after : Held S) (closed : Done)
-      → IsUp opens path (plain g) old between desk → after ≡ desk.store → Ends ends after closed between new
+  pub visited : (result : Result (String Global) Fault) (old between new : M) (desk : Desk (Held S)) (after : Held S) (closed : Closed)
+      → IsUp opens path (plain g) old between desk → after ≡ desk.store → ends between after closed new
       → Prints IsMemory (Is desk.book.register) result → IfErr result IsOwn
       → Comes opens shuts ends path (WhileOpen (AnswersOf g IsOwn Is)) result old new
   visited result old between new desk after closed up same ended prints own = inr (record {
@@ -93,7 +94,7 @@ module _ {M S : Type 0} (g : Ghosts S) (opens : Opening M S) (shuts : Shutting M
     opened = up.opened;
     mode = up.mode;
     does = (up.taken_up.0, answers_of g IsOwn Is result up.before desk.store desk.book.register up.taken_up.1 prints own);
-    ended = subst (λ (h : Held S). Ends ends h closed between new) same ended;
+    ended = subst (λ (h : Held S). ends between h closed new) same ended;
   })
 
   -- it was not taken up
@@ -101,19 +102,7 @@ module _ {M S : Type 0} (g : Ghosts S) (opens : Opening M S) (shuts : Shutting M
       → IsNotUp opens shuts ends path (plain g) old new fault
       → Comes opens shuts ends path (WhileOpen (AnswersOf g IsOwn Is)) result old new
   unvisited (Ok value) old new fault is not = absurd is
-  unvisited (Err cause) old new fault is (inl (line, shut)) = inl (fault, ap Err is, line, shut)
-  unvisited (Err cause) old new fault is (inr visit) = inr (record {
-    before = visit.before;
-    after = visit.after;
-    closed = visit.closed;
-    middle = visit.middle;
-    later = visit.later;
-    opened = visit.opened;
-    mode = visit.mode;
-    does = (
-      visit.does.0.0,
-      subst (λ (f : Fault). AnswersOf g IsOwn Is (Err f) visit.before visit.after) (sym is)
-          (answers_none g IsOwn Is fault visit.before visit.after visit.does.0.1),
-    );
-    ended = visit.ended;
-  })
+  unvisited (Err told) old new fault is (inl (cause, of, shut)) = inl (cause, ap Err (is ∙ of), shut)
+  unvisited (Err told) old new fault is (inr visit) =
+      inr (visits-as opens ends path _ _ old new (λ middle before after closed later opened it.
+      (it.0, subst (λ (f : Fault). AnswersOf g IsOwn Is (Err f) before after) (sym is) (answers_none g IsOwn Is fault before after it.1))) visit)

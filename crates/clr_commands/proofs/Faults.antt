@@ -10,8 +10,12 @@ use Rattle.clr_load.specs.declared.fault.StoreFault.{StoreFault}
 use Rattle.clr_load.specs.declared.fault.StoreFault.TheVariants as store
 use Rattle.clr_desk.specs.declared.desk_fault.DeskFault.{DeskFault}
 use Rattle.clr_desk.specs.declared.desk_fault.DeskFault.TheVariants as desk
-use Rattle.clr_edge.specs.Database.{IsOfLine, IsOfStore}
-use Rattle.clr_edge.specs.Fault.{IsOfFile, of_desk, of_file, of_store}
+use Rattle.clr_edge.specs.Database.{IsOfStore}
+use Rattle.clr_edge.specs.Fault.{IsOfFile, of_database, of_desk, of_file, of_store}
+use Rattle.clr_edge.specs.Visit.{Closed, first_fault}
+use Rattle.clr_edge.specs.declared.fault.DatabaseFault.{DatabaseFault}
+use Rattle.clr_edge.specs.declared.fault.DatabaseFault.TheVariants as database
+use Rattle.clr_edge.proofs.Databases.{first_fault-of}
 use Rattle.clr_chain.specs.declared.fault.ChainFault.{ChainFault}
 use Rattle.clr_chain.specs.declared.fault.ChainFault.TheVariants as chain
 use Rattle.clr_chain.specs.declared.fault.NewFault.{NewFault}
@@ -87,9 +91,13 @@ memory_plain fault e = plain_as fault Memory e refl
 pub journal_plain : (fault : Fault) (cause : JournalFault) → fault ≡ Journal cause → IsOfSubcommand fault
 journal_plain fault cause is = plain_as fault (Journal cause) is refl
 
-pub line_plain : (fault : Fault) → IsOfLine fault → IsOfSubcommand fault
-line_plain fault (inl memory) = memory_plain fault memory
-line_plain fault (inr refused) = plain_as fault _ refused refl
+pub database_plain : (cause : DatabaseFault) → IsOfSubcommand (of_database cause)
+database_plain database.NoMemory = plain _ refl
+database_plain database.Sql = plain _ refl
+
+pub closed_plain : {T : Type 0} (told : Result T Fault) (closed : Closed) (result : Result T Fault) → result ≡ first_fault told closed → IfErr told IsOfSubcommand
+    → IfErr result IsOfSubcommand
+closed_plain told closed result is plain = first_fault-of told closed result (λ fault. IsOfSubcommand fault) is plain database_plain
 
 pub obstacle_plain : (fault : Fault) (cause : Obstacle) → fault ≡ Update cause → IsOfSubcommand fault
 obstacle_plain fault cause is = plain_as fault (Update cause) is refl

@@ -1,6 +1,6 @@
 -- What `migrate` prints of tables that were not moved, and of a journal that was begun.
-use Rattle.std.proofs.Common.{◌≡◌, ap, inl, inr, refl, subst, sym, ℕ, List, [], Result, Ok, Err}
-use Rattle.std.specs.Prelude.{IfErr, IsErrAnd, None, Option, Some, String, pos, string_bytes}
+use Rattle.std.proofs.Common.{◌≡◌, ◌∙◌, ap, inl, inr, refl, subst, sym, ℕ, List, [], Result, Ok, Err}
+use Rattle.std.specs.Prelude.{IsErrAnd, None, Option, Some, String, pos, string_bytes}
 use Rattle.std.specs.Borrow.{Bor}
 use Rattle.std.specs.declared.alloc.Global.{Global}
 use Rattle.sqlite.specs.Held.{Held}
@@ -10,17 +10,15 @@ use Rattle.clr_rules.specs.declared.place.Place.{Place}
 use Rattle.clr_print.specs.Printed.{board_text}
 use Rattle.clr_desk.specs.declared.desk.Desk.{Desk}
 use Rattle.clr_keeping.specs.Beginning.{IsOfBegun, PlacesAt}
-use Rattle.clr_edge.specs.Database.{IsOfLine}
 use Rattle.clr_keeping.specs.Keeping.{IsNotUp, IsUp, unlogged}
 use Rattle.clr_keeping.specs.TakenUp.{Logs}
-use Rattle.clr_edge.specs.Visit.{Alone, Comes, Done, Ending, Ends, MovesRegister, Opening, Shutting, first_fault}
+use Rattle.clr_edge.specs.Visit.{Alone, Closed, Comes, Done, Ending, MovesRegister, Opening, Shutting, first_fault}
 use Rattle.clr_edge.specs.declared.fault.Fault.{Fault}
+use Rattle.clr_edge.proofs.Databases.{visits-as}
 use Rattle.clr_edge.specs.declared.fault.Fault.TheVariants.{Memory}
 use Rattle.clr_args.specs.declared.asked.MigrateArgs.{MigrateArgs}
-use Rattle.clr_commands.specs.Faults.{IsOfSubcommand}
 use Rattle.clr_commands.specs.First.{board_files, first_place, made_at}
 use Rattle.clr_commands.specs.Migrate.{BeginsIn, BeginsOver, BeginsWith, MigratesAt, MigratesBy, MovesUnless, PrintsBegun, PrintsMoved, journal_line}
-use Rattle.clr_commands.proofs.Faults.{line_plain}
 
 -- the fault is passed on
 pub PrintsMoved-fault : (result : Result (String Global) Fault) (fault : Fault) → IsErrAnd result (λ cause. cause ≡ fault)
@@ -33,16 +31,6 @@ pub board_files-is : (R : Register) (sections points staff : List ℕ) → secti
     → record { sections = sections; points = points; staff = staff } ≡ board_files R
 board_files-is R sections points staff s p e = λ i. record { sections = s i; points = p i; staff = e i }
 
--- what is printed, once the database was closed
-pub first_fault-plain : (report : Result (String Global) Fault) (closed : Done) (result : Result (String Global) Fault) → IfErr report IsOfSubcommand → IfErr closed IsOfLine
-    → result ≡ first_fault report closed → IfErr result IsOfSubcommand
-first_fault-plain report closed result plain line is = subst (λ (it : Result (String Global) Fault). IfErr it IsOfSubcommand) (sym is) (by report closed plain line)
-  where
-    by : (report : Result (String Global) Fault) (closed : Done) → IfErr report IsOfSubcommand → IfErr closed IsOfLine → IfErr (first_fault report closed) IsOfSubcommand
-    by (Ok text) (Ok value) plain line = tt
-    by (Ok text) (Err fault) plain line = line_plain fault line
-    by (Err fault) closed plain line = plain
-
 -- a journal was begun over a register, at its first place
 pub BeginsOver-placed : {M J C T : Type 0} (g : Ghosts T) (logs : Logs M J C) (first place : Place) (path : List ℕ) (result : Result (String Global) Fault)
     (begun : Done) (old new : M) (read after : Held T) → place ≡ first → PrintsBegun place begun result → PlacesAt g logs path place begun old new read after
@@ -52,12 +40,12 @@ BeginsOver-placed g logs first place path result begun old new read after is pri
 
 module _ {M S J C : Type 0} (logs : Logs M J C) (g : Ghosts S) (opens : Opening M S) (shuts : Shutting M) (ends : Ending M S) (moment : ℕ) (path journal : List ℕ) where
   -- the register of the database at the path got a journal
-  pub begun_at : (report result : Result (String Global) Fault) (closed : Done) (old between later new : M) (desk : Desk (Held S)) (after : Held S)
+  pub begun_at : (report result : Result (String Global) Fault) (closed : Closed) (old between later new : M) (desk : Desk (Held S)) (after : Held S)
       → IsUp opens path (unlogged g) old between desk
       → BeginsOver g logs (first_place (board_files desk.book.register) (made_at moment path journal)) journal report between later desk.store after
-      → Ends ends after closed later new → IfErr closed IsOfLine → result ≡ first_fault report closed
+      → ends later after closed new → result ≡ first_fault report closed
       → Comes opens shuts ends path (BeginsIn g logs moment path journal) result old new
-  begun_at report result closed old between later new desk after up begun ended line is = inr (record {
+  begun_at report result closed old between later new desk after up begun ended is = inr (record {
     before = up.before;
     after = after;
     closed = closed;
@@ -74,7 +62,6 @@ module _ {M S J C : Type 0} (logs : Logs M J C) (g : Ghosts S) (opens : Opening 
         subst (λ (m : M). BeginsOver g logs (first_place (board_files desk.book.register) (made_at moment path journal)) journal report m later desk.store after)
             up.taken_up.0 begun,
       );
-      closing = line;
       result_is = is;
     };
     ended = ended;
@@ -85,23 +72,9 @@ module _ {M S J C : Type 0} (logs : Logs M J C) (g : Ghosts S) (opens : Opening 
       → IsNotUp opens shuts ends path (unlogged g) old new fault
       → Comes opens shuts ends path (BeginsIn g logs moment path journal) result old new
   unbegun_at (Ok value) old new fault is not = absurd is
-  unbegun_at (Err cause) old new fault is (inl (line, shut)) = inl (fault, ap Err is, line, shut)
-  unbegun_at (Err cause) old new fault is (inr visit) = inr (record {
-    before = visit.before;
-    after = visit.after;
-    closed = visit.closed;
-    middle = visit.middle;
-    later = visit.later;
-    opened = visit.opened;
-    mode = visit.mode;
-    does = record {
-      report = Err fault;
-      did = inl (visit.does.0.1, visit.does.0.0);
-      closing = visit.does.1;
-      result_is = ap Err is;
-    };
-    ended = visit.ended;
-  })
+  unbegun_at (Err told) old new fault is (inl (cause, of, shut)) = inl (cause, ap Err (is ∙ of), shut)
+  unbegun_at (Err told) old new fault is (inr visit) =
+      inr (visits-as opens ends path _ _ old new (λ middle before after closed later opened it. record { report = Err fault; did = inl (it.1, it.0); result_is = ap Err is }) visit)
 
 -- what is asked for: the tables moved, or a journal
 module _ {M S J C : Type 0} (logs : Logs M J C) (g : Ghosts S) (opens : Opening M S) (shuts : Shutting M) (ends : Ending M S) (args : MigrateArgs)

@@ -1,6 +1,6 @@
 -- A part of a journal that is begun at the place of a register: the faults, and what was done.
-use Rattle.std.proofs.Common.{◌≡◌, ◌⊎◌, ap, inl, inr, refl, subst, sym, ℕ, List, Result, Ok, Err}
-use Rattle.std.specs.Prelude.{◌≢◌, IfErr, IsErrAnd, Option, Some, String, decimal}
+use Rattle.std.proofs.Common.{◌≡◌, ◌⊎◌, ◌∙◌, ap, inl, inr, refl, subst, sym, ℕ, List, Result, Ok, Err}
+use Rattle.std.specs.Prelude.{◌≢◌, IsErrAnd, Option, Some, String, decimal}
 use Rattle.std.specs.declared.alloc.Global.{Global}
 use Rattle.sqlite.specs.Held.{Held, state}
 use Rattle.sqlite_trees.specs.declared.store.Store.{Ghosts}
@@ -9,9 +9,9 @@ use Rattle.clr_level.proofs.BegunLevel.{begun_level}
 use Rattle.clr_desk.specs.declared.desk.Desk.{Desk}
 use Rattle.clr_keeping.specs.Keeping.{IsNotUp, IsUp, plain}
 use Rattle.clr_keeping.specs.TakenUp.{HasPlace, LacksPlace, Logs, StaysRead, store_place}
-use Rattle.clr_edge.specs.Database.{IsOfLine}
-use Rattle.clr_edge.specs.Visit.{Done, Ending, Ends, Opening, Shutting, first_fault}
+use Rattle.clr_edge.specs.Visit.{Closed, Done, Ending, Opening, Shutting, first_fault}
 use Rattle.clr_edge.specs.declared.fault.Fault.{Fault}
+use Rattle.clr_edge.proofs.Databases.{visits-as}
 use Rattle.clr_edge.specs.declared.fault.Fault.TheVariants.{Journal, Memory}
 use Rattle.clr_edge.specs.declared.fault.JournalFault.TheVariants.{Differs}
 use Rattle.clr_rules.specs.Register.{Register}
@@ -52,12 +52,12 @@ over_found {T = T} g logs path after result old new read R held left found same 
 
 module _ {M S J C : Type 0} (logs : Logs M J C) (g : Ghosts S) (opens : Opening M S) (shuts : Shutting M) (ends : Ending M S) (path journal after : List ℕ) where
   -- the register of the database at the path was read, and the part begun or not
-  pub parts_at : (report result : Result (String Global) Fault) (closed : Done) (old between later new : M) (desk : Desk (Held S)) (left : Held S)
+  pub parts_at : (report result : Result (String Global) Fault) (closed : Closed) (old between later new : M) (desk : Desk (Held S)) (left : Held S)
       → IsUp opens path (plain g) old between desk
       → PartsOver g logs journal after report between later desk.store desk.book.register left
-      → Ends ends left closed later new → IfErr closed IsOfLine → result ≡ first_fault report closed
+      → ends later left closed new → result ≡ first_fault report closed
       → BeginsAfter logs g opens shuts ends path journal after result old new
-  parts_at report result closed old between later new desk left up begun ended line is = inr (record {
+  parts_at report result closed old between later new desk left up begun ended is = inr (record {
     before = up.before;
     after = left;
     closed = closed;
@@ -73,7 +73,6 @@ module _ {M S J C : Type 0} (logs : Logs M J C) (g : Ghosts S) (opens : Opening 
         up.taken_up.1,
         subst (λ (m : M). PartsOver g logs journal after report m later desk.store desk.book.register left) up.taken_up.0 begun,
       );
-      closing = line;
       result_is = is;
     };
     ended = ended;
@@ -84,20 +83,6 @@ module _ {M S J C : Type 0} (logs : Logs M J C) (g : Ghosts S) (opens : Opening 
       → IsNotUp opens shuts ends path (plain g) old new fault
       → BeginsAfter logs g opens shuts ends path journal after result old new
   unread_at (Ok value) old new fault is not = absurd is
-  unread_at (Err cause) old new fault is (inl (line, shut)) = inl (fault, ap Err is, line, shut)
-  unread_at (Err cause) old new fault is (inr visit) = inr (record {
-    before = visit.before;
-    after = visit.after;
-    closed = visit.closed;
-    middle = visit.middle;
-    later = visit.later;
-    opened = visit.opened;
-    mode = visit.mode;
-    does = record {
-      report = Err fault;
-      did = inl (visit.does.0.1, visit.does.0.0);
-      closing = visit.does.1;
-      result_is = ap Err is;
-    };
-    ended = visit.ended;
-  })
+  unread_at (Err told) old new fault is (inl (cause, of, shut)) = inl (cause, ap Err (is ∙ of), shut)
+  unread_at (Err told) old new fault is (inr visit) =
+      inr (visits-as opens ends path _ _ old new (λ middle before after closed later opened it. record { report = Err fault; did = inl (it.1, it.0); result_is = ap Err is }) visit)

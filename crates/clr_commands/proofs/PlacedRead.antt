@@ -1,5 +1,5 @@
 -- A register that was read with its place: nothing more was changed as the place was read.
-use Rattle.std.proofs.Common.{◌≡◌, ap, inl, inr, subst, sym, ℕ, List, Result, Ok, Err}
+use Rattle.std.proofs.Common.{◌≡◌, ◌∙◌, ap, inl, inr, subst, sym, ℕ, List, Result, Ok, Err}
 use Rattle.std.specs.Prelude.{IfErr, IfOk, IsErrAnd, None, Some}
 use Rattle.sqlite.specs.Held.{Held}
 use Rattle.sqlite_trees.specs.declared.store.Store.{Ghosts}
@@ -8,8 +8,9 @@ use Rattle.clr_rules.specs.Register.{Register}
 use Rattle.clr_desk.specs.declared.desk.Desk.{Desk}
 use Rattle.clr_keeping.specs.Keeping.{IsNotUp, IsReadFrom, IsUp, plain}
 use Rattle.clr_keeping.specs.TakenUp.{IsOfTakingUp}
-use Rattle.clr_edge.specs.Visit.{Comes, Done, Ending, Ends, Opening, Shutting}
+use Rattle.clr_edge.specs.Visit.{Closed, Comes, Ending, Opening, Shutting}
 use Rattle.clr_edge.specs.declared.fault.Fault.{Fault}
+use Rattle.clr_edge.proofs.Databases.{visits-as}
 use Rattle.clr_keeping.proofs.TakenUp.{from_on_stays, place_on_stays, unplaced_on, unsuited_on}
 use Rattle.clr_commands.specs.Verify.{IsPlacedRead, IsRead, Placed, ReadsPlaced}
 
@@ -17,9 +18,9 @@ use Rattle.clr_commands.specs.Verify.{IsPlacedRead, IsRead, Placed, ReadsPlaced}
 
 module _ {M S : Type 0} (g : Ghosts S) (opens : Opening M S) (shuts : Shutting M) (ends : Ending M S) (path : List ℕ) where
   -- a register was taken up from the database at a path, its place read, and the database closed
-  pub came : (told : Result Placed Fault) (old between new : M) (desk : Desk (Held S)) (after : Held S) (closed : Done)
+  pub came : (told : Result Placed Fault) (old between new : M) (desk : Desk (Held S)) (after : Held S) (closed : Closed)
       → IsUp opens path (plain g) old between desk → IsPlacedRead g desk.store desk.book.register told after
-      → Ends ends after closed between new → Comes opens shuts ends path (ReadsPlaced g) told old new
+      → ends between after closed new → Comes opens shuts ends path (ReadsPlaced g) told old new
   came told old between new desk after closed up placed ended = inr (record {
     before = up.before;
     after = after;
@@ -47,21 +48,10 @@ module _ {M S : Type 0} (g : Ghosts S) (opens : Opening M S) (shuts : Shutting M
   pub not_came : (result : Result Placed Fault) (old new : M) (fault : Fault) → IsErrAnd result (λ cause. cause ≡ fault)
       → IsNotUp opens shuts ends path (plain g) old new fault → Comes opens shuts ends path (ReadsPlaced g) result old new
   not_came (Ok value) old new fault is not = absurd is
-  not_came (Err cause) old new fault is (inl (line, shut)) = inl (fault, ap Err is, line, shut)
-  not_came (Err cause) old new fault is (inr visit) = inr (record {
-    before = visit.before;
-    after = visit.after;
-    closed = visit.closed;
-    middle = visit.middle;
-    later = visit.later;
-    opened = visit.opened;
-    mode = visit.mode;
-    does = (
-      visit.does.0.0,
-      subst (λ (f : Fault). IsRead g (Err f) visit.before visit.after) (sym is) (inl visit.does.0.1),
-    );
-    ended = visit.ended;
-  })
+  not_came (Err told) old new fault is (inl (cause, of, shut)) = inl (cause, ap Err (is ∙ of), shut)
+  not_came (Err told) old new fault is (inr visit) =
+      inr (visits-as opens ends path _ _ old new (λ middle before after closed later opened it.
+      (it.0, subst (λ (f : Fault). IsRead g (Err f) before after) (sym is) (inl it.1))) visit)
 
 -- what was read of a good register is good
 pub good_read : {S : Type 0} (g : Ghosts S) (desk : Held S) (R : Register) (after : Held S) (told : Result Placed Fault) → IsGood R → IsPlacedRead g desk R told after

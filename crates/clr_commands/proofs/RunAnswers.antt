@@ -1,6 +1,6 @@
 -- What a run over a register answers.
 use Rattle.std.proofs.Common.{◌≡◌, ◌∙◌, ap, inl, inr, refl, subst, sym, ℕ, List, Option, Result, Ok, Err}
-use Rattle.std.specs.Prelude.{Some, None, IfErr, IfSome, IsErrAnd, IsErrOf, option_map}
+use Rattle.std.specs.Prelude.{Some, None, IfSome, IsErrAnd, IsErrOf, option_map}
 use Rattle.clr_stream.specs.Failures.{Rose}
 use Rattle.clr_desk.specs.Taking.{Taking}
 use Rattle.clr_desk.specs.declared.desk.Desk.{Desk}
@@ -15,12 +15,11 @@ use Rattle.sqlite.specs.State.{State}
 use Rattle.clr_desk.specs.Faults.{IsOfKeeper}
 use Rattle.clr_desk.specs.declared.desk_fault.DeskFault.{DeskFault}
 use Rattle.clr_desk.specs.declared.desk_fault.DeskFault.TheVariants as desk
-use Rattle.clr_edge.specs.Database.{IsOfLine}
 use Rattle.clr_edge.specs.Fault.{of_desk, of_store}
 use Rattle.clr_edge.specs.Journals.{of_chain}
 use Rattle.clr_keeping.specs.Keeping.{IsDoneOver}
 use Rattle.clr_keeping.specs.TakenUp.{IsOfTakingUp, of_opening}
-use Rattle.clr_edge.specs.Visit.{Done}
+use Rattle.clr_edge.specs.Visit.{Closed}
 use Rattle.clr_edge.specs.declared.fault.Fault.{Fault}
 use Rattle.clr_edge.specs.declared.fault.Fault.TheVariants.{Input}
 use Rattle.clr_edge.specs.declared.fault.InputFault.TheVariants.{ReadFailed}
@@ -32,7 +31,7 @@ use Rattle.clr_commands.specs.Import.{FileRows}
 use Rattle.clr_commands.specs.Replies.{PrintsAnswers, answers, asked_lines, readings_of}
 use Rattle.clr_commands.specs.Run.{IsOpeningOf, IsRunOf, ReadsInput, RunsOnDesk, ended_by, printed_after, rows_fault}
 use Rattle.clr_commands.specs.declared.replies.Printed.{Printed}
-use Rattle.clr_commands.proofs.Faults.{answers_plain, input_plain, line_plain}
+use Rattle.clr_commands.proofs.Faults.{answers_plain, database_plain, input_plain}
 
 -- ---- the input
 
@@ -97,7 +96,7 @@ taking_up-no_input fault (inr (inr (inr (cause, is)))) e = opening-no_input caus
 
 -- closing its database reads no more of it
 pub ReadsInput-closed : {X : Type 0} (input : Option (List ℕ)) (n n' : ℕ) (before after : X) (printed : Result Printed Fault)
-    (closed : Done) (result : Result Printed Fault) → result ≡ printed_after printed closed
+    (closed : Closed) (result : Result Printed Fault) → result ≡ printed_after printed closed
     → ReadsInput input n n' before after printed → ReadsInput input n n' before after result
 ReadsInput-closed input n n' before after printed closed result is reads =
     subst (λ (r : Result Printed Fault). ReadsInput input n n' before after r) (sym is) (by printed reads)
@@ -158,18 +157,18 @@ pub FailsAsSubcommand-desk : {K : Type 0} (fails : DeskFault → Type 0) (kept :
 FailsAsSubcommand-desk fails kept takes old new input (Ok printed) (bytes, is_input, over, put) = answers_plain over.run
 FailsAsSubcommand-desk fails kept takes old new input (Err fault) of = input_plain input fault of
 
-ended_plain : (fault : Option Fault) (closed : Done) → IfSome fault IsOfSubcommand → IfErr closed IsOfLine → IfSome (ended_by fault closed) IsOfSubcommand
-ended_plain (Some fault) closed plain line = plain
-ended_plain None (Ok value) plain line = tt
-ended_plain None (Err fault) plain line = line_plain fault line
+ended_plain : (fault : Option Fault) (closed : Closed) → IfSome fault IsOfSubcommand → IfSome (ended_by fault closed) IsOfSubcommand
+ended_plain (Some fault) closed plain = plain
+ended_plain None (Ok value) plain = tt
+ended_plain None (Err cause) plain = database_plain cause
 
 -- what closing adds to them
-pub FailsAsSubcommand-closed : (printed : Result Printed Fault) (closed : Done) (result : Result Printed Fault) → result ≡ printed_after printed closed
-    → IfErr closed IsOfLine → FailsAsSubcommand printed → FailsAsSubcommand result
-FailsAsSubcommand-closed printed closed result is line plain = subst (λ (r : Result Printed Fault). FailsAsSubcommand r) (sym is) (by printed plain)
+pub FailsAsSubcommand-closed : (printed : Result Printed Fault) (closed : Closed) (result : Result Printed Fault) → result ≡ printed_after printed closed
+    → FailsAsSubcommand printed → FailsAsSubcommand result
+FailsAsSubcommand-closed printed closed result is plain = subst (λ (r : Result Printed Fault). FailsAsSubcommand r) (sym is) (by printed plain)
   where
     by : (printed : Result Printed Fault) → FailsAsSubcommand printed → FailsAsSubcommand (printed_after printed closed)
-    by (Ok run) plain = ended_plain run.fault closed plain line
+    by (Ok run) plain = ended_plain run.fault closed plain
     by (Err fault) plain = plain
 
 pub FailsAsSubcommand-passed : (result : Result Printed Fault) (fault : Fault) → IsErrAnd result (λ cause. cause ≡ fault) → IsOfSubcommand fault

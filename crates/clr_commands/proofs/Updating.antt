@@ -55,13 +55,12 @@ use Rattle.clr_level.specs.Renewing.{AreDoneSafely, RenewsAt}
 use Rattle.clr_level.specs.declared.keeper.Keeper.{Keeper}
 use Rattle.clr_level.proofs.Crashes.{left_itself}
 use Rattle.clr_args.specs.declared.asked.UpdateArgs.{UpdateArgs}
-use Rattle.clr_edge.specs.Database.{IsOfLine}
 use Rattle.clr_edge.specs.Fault.{of_desk, of_store}
 use Rattle.clr_keeping.specs.Keeping.{IsLetGo, IsUpWith, StaysLevel, StaysOne, plain_keeper}
 use Rattle.clr_keeping.specs.TakenUp.{Logs, store_place}
 use Rattle.clr_keeping.specs.declared.taking_up.Opened.TheVariants.{Logged, Plain}
 use Rattle.clr_keeping.proofs.Keeping.{worked_either}
-use Rattle.clr_edge.specs.Visit.{Done, Ending, Ends, Opening, Shutting, first_fault}
+use Rattle.clr_edge.specs.Visit.{Closed, Ending, Opening, Shutting, first_fault}
 use Rattle.clr_edge.specs.declared.fault.Fault.{Fault}
 use Rattle.clr_edge.specs.declared.fault.Fault.TheVariants.{Memory, Update}
 use Rattle.clr_update.specs.declared.obstacle.Obstacle.{Obstacle}
@@ -70,7 +69,7 @@ use Rattle.clr_commands.specs.Faults.{IsOfSubcommand}
 use Rattle.clr_commands.specs.Fence.{argument}
 use Rattle.clr_commands.specs.Import.{FileRows}
 use Rattle.clr_commands.specs.Update.{AreSaid, IsDone, IsRenewed, IsUpdated, NotesUpdate, RefusesUpdate, ReportsUpdate, Texts, UpdatesAlone, UpdatesAt, UpdatesLogged, WithJournal, names_said, reported, text_reported, update_fault}
-use Rattle.clr_commands.proofs.Faults.{line_plain, obstacle_plain, of_desk_plain}
+use Rattle.clr_commands.proofs.Faults.{obstacle_plain, of_desk_plain}
 use Rattle.clr_commands.proofs.PointsNamed.{names_after}
 
 -- ---- the names that words say, one by one from the left
@@ -323,15 +322,10 @@ pub levels_alike : {K J C : Type 0} (kept : K → State) (has_place : Placing) (
 levels_alike kept has_place text d first start good level = level
 
 -- ---- over a database
-pub answer_plain : (fails : DeskFault → Type 0) (R : Register) (u : Changed) (report : Texts) (closed : Done) (result : Texts) → ReportsUpdate fails R u report
-    → IfErr closed IsOfLine → result ≡ first_fault report closed → IfErr result IsOfSubcommand
-answer_plain fails R u report closed result reports line is = subst (λ (it : Texts). IfErr it IsOfSubcommand) (sym is) (by report closed reports line)
-  where
-    by : (report : Texts) (closed : Done) → ReportsUpdate fails R u report → IfErr closed IsOfLine → IfErr (first_fault report closed) IsOfSubcommand
-    by (Ok text) (Ok value) reports line = tt
-    by (Ok text) (Err fault) reports line = line_plain fault line
-    by (Err fault) closed (inl (cause, is, way)) line = obstacle_plain fault cause is
-    by (Err fault) closed (inr (cause, is, of)) line = subst (λ (f : Fault). IsOfSubcommand f) (sym is) (of_desk_plain cause)
+pub answer_plain : (fails : DeskFault → Type 0) (R : Register) (u : Changed) (report : Texts) → ReportsUpdate fails R u report → IfErr report IsOfSubcommand
+answer_plain fails R u (Ok text) reports = tt
+answer_plain fails R u (Err fault) (inl (cause, is, way)) = obstacle_plain fault cause is
+answer_plain fails R u (Err fault) (inr (cause, is, of)) = subst (λ (f : Fault). IsOfSubcommand f) (sym is) (of_desk_plain cause)
 
 -- a register that was taken up without a journal has none named
 none_named : {M J C S : Type 0} (logs : Logs M J C) (g : Ghosts S) (opens : Opening M S) (path : List ℕ) (journal : Option (Bor (List ℕ))) (old new : M) (desk : Desk (Held S)) (So : Type 0)
@@ -345,24 +339,24 @@ where_named (Some journal) So so = so
 
 module _ {M J C S : Type 0} (logs : Logs M J C) (g : Ghosts S) (opens : Opening M S) (shuts : Shutting M) (ends : Ending M S) (args : UpdateArgs) (u : Changed) where
   -- the register of the database at the path was updated, or something was in the way
-  pub updated_alone : (report result : Texts) (closed : Done) (old between new : M) (desk : Desk (Held S)) (store after : Held S)
+  pub updated_alone : (report result : Texts) (closed : Closed) (old between new : M) (desk : Desk (Held S)) (store after : Held S)
       → IsUpWith g opens args.database.now logs args.journal old between (Plain desk) → ReportsUpdate FailsAsStore desk.book.register u report
-      → IsDone (state g) args.dry_run desk.book.register u report desk.store store → after ≡ store → Ends ends after closed between new → IfErr closed IsOfLine
+      → IsDone (state g) args.dry_run desk.book.register u report desk.store store → after ≡ store → ends between after closed new
       → result ≡ first_fault report closed → UpdatesAt logs g opens shuts ends args u result old new
-  updated_alone report result closed old between new desk store after up reports is_done same ended line is =
+  updated_alone report result closed old between new desk store after up reports is_done same ended is =
       let left : Desk (Held S) = record { book = desk.book; store = store; faults = desk.faults } in
       worked_either g opens shuts shuts ends args.database.now (Unit {0}) first_fault logs (UpdatesAlone args u (Held S) (plain_keeper g))
       (UpdatesLogged logs g args u) args.journal report result old between between new (Plain desk) (Plain left) closed up
       (refl, record { reports = reports; is_done = is_done; said = none_named logs g opens args.database.now args.journal old between desk (AreSaid u desk left) up })
-      tt (store, between, (refl, refl), subst (λ (h : Held S). Ends ends h closed between new) same ended) line is
+      tt (store, between, (refl, refl), subst (λ (h : Held S). ends between h closed new) same ended) is
 
   -- with its journal, with which it stays level, and in which it has its line
-  pub updated_level : (report result : Texts) (closed : Done) (old between new : M) (desk left : Desk (Keeper (Held S) J C))
+  pub updated_level : (report result : Texts) (closed : Closed) (old between new : M) (desk left : Desk (Keeper (Held S) J C))
       → IsUpWith g opens args.database.now logs args.journal old between (Logged desk) → ReportsUpdate (FailsToo FailsAsStore) desk.book.register u report
       → IsDone (λ (it : Keeper (Held S) J C). state g it.keeper) args.dry_run desk.book.register u report desk.store left.store → AreSaid u desk left
       → NotesUpdate (state g) store_place FailsAsStore logs.shows logs.log args.dry_run u report desk left → StaysOne (state g) store_place logs.log desk left
-      → IsLetGo ends logs (Logged left) closed between new → IfErr closed IsOfLine → result ≡ first_fault report closed
+      → IsLetGo ends logs (Logged left) closed between new → result ≡ first_fault report closed
       → UpdatesAt logs g opens shuts ends args u result old new
-  updated_level report result closed old between new desk left up reports is_done said noted stays gone line is =
+  updated_level report result closed old between new desk left up reports is_done said noted stays gone is =
       worked_either g opens shuts shuts ends args.database.now (Unit {0}) first_fault logs (UpdatesAlone args u (Held S) (plain_keeper g))
-      (UpdatesLogged logs g args u) args.journal report result old between between new (Logged desk) (Logged left) closed up ((refl, record { reports = reports; is_done = is_done; said = where_named args.journal (AreSaid u desk left) said }), noted) stays gone line is
+      (UpdatesLogged logs g args u) args.journal report result old between between new (Logged desk) (Logged left) closed up ((refl, record { reports = reports; is_done = is_done; said = where_named args.journal (AreSaid u desk left) said }), noted) stays gone is

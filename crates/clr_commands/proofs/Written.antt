@@ -1,7 +1,7 @@
 -- What a server writes: its line, and the lines of connections that failed.
 use Rattle.std.proofs.Common.{◌≡◌, ◌≢◌, ◌⊎◌, ◌∙◌, ℕ, zero, suc, ◌+◌, not, List, Option, None, Some, Result, Ok, Err, ap, inl, inr, subst, sym}
 use Rattle.std.specs.Borrow.{Bor}
-use Rattle.std.specs.Prelude.{IfErr, IsErrAnd, position}
+use Rattle.std.specs.Prelude.{IsErrAnd, position}
 use Rattle.std.specs.declared.io.ErrorKind.{ErrorKind}
 use Rattle.std.specs.declared.io.ErrorKind.TheVariants.{OutOfMemory}
 use Rattle.sqlite.specs.Held.{Held}
@@ -16,14 +16,15 @@ use Rattle.clr_staff.specs.declared.logins.LoginRow.{LoginRow}
 use Rattle.clr_args.specs.declared.asked.ServeArgs.{ServeArgs}
 use Rattle.clr_load.specs.declared.fault.StoreFault.{StoreFault}
 use Rattle.clr_load.specs.declared.fault.StoreFault.TheVariants as store
-use Rattle.clr_edge.specs.Database.{IsOfLine}
-use Rattle.clr_edge.specs.Fault.{of_store}
+use Rattle.clr_edge.specs.Fault.{of_database, of_store}
 use Rattle.clr_keeping.specs.Keeping.{IsNotReadAlone, Keeping, Works, WorksIn, logged, unlogged}
 use Rattle.clr_keeping.specs.TakenUp.{IsNotTakenUp, Logs}
 use Rattle.clr_keeping.specs.TakenUp.IsNotTakenUp.{apart as was_apart, refused as was_refused, unopened as was_unopened, unplaced as was_unplaced, without as was_without}
 use Rattle.clr_edge.specs.Logins.{is_employee, unless_unknown}
 use Rattle.clr_edge.specs.Loopback.{listen_fault}
-use Rattle.clr_edge.specs.Visit.{Done, Ending, Opening, Shutting, first_fault}
+use Rattle.clr_edge.specs.Visit.{Closed, Done, Ending, Opening, Shutting, first_fault}
+use Rattle.clr_edge.specs.declared.fault.DatabaseFault.{DatabaseFault}
+use Rattle.clr_edge.specs.declared.fault.DatabaseFault.TheVariants as database
 use Rattle.clr_edge.specs.declared.fault.Fault.{Fault}
 use Rattle.clr_edge.specs.declared.fault.Fault.TheVariants.{Output, UnknownEmployee}
 use Rattle.clr_edge.specs.declared.loopback.Loopback as loopback
@@ -60,9 +61,9 @@ unfolding ReportsFirst
 one_more_reported n errors reported errors' first next = (reported, first, next)
 
 -- which faults are not of the output
-pub line_other : (fault : Fault) → IsOfLine fault → fault ≢ Output
-line_other fault (inl memory) e = cc (sym memory ∙ e)
-line_other fault (inr refused) e = cc (sym refused ∙ e)
+pub database_other : (cause : DatabaseFault) → of_database cause ≢ Output
+database_other database.NoMemory e = cc e
+database_other database.Sql e = cc e
 
 pub store_other : (cause : StoreFault) → of_store cause ≢ Output
 store_other store.NoMemory e = cc e
@@ -87,10 +88,6 @@ not_taken_other g logs path old new before after fault (was_unplaced it same) e 
 not_taken_other g logs path old new before after fault (was_without it is same) e = cc (sym is ∙ e)
 not_taken_other g logs path old new before after fault (was_unopened place it of shuts) e = (taking_up_plain fault (inr (inr (inl of)))).0 e
 not_taken_other g logs path old new before after fault (was_apart it) e = (taking_up_plain fault (inr (inr (inr (it.cause, it.fault_is))))).0 e
-
-closed_other : (closed : Done) → IfErr closed IsOfLine → IfErr closed (λ fault. fault ≢ Output)
-closed_other (Ok value) line = tt
-closed_other (Err fault) line = line_other fault line
 
 -- WHAT A SERVER WROTE, by its result: its line, and what is reported of each connection; nothing,
 -- or a part of its line, where it did not begin
@@ -134,35 +131,32 @@ module _ {D M L R W : Type 0} (by : registrar.Ghosts D) (net : loopback.Ghosts M
         ),
       ))
 
-  terms_written : (terms : Terms) (k k' : D) (served closed : Done) (old new : M)
+  terms_written : (terms : Terms) (k k' : D) (served : Done) (closed : Closed) (old new : M)
       → ServesKeeper by net seen output output' errors errors' terms k k' served old new
-      → IfErr closed (λ fault. fault ≢ Output) → Writes terms.port terms.count (first_fault served closed) output output' errors errors'
-  terms_written terms k k' (Ok value) closed old new (listener, middle, stands, went, taken, run) other =
-      closed_written closed other (first_reported by net seen terms listener terms.count k k' errors errors' middle new taken)
-    where
-      closed_written : (closed : Done) → IfErr closed (λ fault. fault ≢ Output) → ReportsFirst terms.count errors errors'
-          → Writes terms.port terms.count (first_fault (Ok value) closed) output output' errors errors'
-      closed_written (Ok done) other reported = (went, reported)
-      closed_written (Err fault) other reported = inr (inr (other, went, (terms.count, reported)))
-  terms_written terms k k' (Err fault) closed old new serves other = keeper_written terms k k' fault old new serves
+      → Writes terms.port terms.count (first_fault served closed) output output' errors errors'
+  terms_written terms k k' (Ok value) (Ok done) old new (listener, middle, stands, went, taken, run) =
+      (went, first_reported by net seen terms listener terms.count k k' errors errors' middle new taken)
+  terms_written terms k k' (Ok value) (Err cause) old new (listener, middle, stands, went, taken, run) =
+      inr (inr (database_other cause, went, (terms.count, first_reported by net seen terms listener terms.count k k' errors errors' middle new taken)))
+  terms_written terms k k' (Err fault) closed old new serves = keeper_written terms k k' fault old new serves
 
   -- a server that is asked for, whose logins the staff may lack
-  asked_written : (args : ServeArgs) (staff : List StaffRow) (logins : Option (List LoginRow)) (k k' : D) (served closed : Done) (old new : M)
+  asked_written : (args : ServeArgs) (staff : List StaffRow) (logins : Option (List LoginRow)) (k k' : D) (served : Done) (closed : Closed) (old new : M)
       → ServesOn by net seen output output' errors errors' (terms_of args staff logins) k k' served old new
-      → IfErr closed (λ fault. fault ≢ Output) → Writes args.port args.count (first_fault served closed) output output' errors errors'
-  asked_written args staff None k k' served closed old new serves other = terms_written (terms_with args None) k k' served closed old new serves other
-  asked_written args staff (Some rows) k k' served closed old new serves other = of (position (λ row. not (is_employee staff row.employee)) rows) serves
+      → Writes args.port args.count (first_fault served closed) output output' errors errors'
+  asked_written args staff None k k' served closed old new serves = terms_written (terms_with args None) k k' served closed old new serves
+  asked_written args staff (Some rows) k k' served closed old new serves = of (position (λ row. not (is_employee staff row.employee)) rows) serves
     where
       of : (place : Option ℕ)
           → ServesOn by net seen output output' errors errors' (unless_unknown rows place >>= (λ known. Ok (terms_with args (Some known)))) k k' served old new
           → Writes args.port args.count (first_fault served closed) output output' errors errors'
-      of None serves = terms_written (terms_with args (Some rows)) k k' served closed old new serves other
+      of None serves = terms_written (terms_with args (Some rows)) k k' served closed old new serves
       of (Some place) (kept, (is, untouched, same, quiet)) =
           unserved_written output output' errors errors' args.port args.count (UnknownEmployee (place + 1)) (first_fault served closed) (λ e. cc e) (ap (λ (r : Done). first_fault r closed) is) same quiet
 
 module _ {M L R W : Type 0} (net : loopback.Ghosts M L R W) (seen : Seen R W) (output output' errors errors' : Stream) (args : ServeArgs) (logins : Option (List LoginRow)) where
   over_written : {T K : Type 0} (by : Keeping M T K) → ((old new : M) (before after : Held T) (fault : Fault) → by.refuses old new before fault after → fault ≢ Output)
-      → (result : Done) (old new : M) (before after : Held T) (closed : Done)
+      → (result : Done) (old new : M) (before after : Held T) (closed : Closed)
       → WorksIn by ((output' ≡ output) × (errors' ≡ errors)) (ServesDesk net seen args logins output output' errors errors' by.keeper) first_fault result old before after closed new
       → Writes args.port args.count result output output' errors errors'
   over_written {T} {K} by refused_other result old new before after closed did =
@@ -175,14 +169,14 @@ module _ {M L R W : Type 0} (net : loopback.Ghosts M L R W) (seen : Seen R W) (o
       of (Err fault) (inl (refused, (same, quiet))) = inl (refused_other old new before after fault refused, same, quiet)
       of told (inr it) =
           asked_written (desk_keeps by.keeper) net seen output output' errors errors' args it.taken.book.register.staff logins it.taken it.left told closed
-          it.between it.later it.did.serves (closed_other closed did.closing)
+          it.between it.later it.did.serves
 
   kept_written : {S J C : Type 0} (logs : Logs M J C) (g : Ghosts S) (opens : Opening M S) (shuts : Shutting M) (ends : Ending M S)
       (journal : Option (Bor (List ℕ))) (path : List ℕ) (result : Done) (old new : M)
       → ServesKept net seen args logins output output' errors errors' logs g opens shuts ends journal path result old new
       → Writes args.port args.count result output output' errors errors'
-  kept_written logs g opens shuts ends journal path result old new (inl (fault, is, line, (shut, same, quiet))) =
-      unserved_written output output' errors errors' args.port args.count fault result (line_other fault line) is same quiet
+  kept_written logs g opens shuts ends journal path result old new (inl (cause, is, (shut, same, quiet))) =
+      unserved_written output output' errors errors' args.port args.count (of_database cause) result (database_other cause) is same quiet
   kept_written logs g opens shuts ends None path result old new (inr visit) =
       over_written (unlogged g) (λ old new before after fault not. not_alone_other g before after fault not.1)
       result visit.middle visit.later visit.before visit.after visit.closed visit.does

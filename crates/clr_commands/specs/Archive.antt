@@ -19,7 +19,7 @@ use Rattle.clr_stream.specs.Streams.{IsCut, Stream, WentOut}
 use Rattle.clr_load.specs.Tables.{tables_of}
 use Rattle.clr_keeping.specs.Keeping.{WorksEither, logged_keeper, plain_keeper}
 use Rattle.clr_keeping.specs.TakenUp.{Logs, store_place}
-use Rattle.clr_edge.specs.Visit.{Comes, Done, Ending, Opening, Shutting, first_fault}
+use Rattle.clr_edge.specs.Visit.{Closed, Comes, Done, Ending, Opening, Shutting, first_fault}
 use Rattle.clr_edge.specs.declared.fault.Fault.{Fault}
 use Rattle.clr_edge.specs.declared.fault.Fault.TheVariants.{Memory, Output}
 use Rattle.clr_commands.specs.ArchiveText.{archive_text}
@@ -69,7 +69,7 @@ ArchivesLogged {J = J} {C = C} {S = S} logs g before output output' reported old
 -- with a journal or without one: the register is taken up, archived and let go, and the database
 -- closed. Where it was not taken up nothing went out. The first fault is the result
 abbrev pub ArchivesOver : {M J C S : Type 0} → Logs M J C → Ghosts S → ArchiveArgs → Stream
-    → Stream → Done → M → Held S → Held S → Done → M → Type 0
+    → Stream → Done → M → Held S → Held S → Closed → M → Type 0
 ArchivesOver {S = S} logs g args output output' = WorksEither logs g args.journal
     (output' ≡ output) (ArchivesAlone args.before output output' (Held S) (plain_keeper g))
     (ArchivesLogged logs g args.before output output') first_fault

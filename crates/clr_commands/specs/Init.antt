@@ -14,7 +14,7 @@ use Rattle.clr_args.specs.declared.asked.Files.{Files}
 use Rattle.clr_args.specs.declared.asked.InitArgs.{InitArgs}
 use Rattle.clr_args.specs.declared.asked.StoredArgs.{StoredArgs}
 use Rattle.clr_keeping.specs.Beginning.{BeginsFirst, IsOfBegun}
-use Rattle.clr_edge.specs.Database.{IsOfLine}
+use Rattle.clr_edge.specs.Database.{IsDatabaseFault}
 use Rattle.clr_keeping.specs.TakenUp.{Logs}
 use Rattle.clr_edge.specs.Visit.{Done}
 use Rattle.clr_edge.specs.declared.fault.Fault.{Fault}
@@ -59,7 +59,7 @@ abbrev pub Stores : {M : Type 0} → (Register → Done → M → M → Type 0) 
     → Result (String Global) Fault → M → M → Type 0
 Stores Comes rows result old new = (IsErrAnd result (RefusesRows rows) × (new ≡ old))
     ⊎ ((R : Register) × IsOpeningOf rows R × (stored : Done)
-    × PrintsStored IsOfLine rows stored result × Comes R stored old new)
+    × PrintsStored IsDatabaseFault rows stored result × Comes R stored old new)
 
 -- ---- with a journal
 

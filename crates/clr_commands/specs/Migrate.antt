@@ -1,5 +1,5 @@
 -- What `migrate` prints of the database at a path.
-use Rattle.std.specs.Prelude.{◌≡◌, ◌⊎◌, ℕ, List, ◌++◌, IfErr, IsErrAnd, None, Option, Result, Ok, Err}
+use Rattle.std.specs.Prelude.{◌≡◌, ◌⊎◌, ℕ, List, ◌++◌, IsErrAnd, None, Option, Result, Ok, Err}
 use Rattle.std.specs.Prelude.{Some, String, codes, string_bytes}
 use Rattle.std.specs.Borrow.{Bor}
 use Rattle.std.specs.declared.alloc.Global.{Global}
@@ -9,11 +9,10 @@ use Rattle.clr_rules.specs.Register.{Register}
 use Rattle.clr_rules.specs.declared.place.Place.{Place}
 use Rattle.clr_args.specs.declared.asked.MigrateArgs.{MigrateArgs}
 use Rattle.clr_keeping.specs.Beginning.{PlacesAt}
-use Rattle.clr_edge.specs.Database.{IsOfLine}
 use Rattle.clr_keeping.specs.Keeping.{IsNotReadAlone, IsReadAlone}
 use Rattle.clr_keeping.specs.TakenUp.{Logs}
-use Rattle.clr_edge.specs.Visit.{Alone, Comes, Done, Ending, MovesRegister, Opening, Shutting}
-use Rattle.clr_edge.specs.Visit.{first_fault}
+use Rattle.clr_edge.specs.Visit.{Alone, Closed, Comes, Done, Ending, MovesRegister, Opening}
+use Rattle.clr_edge.specs.Visit.{Shutting, first_fault}
 use Rattle.clr_edge.specs.declared.fault.Fault.{Fault}
 use Rattle.clr_edge.specs.declared.fault.Fault.TheVariants.{Journal, Memory}
 use Rattle.clr_edge.specs.declared.fault.JournalFault.TheVariants.{Missing}
@@ -59,13 +58,12 @@ BeginsOver g logs first path result old new read after =
 -- of the machine showed before
 pub record BeginsIn {M J C T : Type 0} (g : Ghosts T) (logs : Logs M J C) (moment : ℕ)
     (path journal : List ℕ) (result : Result (String Global) Fault) (old : M)
-    (before after : Held T) (closed : Done) (new : M) : Type 0 where
+    (before after : Held T) (closed : Closed) (new : M) : Type 0 where
   pub report : Result (String Global) Fault
   pub did : (IsErrAnd report (λ fault. IsNotReadAlone g before fault after) × (new ≡ old))
       ⊎ ((R : Register) × (read : Held T) × IsReadAlone g before read R
       × BeginsOver g logs (first_place (board_files R) (made_at moment path journal)) journal report
       old new read after)
-  pub closing : IfErr closed IsOfLine
   pub result_is : result ≡ first_fault report closed
 
 abbrev pub BeginsJournal : {M S J C : Type 0} → Logs M J C → Ghosts S → Opening M S

@@ -1,6 +1,6 @@
 -- WHAT `migrate --after` DOES: a part of a journal is begun at the place that the register has. So
 -- it is where the register's own journal goes by other rules, and ends there.
-use Rattle.std.specs.Prelude.{◌≡◌, ◌≢◌, ◌⊎◌, ℕ, IfErr, IsErrAnd, List, None, Option, Result, Ok, Err}
+use Rattle.std.specs.Prelude.{◌≡◌, ◌≢◌, ◌⊎◌, ℕ, IsErrAnd, List, None, Option, Result, Ok, Err}
 use Rattle.std.specs.Prelude.{Some, String, decimal, string_bytes}
 use Rattle.std.specs.declared.alloc.Global.{Global}
 use Rattle.sqlite.specs.Held.{Held, state}
@@ -11,8 +11,7 @@ use Rattle.clr_level.specs.Placing.{IsAt}
 use Rattle.clr_keeping.specs.Beginning.{BeginsFirst, BeginsLevel}
 use Rattle.clr_keeping.specs.Keeping.{IsNotRead, IsReadFrom}
 use Rattle.clr_keeping.specs.TakenUp.{HasPlace, LacksPlace, Logs, StaysRead, store_place}
-use Rattle.clr_edge.specs.Database.{IsOfLine}
-use Rattle.clr_edge.specs.Visit.{Comes, Done, Ending, Opening, Shutting, first_fault}
+use Rattle.clr_edge.specs.Visit.{Closed, Comes, Done, Ending, Opening, Shutting, first_fault}
 use Rattle.clr_edge.specs.declared.fault.Fault.{Fault}
 use Rattle.clr_edge.specs.declared.fault.Fault.TheVariants.{Journal, Memory}
 use Rattle.clr_edge.specs.declared.fault.JournalFault.TheVariants.{Differs, OtherRegister}
@@ -66,13 +65,12 @@ PartsOver g logs path after result old new read R left =
 
 -- over a database
 pub record PartsIn {M J C T : Type 0} (g : Ghosts T) (logs : Logs M J C) (path after : List ℕ)
-    (result : Result (String Global) Fault) (old : M) (before left : Held T) (closed : Done)
+    (result : Result (String Global) Fault) (old : M) (before left : Held T) (closed : Closed)
     (new : M) : Type 0 where
   pub report : Result (String Global) Fault
   pub did : (IsErrAnd report (λ fault. IsNotRead g before fault left) × (new ≡ old))
       ⊎ ((R : Register) × (read : Held T) × IsReadFrom g before read R
       × PartsOver g logs path after report old new read R left)
-  pub closing : IfErr closed IsOfLine
   pub result_is : result ≡ first_fault report closed
 
 -- over the database at a path

@@ -24,8 +24,8 @@ use Rattle.clr_args.specs.declared.asked.StoredArgs.{StoredArgs}
 use Rattle.clr_edge.specs.Answers.{unless}
 use Rattle.clr_keeping.specs.Keeping.{WorksWith}
 use Rattle.clr_keeping.specs.TakenUp.{Logs}
-use Rattle.clr_edge.specs.Visit.{Comes, Done, Ending, Opening, Shutting}
-use Rattle.clr_edge.specs.Fault.{of_network, of_staff}
+use Rattle.clr_edge.specs.Visit.{Closed, Comes, Ending, Opening, Shutting}
+use Rattle.clr_edge.specs.Fault.{of_database, of_network, of_staff}
 use Rattle.clr_edge.specs.declared.fault.Fault.{Fault}
 use Rattle.clr_edge.specs.declared.fault.Fault.TheVariants.{Input, Memory}
 use Rattle.clr_edge.specs.declared.fault.InputFault.TheVariants.{ReadFailed, TooLong}
@@ -113,12 +113,12 @@ RunsAt at files input result = AnswersFiles at files (Unit {0})
 
 -- what is answered of a run once its database was closed: the fault that ended it, or that of
 -- closing
-abbrev pub ended_by : Option Fault → Done → Option Fault
+abbrev pub ended_by : Option Fault → Closed → Option Fault
 ended_by (Some fault) closed = Some fault
 ended_by None (Ok value) = None
-ended_by None (Err fault) = Some fault
+ended_by None (Err cause) = Some (of_database cause)
 
-abbrev pub printed_after : Result Printed Fault → Done → Result Printed Fault
+abbrev pub printed_after : Result Printed Fault → Closed → Result Printed Fault
 printed_after (Ok printed) closed = Ok (record printed { fault = ended_by printed.fault closed })
 printed_after (Err fault) closed = Err fault
 
@@ -138,7 +138,7 @@ RunsAlone input K keeper result old new taken left =
 
 -- with a journal or without one
 abbrev pub RunsOver : {M J C T : Type 0} → Logs M J C → Ghosts T → Option (Bor (List ℕ))
-    → Option (List ℕ) → Result Printed Fault → M → Held T → Held T → Done → M → Type 0
+    → Option (List ℕ) → Result Printed Fault → M → Held T → Held T → Closed → M → Type 0
 RunsOver logs g journal input =
     WorksWith logs g journal (Unit {0}) (RunsAlone input) printed_after
 

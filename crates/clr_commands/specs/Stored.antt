@@ -11,8 +11,9 @@ use Rattle.clr_rules.specs.Register.{Register}
 use Rattle.clr_print.specs.Printed.{board_text}
 use Rattle.clr_args.specs.declared.asked.BoardArgs.{BoardArgs}
 use Rattle.clr_args.specs.declared.asked.OrderArgs.{OrderArgs}
-use Rattle.clr_edge.specs.Database.{HasRegister, IsOfLine, IsOnlyRead, IsRefused, ReadsAs}
-use Rattle.clr_edge.specs.Visit.{Alone, Done}
+use Rattle.clr_edge.specs.Database.{HasRegister, IsDatabaseFault, IsOnlyRead, IsRefused}
+use Rattle.clr_edge.specs.Database.{ReadsAs}
+use Rattle.clr_edge.specs.Visit.{Alone, Closed}
 use Rattle.clr_edge.specs.declared.fault.Fault.{Fault}
 use Rattle.clr_edge.specs.declared.fault.Fault.TheVariants.{Memory, NoSuch}
 use Rattle.clr_commands.specs.Answers.{IsMemory, Prints}
@@ -40,7 +41,7 @@ pub record AnswersOf {S : Type 0} (g : Ghosts S) (IsOwn : Fault → Type 0)
     (Is : Register → Result (List ℕ) Fault → Type 0) (result : Result (String Global) Fault)
     (before after : Held S) : Type 0 where
   pub known : (R : Register) → HasRegister g R before → HasCleanDisk (state g after)
-      → Prints IsOfLine (Is R) result
+      → Prints IsDatabaseFault (Is R) result
   pub printed : IfOk result (λ text. (R : Register) × IsFit R × CrewsAreSafe R
       × ReadsAs g before after R × Is R (Ok (string_bytes text)))
   pub read : OnOk result (IsOnlyRead g before after)
@@ -56,16 +57,16 @@ PrintsOf g IsOwn answer result before after =
 
 -- what is done over a database while it is open, with no step beside it, however it is closed
 abbrev pub WhileOpen : {M T H : Type 0} → (Result T Fault → H → H → Type 0) → Result T Fault → M → H
-    → H → Done → M → Type 0
+    → H → Closed → M → Type 0
 WhileOpen Does = Alone (λ result before after closed. Does result before after)
 
 -- what `board` does over a database that is opened for it
 abbrev pub PrintsBoard : {M S : Type 0} → Ghosts S → BoardArgs → Result (String Global) Fault → M
-    → Held S → Held S → Done → M → Type 0
+    → Held S → Held S → Closed → M → Type 0
 PrintsBoard g args =
     WhileOpen (PrintsOf g IsMemory (λ Q. Ok (board_text Q args.offset.minutes)))
 
 -- what `order` does
 abbrev pub PrintsOrder : {M S : Type 0} → Ghosts S → OrderArgs → Result (String Global) Fault → M
-    → Held S → Held S → Done → M → Type 0
+    → Held S → Held S → Closed → M → Type 0
 PrintsOrder g args = WhileOpen (PrintsOf g IsOfOrder (λ Q. order_asked_for Q args))

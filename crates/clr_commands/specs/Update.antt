@@ -38,7 +38,7 @@ use Rattle.clr_level.specs.declared.keeper.Keeper.{Keeper}
 use Rattle.clr_edge.specs.Fault.{of_desk}
 use Rattle.clr_keeping.specs.Keeping.{WorksEither, logged_keeper, plain_keeper}
 use Rattle.clr_keeping.specs.TakenUp.{Logs, store_place}
-use Rattle.clr_edge.specs.Visit.{Comes, Done, Ending, Opening, Shutting, first_fault}
+use Rattle.clr_edge.specs.Visit.{Closed, Comes, Ending, Opening, Shutting, first_fault}
 use Rattle.clr_edge.specs.declared.fault.Fault.{Fault}
 use Rattle.clr_edge.specs.declared.fault.Fault.TheVariants.{Memory, Update as InTheWay}
 use Rattle.clr_commands.specs.DeedLines.{IsJournaled}
@@ -172,7 +172,7 @@ UpdatesLogged {J = J} {C = C} {S = S} logs g args u report old new taken left =
 -- with a journal or without one: the register is taken up, updated and let go, and the database
 -- closed. The first fault is the result
 abbrev pub UpdatesOver : {M J C S : Type 0} → Logs M J C → Ghosts S → UpdateArgs → Update → Texts
-    → M → Held S → Held S → Done → M → Type 0
+    → M → Held S → Held S → Closed → M → Type 0
 UpdatesOver {S = S} logs g args u = WorksEither logs g args.journal (Unit {0})
     (UpdatesAlone args u (Held S) (plain_keeper g)) (UpdatesLogged logs g args u) first_fault
 

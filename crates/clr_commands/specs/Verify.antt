@@ -25,7 +25,7 @@ use Rattle.clr_edge.specs.Answers.{After}
 use Rattle.clr_edge.specs.Lines.{ends_whole}
 use Rattle.clr_keeping.specs.Keeping.{IsNotRead, IsReadFrom}
 use Rattle.clr_keeping.specs.TakenUp.{HasPlace, IsUnplaced, IsUnsuited, LacksPlace, StaysRead}
-use Rattle.clr_edge.specs.Visit.{Done}
+use Rattle.clr_edge.specs.Visit.{Closed}
 use Rattle.clr_edge.specs.declared.fault.Fault.{Fault}
 use Rattle.clr_edge.specs.declared.fault.Fault.TheVariants.{Journal, Memory, Verify}
 use Rattle.clr_edge.specs.declared.fault.JournalFault.TheVariants as why
@@ -63,7 +63,7 @@ IsRead g (Err fault) before after = IsNotRead g before fault after
 
 -- while the database is open
 abbrev pub ReadsPlaced : {M S : Type 0} → Ghosts S → Result Placed Fault → M → Held S → Held S
-    → Done → M → Type 0
+    → Closed → M → Type 0
 ReadsPlaced g = WhileOpen (IsRead g)
 
 -- the same over a desk, whose register was read before

@@ -12,7 +12,7 @@ use Rattle.clr_wayback.specs.Text.{way_back_text}
 use Rattle.clr_wayback.specs.declared.answer.WayBack.{WayBack}
 use Rattle.clr_wayback.specs.declared.answer.WayBack.TheVariants as way
 use Rattle.clr_args.specs.declared.asked.WayBackArgs.{WayBackArgs}
-use Rattle.clr_edge.specs.Visit.{Done}
+use Rattle.clr_edge.specs.Visit.{Closed}
 use Rattle.clr_edge.specs.declared.fault.Fault.{Fault}
 use Rattle.clr_edge.specs.declared.fault.Fault.TheVariants.{Memory, NoSuch, NoWay}
 use Rattle.clr_commands.specs.Stored.{AnswersOf, WhileOpen}
@@ -50,5 +50,5 @@ IsWayBackOf args R known = (way_back_asked_for R args ≡ known)
 
 -- what `wayback` does over a database that is opened for it
 abbrev pub PrintsWayBack : {M S : Type 0} → Ghosts S → WayBackArgs → Result (String Global) Fault
-    → M → Held S → Held S → Done → M → Type 0
+    → M → Held S → Held S → Closed → M → Type 0
 PrintsWayBack g args = WhileOpen (AnswersOf g IsOfWayBack (IsWayBackOf args))

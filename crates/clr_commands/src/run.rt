@@ -19,7 +19,7 @@ use clr_args::asked::{Files, RunArgs, StoredArgs};
 use clr_chain::Clock;
 use clr_desk::{Commit, CommitAt, Desk, Unkept};
 use clr_edge::database::Databases;
-use clr_edge::fault::{Fault, InputFault};
+use clr_edge::fault::{DatabaseFault, Fault, InputFault};
 use clr_edge::journals::Journals;
 use clr_edge::paths::Opens;
 use clr_journal::Journal;
@@ -117,7 +117,7 @@ fn run_taken_up<K: Commit, I: CountedRead>(
 /// What was printed, with the fault of closing its database, if there was no other.
 fn printed_after(
     printed: Result<Printed, Fault>,
-    closed: Result<(), Fault>,
+    closed: Result<(), DatabaseFault>,
 ) -> Result<Printed, Fault>
     ensures { result ≡ printed_after printed closed }
 {
@@ -131,12 +131,12 @@ fn printed_after(
 }
 
 /// The fault that ended a run, or that of closing its database.
-fn ended_by(fault: Option<Fault>, closed: Result<(), Fault>) -> Option<Fault>
+fn ended_by(fault: Option<Fault>, closed: Result<(), DatabaseFault>) -> Option<Fault>
     ensures { result ≡ ended_by fault closed }
 {
     match (fault, closed) {
         (Some(fault), _) => Some(fault),
-        (None, Err(fault)) => Some(fault),
+        (None, Err(cause)) => Some(Fault::from(cause)),
         (None, Ok(())) => None,
     }
 }

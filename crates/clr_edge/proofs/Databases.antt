@@ -1,5 +1,5 @@
 -- Faults of databases that are known to have a register.
-use Rattle.std.proofs.Common.{◌≡◌, ◌↔◌, ◌∙◌, ◌⊎◌, None, Option, Some, ⊎_elim, arith, inl, inr, refl, subst, sym, Result, Ok, Err}
+use Rattle.std.proofs.Common.{◌≡◌, ◌↔◌, ◌∙◌, ◌⊎◌, ℕ, List, None, Option, Some, ⊎_elim, arith, inl, inr, refl, subst, sym, Result, Ok, Err}
 use Rattle.std.proofs.lemmas.Option.{none-some}
 use Rattle.std.specs.Prelude.{false, IfErr, IsErrAnd, IsTrue, OnOk, pos}
 use Rattle.sqlite.specs.Held.{Held, state}
@@ -16,20 +16,19 @@ use Rattle.clr_desk.specs.declared.desk_fault.DeskFault.{DeskFault}
 use Rattle.clr_desk.specs.declared.desk_fault.DeskFault.TheVariants as desk
 use Rattle.clr_rules.specs.Fit.{IsFit}
 use Rattle.clr_rules.specs.Register.{Register}
-use Rattle.sqlite.specs.declared.error.Error.{Error}
-use Rattle.sqlite.specs.declared.error.Error.TheVariants.{SqliteFailure}
-use Rattle.sqlite.specs.declared.error.ErrorCode.TheVariants as code
-use Rattle.clr_load.specs.Cause.{SqlHasCause, fault_of}
+use Rattle.clr_load.specs.Cause.{SqlHasCause}
 use Rattle.clr_store.specs.Contract.{RefusesOpening}
 use Rattle.clr_store.specs.Moving.{RefusesToMove}
 use Rattle.clr_load.specs.declared.fault.StoreFault.{StoreFault}
 use Rattle.clr_load.specs.declared.fault.StoreFault.TheVariants as store
 use Rattle.clr_load.specs.RowsRead.{Rows, read_version, rows_read}
 use Rattle.clr_load.specs.Tables.{Tables, tables_of}
-use Rattle.clr_edge.specs.Fault.{of_desk, of_store}
+use Rattle.clr_edge.specs.Fault.{of_database, of_desk, of_store}
+use Rattle.clr_edge.specs.declared.fault.DatabaseFault.{DatabaseFault}
+use Rattle.clr_edge.specs.declared.fault.DatabaseFault.TheVariants as database
 use Rattle.clr_edge.specs.declared.fault.Fault.{Fault}
-use Rattle.clr_edge.specs.Database.{IsAsBefore, IsOfLine, IsOfStore, IsOfUnfit, RefusesTables}
-use Rattle.clr_edge.specs.Visit.{Done, first_fault}
+use Rattle.clr_edge.specs.Database.{IsAsBefore, IsDatabaseFault, IsOfStore, IsOfUnfit, RefusesTables}
+use Rattle.clr_edge.specs.Visit.{Closed, Ending, Opening, Visits, first_fault}
 
 -- tables that are opened read as rows
 pub rows_of-opened : (told : Result Rows TableName) (book : Shelved) → OpensAs (λ (b : Shelved). b.register) told (Ok book)
@@ -37,15 +36,15 @@ pub rows_of-opened : (told : Result Rows TableName) (book : Shelved) → OpensAs
 rows_of-opened (Ok rows) book opens = (rows, refl, opens.0)
 rows_of-opened (Err bad) book opens = absurd opens
 
--- a fault of the desk's commands is reported as one of a line
-pub IsOfLine-of_command : (fault : DeskFault) → IsOfCommand fault → IsOfLine (of_desk fault)
-IsOfLine-of_command (desk.Store store.Sql) is = inr refl
-IsOfLine-of_command (desk.Store (store.WrongVersion n)) is = absurd is
-IsOfLine-of_command (desk.Store (store.BadRow table)) is = absurd is
-IsOfLine-of_command (desk.Store store.NoMemory) is = absurd is
-IsOfLine-of_command (desk.Store store.OtherTables) is = absurd is
-IsOfLine-of_command desk.Journal is = absurd is
-IsOfLine-of_command desk.NoMemory is = inl refl
+-- a fault of the desk's commands is reported as one of the database
+pub command_fault : (fault : DeskFault) → IsOfCommand fault → IsDatabaseFault (of_desk fault)
+command_fault (desk.Store store.Sql) is = (database.Sql, refl)
+command_fault (desk.Store (store.WrongVersion n)) is = absurd is
+command_fault (desk.Store (store.BadRow table)) is = absurd is
+command_fault (desk.Store store.NoMemory) is = absurd is
+command_fault (desk.Store store.OtherTables) is = absurd is
+command_fault desk.Journal is = absurd is
+command_fault desk.NoMemory is = (database.NoMemory, refl)
 
 -- a store that was shut is refused by the database; one that was open, as is said of it
 pub IsOfCommand-shut : (Open : Type 0) (fault : DeskFault) → Open ⊎ IsOfCommand fault → (Open → IsOfCommand fault) → IsOfCommand fault
@@ -58,31 +57,31 @@ unfolding read_version
 read_version-tables_of R = refl
 
 -- so only the database itself refuses them
-pub IsOfLine-of_version : (R : Register) (fault : StoreFault) → RefusesOpening (tables_of R) fault → IsOfLine (of_store fault)
-IsOfLine-of_version R store.Sql is = inr refl
-IsOfLine-of_version R (store.WrongVersion n) (is, other) = let both = sym (read_version-tables_of R) ∙ is in absurd (other (cc both))
-IsOfLine-of_version R (store.BadRow table) is = let both = sym (read_version-tables_of R) ∙ is in absurd (cc both)
-IsOfLine-of_version R store.NoMemory is = inl refl
-IsOfLine-of_version R store.OtherTables is = absurd (is refl)
+pub version_fault : (R : Register) (fault : StoreFault) → RefusesOpening (tables_of R) fault → IsDatabaseFault (of_store fault)
+version_fault R store.Sql is = (database.Sql, refl)
+version_fault R (store.WrongVersion n) (is, other) = let both = sym (read_version-tables_of R) ∙ is in absurd (other (cc both))
+version_fault R (store.BadRow table) is = let both = sym (read_version-tables_of R) ∙ is in absurd (cc both)
+version_fault R store.NoMemory is = (database.NoMemory, refl)
+version_fault R store.OtherTables is = absurd (is refl)
 
-moved_line : (fault : StoreFault) → (fault ≡ store.OtherTables → ⊥) → RefusesToMove (Ok (pos 2)) fault → IsOfLine (of_store fault)
-moved_line store.Sql none is = inr refl
-moved_line (store.WrongVersion n) none (is, one, two) = absurd (two (cc is))
-moved_line (store.BadRow tables.Meta) none is = absurd (cc is)
-moved_line (store.BadRow tables.Point) none is = absurd (cc is)
-moved_line (store.BadRow tables.Section) none is = absurd is
-moved_line (store.BadRow tables.NetworkPoint) none is = absurd is
-moved_line (store.BadRow tables.Staff) none is = absurd is
-moved_line (store.BadRow tables.Clearance) none is = absurd is
-moved_line (store.BadRow tables.Step) none is = absurd is
-moved_line (store.BadRow tables.Hold) none is = absurd is
-moved_line (store.BadRow tables.Journal) none is = absurd is
-moved_line store.NoMemory none is = inl refl
-moved_line store.OtherTables none is = absurd (none refl)
+moved_fault : (fault : StoreFault) → (fault ≡ store.OtherTables → ⊥) → RefusesToMove (Ok (pos 2)) fault → IsDatabaseFault (of_store fault)
+moved_fault store.Sql none is = (database.Sql, refl)
+moved_fault (store.WrongVersion n) none (is, one, two) = absurd (two (cc is))
+moved_fault (store.BadRow tables.Meta) none is = absurd (cc is)
+moved_fault (store.BadRow tables.Point) none is = absurd (cc is)
+moved_fault (store.BadRow tables.Section) none is = absurd is
+moved_fault (store.BadRow tables.NetworkPoint) none is = absurd is
+moved_fault (store.BadRow tables.Staff) none is = absurd is
+moved_fault (store.BadRow tables.Clearance) none is = absurd is
+moved_fault (store.BadRow tables.Step) none is = absurd is
+moved_fault (store.BadRow tables.Hold) none is = absurd is
+moved_fault (store.BadRow tables.Journal) none is = absurd is
+moved_fault store.NoMemory none is = (database.NoMemory, refl)
+moved_fault store.OtherTables none is = absurd (none refl)
 
 -- and only the database itself refuses to move them
-pub IsOfLine-of_move : (R : Register) (fault : StoreFault) → (fault ≡ store.OtherTables → ⊥) → RefusesToMove (read_version (tables_of R).meta) fault → IsOfLine (of_store fault)
-IsOfLine-of_move R fault none refused = moved_line fault none (subst (λ read. RefusesToMove read fault) (read_version-tables_of R) refused)
+pub move_fault : (R : Register) (fault : StoreFault) → (fault ≡ store.OtherTables → ⊥) → RefusesToMove (read_version (tables_of R).meta) fault → IsDatabaseFault (of_store fault)
+move_fault R fault none refused = moved_fault fault none (subst (λ read. RefusesToMove read fault) (read_version-tables_of R) refused)
 
 -- what two calls leave that commit nothing
 pub survives_on : (s t u : State) → Survives s t (λ _. ⊥) → Survives t u (λ _. ⊥) → Survives s u (λ _. ⊥)
@@ -99,11 +98,6 @@ survives_on s t u first later =
           (λ more. inr (omega (arith, later.counts, more))) (first.closes (clean c) before);
       crash = λ c db leaves. ⊎_elim (λ between. first.crash (clean c) db between) (λ none. absurd none) (later.crash c db leaves);
     }
-
--- an error of the database is reported as one of a line
-pub line_of_error : (e : Error) → IsOfLine (of_store (fault_of e))
-line_of_error (SqliteFailure code.OutOfMemory) = inl refl
-line_of_error _ = inr refl
 
 -- the disk was clean before, if it is afterwards
 pub was_clean : (s t : State) (Commits : Trees → Type 0) → Survives s t Commits → HasCleanDisk t → HasCleanDisk s
@@ -146,9 +140,9 @@ pub OnOk-was : {T : Type 0} (result : Result T Fault) (value : T) (P : Type 0) �
 OnOk-was {T} result value P was holds = let Q : Result T Fault → Type 0 = λ r. OnOk r P in subst Q was holds
 
 -- a register that is good and staffed is not refused, unless memory ran out
-pub IsOfLine-unfit : (R : Register) (cause : StoreFault) → IsFit R → (cause ≡ store.NoMemory) ⊎ IsOfUnfit R cause → IsOfLine (of_store cause)
-IsOfLine-unfit R cause fit (inl memory) = rw memory (inl refl)
-IsOfLine-unfit R cause fit (inr unfit) = absurd (unfit.bad fit)
+pub unfit_fault : (R : Register) (cause : StoreFault) → IsFit R → (cause ≡ store.NoMemory) ⊎ IsOfUnfit R cause → IsDatabaseFault (of_store cause)
+unfit_fault R cause fit (inl memory) = rw memory (database.NoMemory, refl)
+unfit_fault R cause fit (inr unfit) = absurd (unfit.bad fit)
 
 -- what a register that is not good is refused with has no cause in the database
 pub SqlHasCause-unfit : (R : Register) (cause : StoreFault) (old new : State) → (cause ≡ store.NoMemory) ⊎ IsOfUnfit R cause → SqlHasCause old new cause
@@ -172,14 +166,30 @@ unfit_told R found table is told exact = record {
 }
 
 -- the first of two faults is one of either
-pub first_fault-of : {T : Type 0} (told : Result T Fault) (closed : Done) (result : Result T Fault) (P : Fault → Type 0)
-    → result ≡ first_fault told closed → IfErr told P → IfErr closed P → IfErr result P
-first_fault-of {T} told closed result P is one other = let Q : Result T Fault → Type 0 = λ r. IfErr r P in subst Q (sym is) (of told closed one other)
+pub first_fault-of : {T : Type 0} (told : Result T Fault) (closed : Closed) (result : Result T Fault) (P : Fault → Type 0)
+    → result ≡ first_fault told closed → IfErr told P → ((cause : DatabaseFault) → P (of_database cause)) → IfErr result P
+first_fault-of {T} told closed result P is one other = let Q : Result T Fault → Type 0 = λ r. IfErr r P in subst Q (sym is) (of told closed one)
   where
-    of : (told : Result T Fault) (closed : Done) → IfErr told P → IfErr closed P → IfErr (first_fault told closed) P
-    of (Ok value) (Ok done) one other = tt
-    of (Ok value) (Err fault) one other = other
-    of (Err fault) closed one other = one
+    of : (told : Result T Fault) (closed : Closed) → IfErr told P → IfErr (first_fault told closed) P
+    of (Ok value) (Ok done) one = tt
+    of (Ok value) (Err cause) one = other cause
+    of (Err fault) closed one = one
+
+-- a visit, by what comes of what was done over the database
+pub visits-as : {M T : Type 0} (opens : Opening M T) (ends : Ending M T) (path : List ℕ) (P Q : M → Held T → Held T → Closed → M → Type 0) (old new : M)
+    → ((middle : M) (before after : Held T) (closed : Closed) (later : M) → opens old path before middle → P middle before after closed later
+    → Q middle before after closed later) → Visits opens ends path P old new → Visits opens ends path Q old new
+visits-as opens ends path P Q old new from visit = record {
+  before = visit.before;
+  after = visit.after;
+  closed = visit.closed;
+  middle = visit.middle;
+  later = visit.later;
+  opened = visit.opened;
+  mode = visit.mode;
+  does = from visit.middle visit.before visit.after visit.closed visit.later visit.opened visit.does;
+  ended = visit.ended;
+}
 
 pub IfErr-from : {T : Type 0} (result : Result T Fault) (P Q : Fault → Type 0) → ((fault : Fault) → P fault → Q fault) → IfErr result P → IfErr result Q
 IfErr-from (Ok value) P Q from is = tt
@@ -193,9 +203,9 @@ IsOfStore-of (store.BadRow table) fault is = inr (store.BadRow table, is)
 IsOfStore-of store.NoMemory fault is = inl is
 IsOfStore-of store.OtherTables fault is = inr (store.OtherTables, is)
 
-pub IsOfStore-line : (fault : Fault) → IsOfLine fault → IsOfStore fault
-IsOfStore-line fault (inl memory) = inl memory
-IsOfStore-line fault (inr sql) = inr (store.Sql, sql)
+pub IsOfStore-of_database : (cause : DatabaseFault) → IsOfStore (of_database cause)
+IsOfStore-of_database database.NoMemory = inl refl
+IsOfStore-of_database database.Sql = inr (store.Sql, refl)
 
 -- outside a transaction a connection shows what is committed
 abbrev pub IsSettled : State → Type 0

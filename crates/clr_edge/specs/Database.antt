@@ -29,32 +29,34 @@ use Rattle.clr_load.specs.declared.table_name.TableName.{TableName}
 use Rattle.clr_book.specs.Book.{Shelved}
 use Rattle.clr_edge.specs.AtFault.{table_at_fault}
 use Rattle.clr_desk.specs.Opening.{IsRegisterOf, OpensAs}
-use Rattle.clr_edge.specs.Fault.{of_store}
+use Rattle.clr_edge.specs.Fault.{database_fault, of_database, of_store}
+use Rattle.clr_edge.specs.declared.fault.DatabaseFault.{DatabaseFault}
+use Rattle.clr_edge.specs.declared.fault.DatabaseFault.TheVariants as database
 use Rattle.clr_edge.specs.declared.fault.Fault.{Fault}
 use Rattle.clr_edge.specs.declared.fault.Fault.TheVariants.{Memory, Store}
 
 -- memory ran out, or the database refused or failed
-abbrev pub IsOfLine : Fault → Type 0
-IsOfLine fault = (fault ≡ Memory) ⊎ (fault ≡ Store Sql)
+abbrev pub IsDatabaseFault : Fault → Type 0
+IsDatabaseFault fault = (cause : DatabaseFault) × (fault ≡ of_database cause)
 
 -- memory ran out, or the database is at fault, or what it has
 abbrev pub IsOfStore : Fault → Type 0
 IsOfStore fault = (fault ≡ Memory) ⊎ ((cause : StoreFault) × (fault ≡ Store cause))
 
 -- what is reported where the size of a file could not be read, for this reason
-abbrev pub size_fault : ErrorKind → Fault
-size_fault OutOfMemory = Memory
-size_fault _ = Store Sql
+abbrev pub size_fault : ErrorKind → DatabaseFault
+size_fault OutOfMemory = database.NoMemory
+size_fault _ = database.Sql
 
 -- there is no database in the file at a path: it is empty, or its size could not be read
-abbrev pub HasNoBytes : (List ℕ → ℕ → Type 0) → (List ℕ → ErrorKind → Type 0) → List ℕ → Fault
-    → Type 0
-HasNoBytes has_size lacks_size path fault = (has_size path 0 × (fault ≡ Store Sql))
+abbrev pub HasNoBytes : (List ℕ → ℕ → Type 0) → (List ℕ → ErrorKind → Type 0) → List ℕ
+    → DatabaseFault → Type 0
+HasNoBytes has_size lacks_size path fault = (has_size path 0 × (fault ≡ database.Sql))
     ⊎ ((kind : ErrorKind) × lacks_size path kind × (fault ≡ size_fault kind))
 
 -- a database was not opened, for the error that is reported
-abbrev pub IsShutBy : (Error → Type 0) → Fault → Type 0
-IsShutBy shut fault = (error : Error) × (fault ≡ of_store (fault_of error)) × shut error
+abbrev pub IsShutBy : (Error → Type 0) → DatabaseFault → Type 0
+IsShutBy shut fault = (error : Error) × (fault ≡ database_fault (fault_of error)) × shut error
 
 -- What is known of a database: it has the tables of a register that is good and staffed, whose
 -- values are of their types.

@@ -25,6 +25,8 @@ use Rattle.clr_desk.specs.declared.desk_fault.DeskFault.{DeskFault}
 use Rattle.clr_desk.specs.declared.desk_fault.DeskFault.TheVariants as desk
 use Rattle.clr_update.specs.declared.obstacle.Obstacle.{Obstacle}
 use Rattle.clr_update.specs.declared.obstacle.Obstacle.TheVariants as in_way
+use Rattle.clr_edge.specs.declared.fault.DatabaseFault.{DatabaseFault}
+use Rattle.clr_edge.specs.declared.fault.DatabaseFault.TheVariants as database
 use Rattle.clr_edge.specs.declared.fault.ImportFile.{ImportFile}
 use Rattle.clr_edge.specs.declared.fault.ImportFile.TheVariants.{Sections, Points, Staff, Logins}
 use Rattle.clr_edge.specs.declared.fault.InputFault.{InputFault}
@@ -311,6 +313,15 @@ abbrev pub of_desk : DeskFault → Fault
 of_desk desk.NoMemory = fault.Memory
 of_desk desk.Journal = fault.Journal journal.WriteFailed
 of_desk (desk.Store cause) = of_store cause
+
+-- any fault of a store but want of memory is the database's own
+abbrev pub database_fault : StoreFault → DatabaseFault
+database_fault store.NoMemory = database.NoMemory
+database_fault cause = database.Sql
+
+abbrev pub of_database : DatabaseFault → Fault
+of_database database.NoMemory = fault.Memory
+of_database database.Sql = fault.Store store.Sql
 
 -- the fault is one of this file's, or want of memory
 abbrev pub IsOfFile : ImportFile → Fault → Type 0

@@ -9,18 +9,18 @@ ghost use Rattle.clr_load.specs.Cause.{fault_of};
 ghost use Rattle.clr_rules.specs.Good.{IsGood};
 ghost use Rattle.clr_rules.specs.Staffed.{IsStaffed};
 ghost use Rattle.clr_rules.specs.Register.{Register, opening};
-ghost use Rattle.clr_edge.specs.Database.{HasNoBytes, HasRegister, IsMade, IsMoved, IsOfLine};
-ghost use Rattle.clr_edge.specs.Database.{IsOfStore, IsOfUnfit, IsOnlyRead, IsRefused, IsShutBy};
-ghost use Rattle.clr_edge.specs.Database.{IsUnmade, IsUnmoved, ReadsAs, size_fault};
-ghost use Rattle.clr_edge.specs.Fault.{of_store};
-ghost use Rattle.clr_edge.specs.Visit.{Alone, Comes, Done, Ends, GivesBack, IsLeft};
-ghost use Rattle.clr_edge.specs.Visit.{MakesRegister, MovesRegister, first_fault};
-ghost use Rattle.clr_edge.specs.declared.fault.Fault.{Fault as AnyFault};
+ghost use Rattle.clr_edge.specs.Database.{HasNoBytes, HasRegister, IsDatabaseFault, IsMade};
+ghost use Rattle.clr_edge.specs.Database.{IsMoved, IsOfStore, IsOfUnfit, IsOnlyRead, IsRefused};
+ghost use Rattle.clr_edge.specs.Database.{IsShutBy, IsUnmade, IsUnmoved, ReadsAs, size_fault};
+ghost use Rattle.clr_edge.specs.Fault.{database_fault};
+ghost use Rattle.clr_edge.specs.Visit.{Alone, Closed, Comes, GivesBack, IsLeft, MakesRegister};
+ghost use Rattle.clr_edge.specs.Visit.{MovesRegister, first_fault, reported};
+ghost use Rattle.clr_edge.specs.declared.fault.DatabaseFault.{DatabaseFault as AnyFault};
 
 use crate::at_fault::table_in;
-use crate::fault::Fault;
+use crate::fault::{DatabaseFault, Fault};
 use crate::machine::Machine;
-use clr_desk::Desk;
+use clr_desk::{Desk, DeskFault};
 use clr_disk::{Database, Event, System, let_go, open_database};
 use clr_load::StoreFault;
 use clr_net::Network;
@@ -45,24 +45,22 @@ pub trait Databases {
 
     /// That a connection was closed as it was then, with this outcome, and its files came back.
     /// Only `end` says so.
-    ghost ends: { Self → Held Self.Tables → Done → Self → Type 0 };
+    ghost ends: { Self → Held Self.Tables → Closed → Self → Type 0 };
 
     /// Opens the database in a file. A file that is not there, or is empty, is refused, and no file
     /// is made or changed.
-    fn stored(&mut self, path: &str) -> Result<Connection<Self::Tables>, Fault>
+    fn stored(&mut self, path: &str) -> Result<Connection<Self::Tables>, DatabaseFault>
         ensures opens { IfOk result (λ connection. opens self.old path.now connection self.new) }
         ensures mode { IfOk result (λ connection. connection.in_transaction ≡ false) }
-        ensures shuts { IfErr result (λ fault. shuts self.old path.now fault self.new) }
-        ensures fault { IfErr result IsOfLine };
+        ensures shuts { IfErr result (λ fault. shuts self.old path.now fault self.new) };
 
     /// Takes the connection out of a place, and closes it as `close` says. A method that took one
     /// by value would get no proof where it is called through the trait.
-    fn end(&mut self, place: &mut Option<Connection<Self::Tables>>) -> Result<(), Fault>
+    fn end(&mut self, place: &mut Option<Connection<Self::Tables>>) -> Result<(), DatabaseFault>
         ensures ends { IfSome place.old (λ connection.
-            Ends ends connection result self.old self.new) }
+            ends self.old connection result self.new) }
         ensures none { place.old ≡ None → self.new ≡ self.old }
-        ensures taken { place.new ≡ None }
-        ensures fault { IfErr result IsOfLine };
+        ensures taken { place.new ≡ None };
 }
 
 /// What makes databases too, for the one subcommand that may.
@@ -71,11 +69,10 @@ pub trait Makes: Databases {
     ghost makes: { Self → List ℕ → Held Self.Tables → Self → Type 0 };
 
     /// Opens the database in a file. A file that is not there is made, and its database is empty.
-    fn database(&mut self, path: &str) -> Result<Connection<Self::Tables>, Fault>
+    fn database(&mut self, path: &str) -> Result<Connection<Self::Tables>, DatabaseFault>
         ensures makes { IfOk result (λ connection. makes self.old path.now connection self.new) }
         ensures mode { IfOk result (λ connection. connection.in_transaction ≡ false) }
-        ensures shuts { IfErr result (λ fault. Self.shuts self.old path.now fault self.new) }
-        ensures fault { IfErr result IsOfLine };
+        ensures shuts { IfErr result (λ fault. Self.shuts self.old path.now fault self.new) };
 }
 
 /// A database that is opened lies in the files at that path, and what is found is what they held.
@@ -95,7 +92,7 @@ impl<Y: System> Databases for Machine<Y> {
         AreLetGo Y.lets_go before files.log files.db after)
         old.system connection closed new.system };
 
-    fn stored(&mut self, path: &str) -> Result<Database<Y::Medium>, Fault>
+    fn stored(&mut self, path: &str) -> Result<Database<Y::Medium>, DatabaseFault>
         ensures opens { IfOk result (λ connection. HasBytes Y.has_size path.now
             × IsOpenedAt Y.has_files Y.Medium.Disk self.old.system path.now
             connection self.new.system) }
@@ -105,20 +102,18 @@ impl<Y: System> Databases for Machine<Y> {
             × HasNoBytes Y.has_size Y.lacks_size path.now fault)
             ⊎ IsShutBy (λ error. IsShutAt Y.has_files Y.lacks_files Y.lets_go Y.lacks_seed
             Y.Medium.Disk self.old.system path.now error self.new.system) fault) }
-        ensures fault { IfErr result IsOfLine }
     {
         let size = expect_bytes(&self.system, path)?;
         self.system.show(Event::Begins(size));
         self.opened(path)
     }
 
-    fn end(&mut self, place: &mut Option<Database<Y::Medium>>) -> Result<(), Fault>
+    fn end(&mut self, place: &mut Option<Database<Y::Medium>>) -> Result<(), DatabaseFault>
         ensures ends { IfSome place.old (λ connection. GivesBack (λ before files after.
             AreLetGo Y.lets_go before files.log files.db after)
-            self.old.system connection result self.new.system × IfErr result IsOfLine) }
+            self.old.system connection result self.new.system) }
         ensures none { place.old ≡ None → self.new ≡ self.old }
         ensures taken { place.new ≡ None }
-        ensures fault { IfErr result IsOfLine }
     {
         let Some(connection) = place.take() else {
             return Ok(());
@@ -133,7 +128,7 @@ impl<Y: System> Makes for Machine<Y> {
     ghost makes = { λ old path connection new.
         IsOpenedAt Y.has_files Y.Medium.Disk old.system path connection new.system };
 
-    fn database(&mut self, path: &str) -> Result<Database<Y::Medium>, Fault>
+    fn database(&mut self, path: &str) -> Result<Database<Y::Medium>, DatabaseFault>
         ensures makes { IfOk result (λ connection.
             IsOpenedAt Y.has_files Y.Medium.Disk self.old.system path.now
             connection self.new.system) }
@@ -143,7 +138,6 @@ impl<Y: System> Makes for Machine<Y> {
             × HasNoBytes Y.has_size Y.lacks_size path.now fault)
             ⊎ IsShutBy (λ error. IsShutAt Y.has_files Y.lacks_files Y.lets_go Y.lacks_seed
             Y.Medium.Disk self.old.system path.now error self.new.system) fault) }
-        ensures fault { IfErr result IsOfLine }
     {
         self.opened(path)
     }
@@ -151,7 +145,7 @@ impl<Y: System> Makes for Machine<Y> {
 
 impl<Y: System> Machine<Y> {
     /// The database at a path, which is made if it is not there.
-    fn opened(&mut self, path: &str) -> Result<Database<Y::Medium>, Fault>
+    fn opened(&mut self, path: &str) -> Result<Database<Y::Medium>, DatabaseFault>
         ensures opened { IfOk result (λ connection.
             IsOpenedAt Y.has_files Y.Medium.Disk self.old.system path.now
             connection self.new.system) }
@@ -159,7 +153,6 @@ impl<Y: System> Machine<Y> {
         ensures refused { IfErr result (λ fault. IsShutBy (λ error. IsShutAt Y.has_files
             Y.lacks_files Y.lets_go Y.lacks_seed Y.Medium.Disk
             self.old.system path.now error self.new.system) fault) }
-        ensures fault { IfErr result IsOfLine }
     {
         match open_database(self.alloc, &mut self.system, path) {
             Ok(connection) => Ok(connection),
@@ -169,52 +162,52 @@ impl<Y: System> Machine<Y> {
 }
 
 /// The fault of an error of a database.
-fn fault_of(error: Error) -> Fault
-    ensures value { result ≡ of_store (fault_of error) }
-    ensures line { IsOfLine result }
+fn fault_of(error: Error) -> DatabaseFault
+    ensures { result ≡ database_fault (fault_of error) }
 {
-    Fault::from(StoreFault::from(error))
+    DatabaseFault::of_store(StoreFault::from(error))
 }
 
 /// How many bytes the file at a path has. Refuses one that is not there, cannot be looked at or is
 /// empty: it has no database.
-fn expect_bytes<Y: System>(system: &Y, path: &str) -> Result<u64, Fault>
+fn expect_bytes<Y: System>(system: &Y, path: &str) -> Result<u64, DatabaseFault>
     ensures size { IfOk result (λ size. Y.has_size path.now size × (0 < size)) }
     ensures none { IfErr result (HasNoBytes Y.has_size Y.lacks_size path.now) }
-    ensures fault { IfErr result IsOfLine }
 {
     match system.size(path) {
         Ok(size) if size > 0 => Ok(size),
-        Ok(_) => Err(Fault::Store(StoreFault::Sql)),
+        Ok(_) => Err(DatabaseFault::Sql),
         Err(error) => Err(size_fault(&error)),
     }
 }
 
 /// What is reported where the size of a file could not be read.
-fn size_fault(error: &io::Error) -> Fault
-    ensures value { result ≡ size_fault (error_kind error.now) }
-    ensures line { IsOfLine result }
+fn size_fault(error: &io::Error) -> DatabaseFault
+    ensures { result ≡ size_fault (error_kind error.now) }
 {
     match error.kind() {
-        io::ErrorKind::OutOfMemory => Fault::Memory,
-        _ => Fault::Store(StoreFault::Sql),
+        io::ErrorKind::OutOfMemory => DatabaseFault::NoMemory,
+        _ => DatabaseFault::Sql,
     }
 }
 
 /// Closes a database, and gives its files back, also where it cannot be closed. Once it is closed,
 /// everything is in its file, and nothing in the log.
-pub fn close<R: Databases>(rt: &mut R, connection: Connection<R::Tables>) -> Result<(), Fault>
-    ensures ends { Ends R.ends connection result rt.old rt.new }
-    ensures fault { IfErr result IsOfLine }
+pub fn close<R: Databases>(
+    rt: &mut R,
+    connection: Connection<R::Tables>,
+) -> Result<(), DatabaseFault>
+    ensures { R.ends rt.old connection result rt.new }
 {
     let mut place = Some(connection);
     rt.end(&mut place)
 }
 
 /// Closes a database over files, which are given back.
-fn close_over<D: Disk + Drop>(connection: Connection<FileStore<D>>) -> (Result<(), Fault>, Files<D>)
-    ensures left { IsLeft connection result.1 result.0 }
-    ensures fault { IfErr result.0 IsOfLine }
+fn close_over<D: Disk + Drop>(
+    connection: Connection<FileStore<D>>,
+) -> (Result<(), DatabaseFault>, Files<D>)
+    ensures { IsLeft connection result.1 result.0 }
 {
     match connection.close_files() {
         Ok(files) => (Ok(()), files),
@@ -223,13 +216,16 @@ fn close_over<D: Disk + Drop>(connection: Connection<FileStore<D>>) -> (Result<(
 }
 
 /// What comes of the work before a database is closed, or the first of two faults.
-pub fn first_fault<T: Drop>(done: Result<T, Fault>, closed: Result<(), Fault>) -> Result<T, Fault>
+pub fn first_fault<T: Drop>(
+    done: Result<T, Fault>,
+    closed: Result<(), DatabaseFault>,
+) -> Result<T, Fault>
     ensures { result ≡ first_fault done closed }
 {
     match done {
         Ok(value) => match closed {
             Ok(()) => Ok(value),
-            Err(fault) => Err(fault),
+            Err(cause) => Err(Fault::from(cause)),
         },
         Err(fault) => Err(fault),
     }
@@ -243,15 +239,15 @@ pub fn store_register<R: Makes>(
     path: &str,
     network: Network,
     staff: Staff,
-) -> Result<(), Fault>
-    ensures visit { Comes R.makes R.shuts R.ends path.now
-        (Alone (MakesRegister R.Tables.Store (opening network staff))) result rt.old rt.new }
-    ensures fault { IfErr result IsOfLine }
+) -> Result<(), DatabaseFault>
+    ensures { Comes R.makes R.shuts R.ends path.now
+        (Alone (MakesRegister R.Tables.Store (opening network staff))) (reported result)
+        rt.old rt.new }
 {
     let connection = rt.database(path)?;
     let (made, connection) = register_made(alloc, connection, network, staff);
     let closed = close(rt, connection);
-    first_fault(made, closed)
+    made.and(closed)
 }
 
 /// Makes the tables of an opening register in a database, which has to be empty.
@@ -260,19 +256,26 @@ fn register_made<S: Alter + Drop>(
     connection: Connection<S>,
     network: Network,
     staff: Staff,
-) -> (Result<(), Fault>, Connection<S>)
+) -> (Result<(), DatabaseFault>, Connection<S>)
     ensures made { OnOk result.0 (IsMade S.Store connection (opening network staff) result.1) }
     ensures unmade { OnErr result.0
         (IsUnmade S.Store connection (opening network staff) result.1) }
-    ensures fault { IfErr result.0 IsOfLine }
 {
     settled(&connection);
     match Desk::create(alloc, connection, network, staff) {
         Ok(desk) => (Ok(()), desk.end().end()),
         Err((fault, connection)) => {
             settled(&connection);
-            (Err(Fault::from(fault)), connection)
+            (Err(of_command(fault)), connection)
         }
+    }
+}
+
+/// Any fault of a desk but want of memory is the database's own.
+fn of_command(fault: DeskFault) -> DatabaseFault {
+    match fault {
+        DeskFault::NoMemory => DatabaseFault::NoMemory,
+        _ => DatabaseFault::Sql,
     }
 }
 
@@ -306,7 +309,7 @@ fn register_moved<S: Alter + Drop>(connection: Connection<S>) -> (Result<(), Fau
     ensures unmoved { IfErr result.0 (λ fault.
         IsUnmoved S.Store connection fault result.1) }
     ensures known { (R : Register) → HasRegister S.Store R connection
-        → HasCleanDisk (state S.Store result.1) → IfErr result.0 IsOfLine }
+        → HasCleanDisk (state S.Store result.1) → IfErr result.0 IsDatabaseFault }
 {
     settled(&connection);
     match Store::migrate(connection) {
@@ -340,7 +343,7 @@ pub fn desk_over<S: Alter + Drop>(
         ReadsAs S.Store connection desk.store desk.book.register) }
     ensures read { IfOk result (λ desk. IsOnlyRead S.Store connection desk.store) }
     ensures fault { (R : Register) → HasRegister S.Store R connection → IfErr result (λ back.
-        HasCleanDisk (state S.Store back.1) → IsOfLine back.0) }
+        HasCleanDisk (state S.Store back.1) → IsDatabaseFault back.0) }
     ensures told { IfErr result (λ back. IsRefused S.Store connection back.0 back.1) }
     ensures unread { IfErr result (λ back. Survives (state S.Store connection)
         (state S.Store back.1) (λ _. ⊥)) }

@@ -90,6 +90,15 @@ pub enum JournalFault {
     InDoubt,
 }
 
+/// Why a database was not opened, made or closed.
+#[derive(Clone, Copy, Debug, PartialEq, Eq)]
+pub enum DatabaseFault {
+    /// Memory ran out.
+    NoMemory,
+    /// The database refused or failed.
+    Sql,
+}
+
 /// Why a database is not what the run of a journal leaves.
 #[derive(Clone, Copy, Debug, PartialEq, Eq)]
 pub enum VerifyFault {
@@ -214,6 +223,33 @@ impl From<StoreFault> for Fault {
         match cause {
             StoreFault::NoMemory => Fault::Memory,
             _ => Fault::Store(cause),
+        }
+    }
+}
+
+impl DatabaseFault {
+    ghost use Rattle.clr_edge.specs.Fault.{database_fault};
+
+    /// Any fault of a store but want of memory is the database's own.
+    pub fn of_store(cause: StoreFault) -> DatabaseFault
+        ensures { result ≡ database_fault cause }
+    {
+        match cause {
+            StoreFault::NoMemory => DatabaseFault::NoMemory,
+            _ => DatabaseFault::Sql,
+        }
+    }
+}
+
+impl From<DatabaseFault> for Fault {
+    ghost use Rattle.clr_edge.specs.Fault.{of_database};
+
+    ghost from_gives = { λ cause fault. fault ≡ of_database cause };
+
+    fn from(cause: DatabaseFault) -> Fault {
+        match cause {
+            DatabaseFault::NoMemory => Fault::Memory,
+            DatabaseFault::Sql => Fault::Store(StoreFault::Sql),
         }
     }
 }

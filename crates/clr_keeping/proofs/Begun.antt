@@ -14,38 +14,19 @@ use Rattle.clr_level.proofs.BegunLevel.{begun_level}
 use Rattle.clr_level.specs.Placing.{ShowsAt}
 use Rattle.clr_level.specs.declared.keeper.Keeper.{Keeper}
 use Rattle.clr_level.specs.declared.last.Last.TheVariants.{Settled}
-use Rattle.clr_load.specs.Fault.{IsOfDatabase}
-use Rattle.clr_load.specs.declared.fault.StoreFault.{StoreFault}
-use Rattle.clr_load.specs.declared.fault.StoreFault.TheVariants as store
 use Rattle.clr_chain.specs.declared.fault.NewFault.TheVariants as unbegun
-use Rattle.clr_desk.specs.declared.desk_fault.DeskFault.TheVariants as desk
 use Rattle.clr_keeping.specs.Beginning.{BeginsLevel, GoesOnAt, IsOfBegun, IsPlacedOrNot, PlacedIsLevel, PlacesAt, begun_or, gives_number}
-use Rattle.clr_edge.specs.Database.{IsOfLine}
-use Rattle.clr_edge.specs.Fault.{of_store}
 use Rattle.clr_edge.specs.Journals.{IsNew, IsOfBeginning}
-use Rattle.clr_keeping.specs.TakenUp.{IsOfTakingUp, Logs, store_place}
-use Rattle.clr_edge.specs.Visit.{Done}
+use Rattle.clr_keeping.specs.TakenUp.{Logs, store_place}
+use Rattle.clr_edge.specs.Visit.{Closed, Done, reported}
 use Rattle.clr_edge.specs.declared.fault.Fault.{Fault}
 use Rattle.clr_edge.specs.declared.fault.Fault.TheVariants.{Memory}
 
--- a fault of the database is reported as one of a line
-pub IsOfLine-of_database : (fault : StoreFault) → IsOfDatabase fault → IsOfLine (of_store fault)
-IsOfLine-of_database store.Sql is = inr refl
-IsOfLine-of_database (store.WrongVersion n) is = absurd is
-IsOfLine-of_database (store.BadRow table) is = absurd is
-IsOfLine-of_database store.NoMemory is = inl refl
-IsOfLine-of_database store.OtherTables is = absurd is
-
--- one of a line is one of taking up
-pub IsOfTakingUp-line : (fault : Fault) → IsOfLine fault → IsOfTakingUp fault
-IsOfTakingUp-line fault (inl memory) = inl (desk.NoMemory, memory)
-IsOfTakingUp-line fault (inr sql) = inl (desk.Store store.Sql, sql)
-
 -- once a journal was begun, a fault says so
-pub begun-fault : (outcome result : Done) → result ≡ begun_or outcome → IfErr result IsOfBegun
+pub begun-fault : (outcome : Closed) (result : Done) → result ≡ begun_or outcome → IfErr result IsOfBegun
 begun-fault outcome result is = let Q : Done → Type 0 = λ r. IfErr r IsOfBegun in subst Q (sym is) (of outcome)
   where
-    of : (outcome : Done) → IfErr (begun_or outcome) IsOfBegun
+    of : (outcome : Closed) → IfErr (begun_or outcome) IsOfBegun
     of (Ok value) = tt
     of (Err fault) = inr refl
 
@@ -91,8 +72,8 @@ number-of first (Err fault) value is = absurd (cc is)
 
 -- a journal that was begun, and then the register given the place, or not
 pub begun-places : {M J C T : Type 0} (g : Ghosts T) (logs : Logs M J C) (path : List ℕ) (first : Place) (result : Done) (old begun new : M) (journal : J)
-    (read after : Held T) (outcome : Done) → logs.steps.begins_journal old path first journal begun → logs.steps.lets_journal_go begun journal new
-    → IsNew logs.log logs.steps.is_clean first journal → IsPlacedOrNot g read first outcome after → result ≡ begun_or outcome → PlacesAt g logs path first result old new read after
+    (read after : Held T) (outcome : Closed) → logs.steps.begins_journal old path first journal begun → logs.steps.lets_journal_go begun journal new
+    → IsNew logs.log logs.steps.is_clean first journal → IsPlacedOrNot g read first (reported outcome) after → result ≡ begun_or outcome → PlacesAt g logs path first result old new read after
 begun-places g logs path first result old begun new journal read after outcome begins gone line placed is = inr (record {
   journal = journal;
   begun = begun;

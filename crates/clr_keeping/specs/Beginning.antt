@@ -1,5 +1,6 @@
 -- THE JOURNAL OF A REGISTER IS BEGUN, and then the register gets its first place in it.
-use Rattle.std.specs.Prelude.{◌≡◌, ◌⊎◌, ℕ, IfErr, IsTrue, List, [], OnErr, OnOk, Result, Some, Ok, Err}
+use Rattle.std.specs.Prelude.{◌≡◌, ◌⊎◌, ℕ, IsTrue, List, [], OnErr, OnOk, Result, Some, Ok, Err}
+use Rattle.std.specs.Result.{result_and}
 use Rattle.sqlite.specs.Held.{Held, state}
 use Rattle.sqlite.specs.State.{HasCleanDisk, Survives}
 use Rattle.sqlite_trees.specs.declared.store.Store.{Ghosts}
@@ -10,7 +11,7 @@ use Rattle.clr_load.specs.Contract.{IsSaved}
 use Rattle.clr_load.specs.Schema.{no_schema}
 use Rattle.clr_load.specs.Stored.{ArePlaced, HasTables}
 use Rattle.clr_store.specs.Contract.{AreEditedAt, AreTablesAt, MakesEditsAt}
-use Rattle.clr_edge.specs.Database.{IsAsBefore, IsOfLine}
+use Rattle.clr_edge.specs.Database.{IsAsBefore}
 use Rattle.clr_edge.specs.Journals.{IsNew, IsOfBeginning}
 use Rattle.clr_desk.specs.declared.desk.Desk.{Desk}
 use Rattle.clr_chain.specs.Opening.{new_text}
@@ -19,15 +20,15 @@ use Rattle.clr_level.specs.declared.keeper.Keeper.{Keeper}
 use Rattle.clr_level.specs.declared.last.Last.TheVariants.{Settled}
 use Rattle.clr_keeping.specs.Keeping.{IsNotUp, IsUp, logged}
 use Rattle.clr_keeping.specs.TakenUp.{Logs, store_place}
-use Rattle.clr_edge.specs.Visit.{Done, Ending, Ends, Opening, Shutting, first_fault}
+use Rattle.clr_edge.specs.Visit.{Closed, Done, Ending, Opening, Shutting, first_fault, reported}
 use Rattle.clr_edge.specs.declared.fault.Fault.{Fault}
 use Rattle.clr_edge.specs.declared.fault.Fault.TheVariants.{Journal, Memory}
 use Rattle.clr_edge.specs.declared.fault.JournalFault.TheVariants.{Begun}
 
 -- what is reported once a journal was begun: a fault says that it is to be removed
-abbrev pub begun_or : Done → Done
+abbrev pub begun_or : Closed → Done
 begun_or (Ok value) = Ok value
-begun_or (Err fault) = Err (Journal Begun)
+begun_or (Err cause) = Err (Journal Begun)
 
 -- the journal was not begun, or it was and is to be removed
 abbrev pub IsOfBegun : Fault → Type 0
@@ -43,8 +44,8 @@ pub record IsBegunThen {M J C : Type 0} (logs : Logs M J C) (path : List ℕ) (f
   pub begins : logs.steps.begins_journal old path first journal begun
   pub gone : logs.steps.lets_journal_go begun journal middle
   pub line : IsNew logs.log logs.steps.is_clean first journal
-  pub outcome : Done
-  pub did : Does outcome middle new
+  pub outcome : Closed
+  pub did : Does (reported outcome) middle new
   pub result_is : result ≡ begun_or outcome
 
 -- the same, unless none was begun, and then nothing more was done
@@ -98,12 +99,11 @@ pub record IsUnmadeAt {S : Type 0} (g : Ghosts S) (before : Held S) (R : Registe
 
 -- they were, or not, and the first fault is the result
 pub record MakesRegisterAt {S : Type 0} (g : Ghosts S) (R : Register) (place : Place)
-    (result : Done) (before after : Held S) (closed : Done) : Type 0 where
-  pub outcome : Done
+    (result : Done) (before after : Held S) (closed : Closed) : Type 0 where
+  pub outcome : Closed
   pub made : OnOk outcome (IsMadeAt g before R place after)
   pub unmade : OnErr outcome (IsUnmadeAt g before R place after)
-  pub fault : IfErr outcome IsOfLine
-  pub result_is : result ≡ first_fault outcome closed
+  pub result_is : result ≡ reported (result_and outcome closed)
 
 -- ---- for a register that has none
 
@@ -120,7 +120,6 @@ pub record IsPlacedOrNot {S : Type 0} (g : Ghosts S) (before : Held S) (place : 
       → OnErr outcome ((state g after).now ≡ (state g before).now)
   pub was_open : HasCleanDisk (state g after) → IsTrue (state g after).is_open
       → IsTrue (state g before).is_open
-  pub fault : IfErr outcome IsOfLine
   pub survives : Survives (state g before) (state g after)
       (AreEditedAt (state g before).now [] (place_row place))
 
@@ -158,7 +157,7 @@ BeginsNextAt {M} {J} {C} {T} logs g opens shuts ends path journal next result ol
     ((fault : Fault) × (result ≡ Err fault)
     × IsNotUp opens shuts ends path (logged g logs journal) old new fault)
     ⊎ ((taken : Desk (Keeper (Held T) J C)) × (up : M) × (middle : M) × (after : Held T)
-    × (outcome : Result ℕ Fault) × (closed : Done)
+    × (outcome : Result ℕ Fault) × (closed : Closed)
     × IsUp opens path (logged g logs journal) old up taken
     × GoesOnAt g logs next outcome up middle taken.store after
-    × Ends ends after closed middle new × (result ≡ first_fault outcome closed))
+    × ends middle after closed new × (result ≡ first_fault outcome closed))

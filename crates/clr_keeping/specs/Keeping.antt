@@ -1,6 +1,6 @@
 -- A REGISTER WHILE ITS DATABASE IS OPEN, with a journal or without one: how it is taken up from the
 -- database, and how it is let go.
-use Rattle.std.specs.Prelude.{◌≡◌, ◌⊎◌, ℕ, false, IfErr, IsErrAnd, List, None, Option, Result, Some}
+use Rattle.std.specs.Prelude.{◌≡◌, ◌⊎◌, ℕ, false, IsErrAnd, List, None, Option, Result, Some}
 use Rattle.std.specs.Borrow.{Bor}
 use Rattle.sqlite.specs.Held.{Held, state}
 use Rattle.sqlite.specs.State.{HasCleanDisk, State, Survives}
@@ -20,10 +20,13 @@ use Rattle.clr_level.specs.Journaling.{FailsToo, IsLeftAs, IsSound, Journals, is
 use Rattle.clr_level.specs.Levelling.{IsKeptLevel}
 use Rattle.clr_level.specs.Restarting.{IsSafeAt}
 use Rattle.clr_level.specs.declared.keeper.Keeper.{Keeper}
-use Rattle.clr_edge.specs.Database.{HasRegister, IsOfLine, IsOnlyRead, IsRefused, ReadsAs}
+use Rattle.clr_edge.specs.Database.{HasRegister, IsDatabaseFault, IsOnlyRead, IsRefused}
+use Rattle.clr_edge.specs.Database.{ReadsAs}
+use Rattle.clr_edge.specs.Fault.{of_database}
 use Rattle.clr_keeping.specs.TakenUp.{HasPlace, IsNotTakenUp, IsTakenUp, IsUnplaced, IsUnsuited, Logs}
 use Rattle.clr_keeping.specs.TakenUp.{store_place}
-use Rattle.clr_edge.specs.Visit.{Done, Ending, Ends, Opening, Shutting, Visits}
+use Rattle.clr_edge.specs.Visit.{Closed, Ending, Opening, Shutting, Visits}
+use Rattle.clr_edge.specs.declared.fault.DatabaseFault.{DatabaseFault}
 use Rattle.clr_edge.specs.declared.fault.Fault.{Fault}
 use Rattle.clr_edge.specs.declared.fault.Fault.TheVariants.{Journal}
 use Rattle.clr_edge.specs.declared.fault.JournalFault.TheVariants.{Missing}
@@ -48,7 +51,7 @@ pub record IsNotRead {T : Type 0} (g : Ghosts T) (before : Held T) (fault : Faul
   pub refused : IsRefused g before fault after
   pub survives : Survives (state g before) (state g after) (λ _. ⊥)
   pub known : (R : Register) → HasRegister g R before → HasCleanDisk (state g after)
-      → IsOfLine fault
+      → IsDatabaseFault fault
 
 -- IT HAS A JOURNAL, and none was named: its database was only read
 pub record MissesJournal {T : Type 0} (g : Ghosts T) (before : Held T) (fault : Fault)
@@ -204,19 +207,18 @@ pub record Works {M T K : Type 0} (by : Keeping M T K) (Did : M → M → Desk K
 -- it, and the result is what comes of that too
 pub record WorksIn {M T K R : Type 0} (by : Keeping M T K) (Idle : Type 0)
     (Did : Result R Fault → M → M → Desk K → Desk K → Type 0)
-    (closed_as : Result R Fault → Done → Result R Fault) (result : Result R Fault) (old : M)
-    (before after : Held T) (closed : Done) (new : M) : Type 0 where
+    (closed_as : Result R Fault → Closed → Result R Fault) (result : Result R Fault) (old : M)
+    (before after : Held T) (closed : Closed) (new : M) : Type 0 where
   pub told : Result R Fault
   pub works : (IsErrAnd told (λ fault. by.refuses old new before fault after) × Idle)
       ⊎ Works by (Did told) old new before after
-  pub closing : IfErr closed IsOfLine
   pub result_is : result ≡ closed_as told closed
 
 -- with the journal at a path, if one is named: what is done over a desk without one, and with it
 abbrev pub WorksEither : {M J C T R : Type 0} → Logs M J C → Ghosts T → Option (Bor (List ℕ))
     → Type 0 → (Result R Fault → M → M → Desk (Held T) → Desk (Held T) → Type 0)
     → (Result R Fault → M → M → Desk (Keeper (Held T) J C) → Desk (Keeper (Held T) J C) → Type 0)
-    → (Result R Fault → Done → Result R Fault) → Result R Fault → M → Held T → Held T → Done → M
+    → (Result R Fault → Closed → Result R Fault) → Result R Fault → M → Held T → Held T → Closed → M
     → Type 0
 WorksEither logs g None Idle Plainly Loggedly = WorksIn (unlogged g) Idle Plainly
 WorksEither logs g (Some journal) Idle Plainly Loggedly =
@@ -225,7 +227,7 @@ WorksEither logs g (Some journal) Idle Plainly Loggedly =
 -- the same over either
 abbrev pub WorksWith : {M J C T R : Type 0} → Logs M J C → Ghosts T → Option (Bor (List ℕ)) → Type 0
     → ((K : Type 0) → commit.Ghosts K → Result R Fault → M → M → Desk K → Desk K → Type 0)
-    → (Result R Fault → Done → Result R Fault) → Result R Fault → M → Held T → Held T → Done → M
+    → (Result R Fault → Closed → Result R Fault) → Result R Fault → M → Held T → Held T → Closed → M
     → Type 0
 WorksWith {J = J} {C = C} {T = T} logs g journal Idle Did =
     WorksEither logs g journal Idle (Did (Held T) (plain_keeper g))
@@ -250,15 +252,15 @@ pub record IsUp {M T K : Type 0} (opens : Opening M T) (path : List ℕ) (by : K
 abbrev pub IsNotUp : {M T K : Type 0} → Opening M T → Shutting M → Ending M T → List ℕ
     → Keeping M T K → M → M → Fault → Type 0
 IsNotUp opens shuts ends path by old new fault =
-    (IsOfLine fault × shuts old path fault new)
+    ((cause : DatabaseFault) × (fault ≡ of_database cause) × shuts old path cause new)
     ⊎ Visits opens ends path (λ middle before after closed later.
-    by.refuses middle later before fault after × IfErr closed IsOfLine) old new
+    by.refuses middle later before fault after) old new
 
 -- what kept it was let go, and its database closed
-abbrev pub IsGone : {M T K : Type 0} → (M → M → K → Held T → Type 0) → Ending M T → K → Done → M
+abbrev pub IsGone : {M T K : Type 0} → (M → M → K → Held T → Type 0) → Ending M T → K → Closed → M
     → M → Type 0
 IsGone {M} {T} lets_go ends it closed old new = (after : Held T) × (middle : M)
-    × lets_go old middle it after × Ends ends after closed middle new
+    × lets_go old middle it after × ends middle after closed new
 
 -- ---- by the path of a journal, if one is named
 
@@ -278,8 +280,8 @@ IsNotUpWith g opens shuts ends path logs (Some journal) =
     IsNotUp opens shuts ends path (logged g logs journal.now)
 
 -- THE REGISTER WAS LET GO, its journal first, if it has one, and its database closed
-abbrev pub IsLetGo : {M J C T : Type 0} → Ending M T → Logs M J C → Opened (Held T) J C → Done
-    → M → M → Type 0
+abbrev pub IsLetGo : {M J C T : Type 0} → Ending M T → Logs M J C → Opened (Held T) J C
+    → Closed → M → M → Type 0
 IsLetGo ends logs (Plain desk) = IsGone GoesPlain ends desk.store
 IsLetGo ends logs (Logged desk) = IsGone (GoesLogged logs) ends desk.store
 

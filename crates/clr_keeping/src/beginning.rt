@@ -6,15 +6,14 @@ ghost use Rattle.clr_keeping.specs.Beginning.{BeginsFirst, BeginsNextAt, GoesOnA
 ghost use Rattle.clr_keeping.specs.Beginning.{IsOfBegun};
 ghost use Rattle.clr_keeping.specs.Beginning.{IsPlacedOrNot, IsUnmadeAt, MakesRegisterAt, PlacesAt};
 ghost use Rattle.clr_keeping.specs.Beginning.{begun_or};
-ghost use Rattle.clr_edge.specs.Database.{IsOfLine};
 ghost use Rattle.clr_keeping.specs.TakenUp.{IsOfTakingUp, logs};
-ghost use Rattle.clr_edge.specs.Visit.{Alone, Comes};
+ghost use Rattle.clr_edge.specs.Visit.{Alone, Comes, reported};
 
 use crate::taking_up::{Opened, take_up};
 use clr_chain::Clock;
 use clr_desk::{CommitAt, Desk};
 use clr_edge::database::{Databases, Makes, close, first_fault, settled};
-use clr_edge::fault::{Fault, JournalFault};
+use clr_edge::fault::{DatabaseFault, Fault, JournalFault};
 use clr_edge::journals::Journals;
 use clr_journal::Journal;
 use clr_level::Keeper;
@@ -59,16 +58,15 @@ fn store_register_at<R: Makes>(
     network: &Network,
     staff: &Staff,
     first: &Place,
-) -> Result<(), Fault>
-    ensures visit { Comes R.makes R.shuts R.ends path.now
+) -> Result<(), DatabaseFault>
+    ensures { Comes R.makes R.shuts R.ends path.now
         (Alone (MakesRegisterAt R.Tables.Store (opening network.now staff.now) first.now))
-        result rt.old rt.new }
-    ensures fault { IfErr result IsOfLine }
+        (reported result) rt.old rt.new }
 {
     let connection = rt.database(path)?;
     let (made, connection) = register_made_at(connection, network, staff, first);
     let closed = close(rt, connection);
-    first_fault(made, closed)
+    made.and(closed)
 }
 
 /// Makes the tables of an opening register, with its first place in a journal, in a database, which
@@ -78,19 +76,18 @@ fn register_made_at<S: Alter + Drop>(
     network: &Network,
     staff: &Staff,
     first: &Place,
-) -> (Result<(), Fault>, Connection<S>)
+) -> (Result<(), DatabaseFault>, Connection<S>)
     ensures made { OnOk result.0
         (IsMadeAt S.Store connection (opening network.now staff.now) first.now result.1) }
     ensures unmade { OnErr result.0
         (IsUnmadeAt S.Store connection (opening network.now staff.now) first.now result.1) }
-    ensures fault { IfErr result.0 IsOfLine }
 {
     settled(&connection);
     match Store::create_with_place(connection, network, staff, first) {
         Ok(store) => (Ok(()), store.end()),
         Err(Back { fault, connection }) => {
             settled(&connection);
-            (Err(Fault::from(fault)), connection)
+            (Err(DatabaseFault::of_store(fault)), connection)
         }
     }
 }
@@ -121,20 +118,23 @@ pub fn begin_journal_of<S: Alter + Drop, R: Journals>(
 }
 
 /// Gives the register of a store that has no journal a place in one.
-fn place_in<S: Alter + Drop>(store: Store<S>, first: &Place) -> (Result<(), Fault>, Connection<S>)
-    ensures placed { IsPlacedOrNot S.Store store first.now result.0 result.1 }
+fn place_in<S: Alter + Drop>(
+    store: Store<S>,
+    first: &Place,
+) -> (Result<(), DatabaseFault>, Connection<S>)
+    ensures placed { IsPlacedOrNot S.Store store first.now (reported result.0) result.1 }
     ensures mode { result.1.in_transaction ≡ false }
 {
     let mut store = store;
     match store.begin_at(first) {
         Ok(()) => (Ok(()), store.end()),
-        Err(cause) => (Err(Fault::from(cause)), store.end()),
+        Err(cause) => (Err(DatabaseFault::of_store(cause)), store.end()),
     }
 }
 
 /// What is reported once a journal was begun: any fault of the database says that it is to be
 /// removed.
-fn begun_or(outcome: Result<(), Fault>) -> Result<(), Fault>
+fn begun_or(outcome: Result<(), DatabaseFault>) -> Result<(), Fault>
     ensures { result ≡ begun_or outcome }
 {
     match outcome {
@@ -236,8 +236,8 @@ fn move_in<S: Alter + Drop>(
     alloc: Global,
     store: Store<S>,
     first: &Place,
-) -> (Result<(), Fault>, Connection<S>)
-    ensures placed { IsPlacedOrNot S.Store store first.now result.0 result.1 }
+) -> (Result<(), DatabaseFault>, Connection<S>)
+    ensures placed { IsPlacedOrNot S.Store store first.now (reported result.0) result.1 }
     ensures mode { result.1.in_transaction ≡ false }
 {
     let mut store = store;
@@ -246,6 +246,6 @@ fn move_in<S: Alter + Drop>(
     };
     match store.commit_at(&change, first) {
         Ok(()) => (Ok(()), store.end()),
-        Err(cause) => (Err(Fault::from(cause)), store.end()),
+        Err(cause) => (Err(DatabaseFault::of_store(cause)), store.end()),
     }
 }

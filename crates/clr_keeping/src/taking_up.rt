@@ -6,7 +6,6 @@ ghost use Rattle.clr_rules.specs.Good.{IsGood};
 ghost use Rattle.clr_desk.specs.Kept.{Keeps};
 ghost use Rattle.clr_level.specs.Journaling.{HasText, IsSound};
 ghost use Rattle.clr_level.specs.declared.last.Last.TheVariants.{Settled};
-ghost use Rattle.clr_edge.specs.Database.{IsOfLine};
 ghost use Rattle.clr_keeping.specs.Keeping.{IsEnded, IsLetGo, IsNotUp, IsNotUpWith, IsUp, IsUpWith};
 ghost use Rattle.clr_keeping.specs.Keeping.{logged, plain, unlogged};
 ghost use Rattle.clr_keeping.specs.TakenUp.{HasPlace, IsGiven, IsNotGiven, IsOfTakingUp};
@@ -17,7 +16,7 @@ ghost use Rattle.clr_keeping.specs.TakenUp.{StaysRead, StopsForward, entries_of,
 use clr_chain::{Ahead, Clock};
 use clr_desk::{Commit, CommitAt, Desk};
 use clr_edge::database::{Databases, close, desk_over};
-use clr_edge::fault::{Fault, JournalFault};
+use clr_edge::fault::{DatabaseFault, Fault, JournalFault};
 use clr_edge::journals::{Journals, OpenedJournal};
 use clr_journal::Journal;
 use clr_level::{Keeper, OpeningFault, with_journal};
@@ -237,10 +236,9 @@ fn logged<S: Alter + Drop, R: Journals>(
 pub fn let_go<R: Databases + Journals>(
     rt: &mut R,
     opened: Opened<Store<R::Tables>, R::Log, R::Time>,
-) -> Result<(), Fault>
-    ensures gone { IsLetGo R.ends (logs R.Journals R.Log.Journal R.Time.shows) opened result
+) -> Result<(), DatabaseFault>
+    ensures { IsLetGo R.ends (logs R.Journals R.Log.Journal R.Time.shows) opened result
         rt.old rt.new }
-    ensures fault { IfErr result IsOfLine }
 {
     let (connection, log) = ended(opened);
     match log {

@@ -3,6 +3,7 @@ use Rattle.std.proofs.Common.{◌≡◌, ◌∙◌, ℕ, ap, inl, inr, refl, sub
 use Rattle.std.specs.Borrow.{Bor}
 use Rattle.std.specs.Fmt.{digits}
 use Rattle.std.specs.Prelude.{◌⊎◌, IfErr, IfOk, IfSome, IsErrAnd, None, OnOk, String, string_bytes}
+use Rattle.std.specs.Result.{result_and}
 use Rattle.std.specs.declared.alloc.Global.{Global}
 use Rattle.sqlite.specs.Held.{Held, state}
 use Rattle.sqlite_trees.specs.declared.store.Store.{Ghosts}
@@ -14,19 +15,17 @@ use Rattle.clr_rules.specs.Register.{Register, opening}
 use Rattle.clr_examples.specs.Worked.{worked_net, worked_opening}
 use Rattle.clr_desk.specs.Faults.{FailsAsStore}
 use Rattle.clr_load.specs.Stored.{HasTables}
-use Rattle.clr_load.specs.declared.fault.StoreFault.{StoreFault}
-use Rattle.clr_load.specs.declared.fault.StoreFault.TheVariants as store
 use Rattle.clr_load.specs.Tables.{tables_of}
 use Rattle.clr_csv.specs.declared.fault.CsvFault.{CsvFault}
 use Rattle.clr_net.specs.Results.{◌>>=◌}
 use Rattle.clr_edge.specs.Answers.{After}
 use Rattle.clr_edge.specs.Files.{told_of}
 use Rattle.clr_edge.specs.declared.fault.ImportFile.TheVariants.{Points, Sections, Staff}
-use Rattle.clr_edge.specs.Database.{HasRegister, IsMade, IsOfLine, IsOfStore}
-use Rattle.clr_edge.specs.Fault.{of_store}
+use Rattle.clr_edge.specs.Database.{HasRegister, IsDatabaseFault, IsMade, IsOfStore}
 use Rattle.clr_keeping.specs.Keeping.{IsNotReadAlone, Works, plain_keeper, unlogged}
 use Rattle.clr_keeping.specs.TakenUp.{Logs}
-use Rattle.clr_edge.specs.Visit.{Alone, Comes, Done, Ending, MakesRegister, MovesRegister, Opening, Shutting, Visits, first_fault}
+use Rattle.clr_edge.specs.Visit.{Alone, Closed, Comes, Done, Ending, MakesRegister, MovesRegister, Opening, Shutting, Visits, reported}
+use Rattle.clr_edge.specs.declared.fault.DatabaseFault.TheVariants.{NoMemory}
 use Rattle.clr_edge.specs.declared.fault.Fault.{Fault}
 use Rattle.clr_edge.specs.declared.fault.Fault.TheVariants.{Journal, Memory}
 use Rattle.clr_edge.specs.declared.fault.JournalFault.TheVariants.{Missing}
@@ -39,6 +38,7 @@ use Rattle.clr_commands.specs.Run.{IsOfInput, IsOpeningOf, RunsAlone, RunsOver, 
 use Rattle.clr_commands.specs.declared.replies.Printed.{Printed}
 use Rattle.clr_known.specs.Known.{IsAlwaysClean, IsRunOfJones, IsVersionTwo, KnowsJones, StoresWorked}
 use Rattle.clr_known.specs.Known.{jones_register, point_file, section_file, staff_file, worked_counts}
+use Rattle.clr_edge.proofs.Databases.{IsOfStore-of, IsOfStore-of_database, first_fault-of, visits-as}
 use Rattle.clr_known.proofs.WorkedRows.{file_sections, file_staff, is_worked_net, is_worked_staff, points_read, sections_read, staff_read}
 
 -- the rows of the three files
@@ -70,36 +70,23 @@ pub opening_given : (R : Register) → IsOpeningOf worked_rows R → R ≡ worke
 opening_given R is =
     is.register ∙ (λ i. opening (is_worked_net is.net is.is_network i) (is_worked_staff is.team is.is_staff i))
 
-pub moved_line : (told closed : Done) → IfErr told IsOfLine → IfErr closed IsOfLine → IfErr (first_fault told closed) IsOfLine
-moved_line (Ok value) (Ok done) of_told of_closed = tt
-moved_line (Ok value) (Err fault) of_told of_closed = of_closed
-moved_line (Err fault) closed of_told of_closed = of_told
-
-printed_moved : (moved : Done) (result : Result (String Global) Fault) → IfErr moved IsOfLine → PrintsMoved moved result → IsVersionTwo result
-printed_moved moved (Ok text) of_line prints = prints.1
-printed_moved moved (Err fault) of_line prints = subst (λ (d : Done). IfErr d IsOfLine) prints of_line
+printed_moved : (moved : Done) (result : Result (String Global) Fault) → IfErr moved IsDatabaseFault → PrintsMoved moved result → IsVersionTwo result
+printed_moved moved (Ok text) of prints = prints.1
+printed_moved moved (Err fault) of prints = subst (λ (d : Done). IfErr d IsDatabaseFault) prints of
 
 -- memory may run out before the move
 without_memory : (result : Result (String Global) Fault) → result ≡ Err Memory → IsVersionTwo result
-without_memory result is = subst (λ (r : Result (String Global) Fault). IsVersionTwo r) (sym is) (inl refl)
+without_memory result is = subst (λ (r : Result (String Global) Fault). IsVersionTwo r) (sym is) (NoMemory, refl)
 
 -- what was printed stays, however its database was closed
-still_given : (input : List ℕ) (printed : Result Printed Fault) (closed : Done) → IsRunOfJones input printed
+still_given : (input : List ℕ) (printed : Result Printed Fault) (closed : Closed) → IsRunOfJones input printed
     → IsRunOfJones input (printed_after printed closed)
 still_given input (Ok printed) closed runs = runs
 still_given input (Err fault) closed runs = runs
 
--- ---- why a register is not taken up
-store_told : (cause : StoreFault) → IsOfStore (of_store cause)
-store_told store.Sql = inr (store.Sql, refl)
-store_told (store.WrongVersion n) = inr (store.WrongVersion n, refl)
-store_told (store.BadRow name) = inr (store.BadRow name, refl)
-store_told store.OtherTables = inr (store.OtherTables, refl)
-store_told store.NoMemory = inl refl
-
-line_of_store : (fault : Fault) → IsOfLine fault → IsOfStore fault
-line_of_store fault (inl memory) = inl memory
-line_of_store fault (inr refused) = inr (store.Sql, refused)
+-- why a register is not taken up
+database_of_store : (fault : Fault) → IsDatabaseFault fault → IsOfStore fault
+database_of_store fault (cause, is) = subst (λ (f : Fault). IsOfStore f) (sym is) (IsOfStore-of_database cause)
 
 -- what is read of files that are the worked ones
 pub known_read : (s p e : Option (List ℕ)) → s ≡ Some section_file → p ≡ Some point_file → e ≡ Some staff_file
@@ -111,17 +98,17 @@ known_read s p e sections points staff read are =
 
 module _ {T : Type 0} (g : Ghosts T) (clean : IsAlwaysClean g) where
   -- a register that was made is that of the worked network
-  tables_told : (told closed : Done) (after : Held T) (R : Register) → R ≡ worked_opening → first_fault told closed ≡ Ok tt
+  tables_told : (told closed : Closed) (after : Held T) (R : Register) → R ≡ worked_opening → reported (result_and told closed) ≡ Ok tt
       → OnOk told (HasTables (state g after).now (tables_of R)) → HasTables (state g after).now (tables_of worked_opening)
   tables_told (Ok value) closed after R is whole made = subst (λ (S : Register). HasTables (state g after).now (tables_of S)) is made
-  tables_told (Err fault) closed after R is whole made = absurd (cc whole)
+  tables_told (Err cause) closed after R is whole made = absurd (cc whole)
 
-  made_clean : (told : Done) (before after : Held T) (R : Register) → OnOk told (IsMade g before R after)
+  made_clean : (told : Closed) (before after : Held T) (R : Register) → OnOk told (IsMade g before R after)
       → OnOk told (HasTables (state g after).now (tables_of R))
   made_clean (Ok value) before after R made = made.tables (clean after)
-  made_clean (Err fault) before after R made = tt
+  made_clean (Err cause) before after R made = tt
 
-  tables_made : (R : Register) (before after : Held T) (stored closed : Done) → R ≡ worked_opening → stored ≡ Ok tt
+  tables_made : (R : Register) (before after : Held T) (stored : Done) (closed : Closed) → R ≡ worked_opening → stored ≡ Ok tt
       → MakesRegister g R stored before after closed → HasTables (state g after).now (tables_of worked_opening)
   tables_made R before after stored closed is ok makes =
       tables_told makes.told closed after R is (sym makes.result_is ∙ ok) (made_clean makes.told before after R makes.made)
@@ -131,20 +118,19 @@ module _ {T : Type 0} (g : Ghosts T) (clean : IsAlwaysClean g) where
     pub move_given : KnowsJones g opens → (path : List ℕ) (result : Result (String Global) Fault) (old new : M)
         → Migrates (Comes opens shuts ends path (Alone (MovesRegister g))) result old new → IsVersionTwo result
     move_given knows path result old new (inl (is, same)) = without_memory result is
-    move_given knows path result old new (inr (moved, prints, inl (fault, is, of_line, shut))) =
-        printed_moved moved result (subst (λ (d : Done). IfErr d IsOfLine) (sym is) of_line) prints
+    move_given knows path result old new (inr (moved, prints, inl (cause, is, shut))) =
+        printed_moved moved result (subst (λ (d : Done). IfErr d IsDatabaseFault) (sym is) (cause, refl)) prints
     move_given knows path result old new (inr (moved, prints, inr visit)) =
         let moves = visit.does.1 in
         printed_moved moved result
-        (subst (λ (d : Done). IfErr d IsOfLine) (sym moves.result_is)
-        (moved_line moves.told visit.closed (moves.known jones_register (knows _ _ _ _ visit.opened) (clean visit.after))
-        visit.ended.1)) prints
+        (first_fault-of moves.told visit.closed moved (λ fault. IsDatabaseFault fault) moves.result_is
+        (moves.known jones_register (knows _ _ _ _ visit.opened) (clean visit.after)) (λ cause. (cause, refl))) prints
 
     not_taken_up : (input : List ℕ) (before after : Held T) (fault : Fault) → HasRegister g jones_register before
         → IsNotReadAlone g before fault after → IsOfStore fault ⊎ (fault ≡ Journal Missing) ⊎ IsOfInput (Some input) fault
-    not_taken_up input before after fault has (inl refused) = inl (line_of_store fault (refused.known _ has (clean after)))
+    not_taken_up input before after fault has (inl refused) = inl (database_of_store fault (refused.known _ has (clean after)))
     not_taken_up input before after fault has (inr (inl unplaced)) =
-        inl (subst (λ (f : Fault). IsOfStore f) (sym unplaced.lacks.fault_is) (store_told unplaced.lacks.cause))
+        inl (IsOfStore-of unplaced.lacks.cause fault unplaced.lacks.fault_is)
     not_taken_up input before after fault has (inr (inr misses)) = inr (inl misses.fault_is)
 
     ran_given : (input : List ℕ) (printed : Result Printed Fault) (old new : M) (before after : Held T) → HasRegister g jones_register before
@@ -168,8 +154,8 @@ module _ {T : Type 0} (g : Ghosts T) (clean : IsAlwaysClean g) where
         → Comes opens shuts ends path (RunsOver logs g None input) result old new
         → IfSome input (λ bytes. IsRunOfJones bytes result)
     run_given logs knows path None result old new comes = tt
-    run_given logs knows path (Some bytes) result old new (inl (fault, is, of_line, shut)) =
-        subst (λ (r : Result Printed Fault). IsRunOfJones bytes r) (sym is) (inl (line_of_store fault of_line))
+    run_given logs knows path (Some bytes) result old new (inl (cause, is, shut)) =
+        subst (λ (r : Result Printed Fault). IsRunOfJones bytes r) (sym is) (inl (IsOfStore-of_database cause))
     run_given logs knows path (Some bytes) result old new (inr visit) =
         let runs = visit.does in
         subst (λ (r : Result Printed Fault). IsRunOfJones bytes r) (sym runs.result_is)
@@ -178,20 +164,11 @@ module _ {T : Type 0} (g : Ghosts T) (clean : IsAlwaysClean g) where
 
     stored_given : (path : List ℕ) (R : Register) (stored : Done) (old new : M) → R ≡ worked_opening → stored ≡ Ok tt
         → Comes opens shuts ends path (Alone (MakesRegister g R)) stored old new
-        → Visits opens ends path (λ (middle : M) before after (closed : Done) (later : M).
+        → Visits opens ends path (λ (middle : M) before after (closed : Closed) (later : M).
         HasTables (state g after).now (tables_of worked_opening)) old new
-    stored_given path R stored old new is ok (inl (fault, failed, of_line, shut)) = absurd (cc (sym ok ∙ failed))
-    stored_given path R stored old new is ok (inr visit) = record {
-      before = visit.before;
-      after = visit.after;
-      closed = visit.closed;
-      middle = visit.middle;
-      later = visit.later;
-      opened = visit.opened;
-      mode = visit.mode;
-      does = tables_made R visit.before visit.after stored visit.closed is ok visit.does.1;
-      ended = visit.ended;
-    }
+    stored_given path R stored old new is ok (inl (cause, failed, shut)) = absurd (cc (sym ok ∙ failed))
+    stored_given path R stored old new is ok (inr visit) =
+        visits-as opens ends path _ _ old new (λ middle before after closed later opened it. tables_made R before after stored closed is ok it.1) visit
 
     rows_stored : (path : List ℕ) (rows : FileRows) (result : Result (String Global) Fault) (old new : M) → worked_rows ≡ rows
         → Stores (λ R. Comes opens shuts ends path (Alone (MakesRegister g R))) rows result old new

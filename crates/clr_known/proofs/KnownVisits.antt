@@ -1,5 +1,5 @@
 -- What comes of a visit of a database whose register is known: what is printed, and the response to a request for the board.
-use Rattle.std.proofs.Common.{◌≡◌, ◌∙◌, ℕ, ap, inl, inr, subst, sym, List, None, Option, Some, Result, Ok, Err}
+use Rattle.std.proofs.Common.{◌≡◌, ◌∙◌, ℕ, ap, inl, inr, refl, subst, sym, List, None, Option, Some, Result, Ok, Err}
 use Rattle.std.specs.Prelude.{◌⊎◌, IsErrAnd, OnOk, String}
 use Rattle.std.specs.Borrow.{Bor}
 use Rattle.std.specs.declared.alloc.Global.{Global}
@@ -13,8 +13,8 @@ use Rattle.clr_http.specs.declared.registrar.Registrar as registrar
 use Rattle.clr_staff.specs.declared.logins.LoginRow.{LoginRow}
 use Rattle.clr_args.specs.declared.asked.ServeArgs.{ServeArgs}
 use Rattle.clr_commands.specs.declared.serve.Terms.{Terms}
-use Rattle.clr_edge.specs.Database.{HasRegister, IsOfLine}
-use Rattle.clr_edge.specs.Visit.{Comes, Done, Ending, Opening, Shutting, first_fault}
+use Rattle.clr_edge.specs.Database.{HasRegister, IsDatabaseFault}
+use Rattle.clr_edge.specs.Visit.{Closed, Comes, Done, Ending, Opening, Shutting, first_fault}
 use Rattle.clr_edge.specs.declared.fault.Fault.{Fault}
 use Rattle.clr_keeping.specs.Keeping.{IsNotReadAlone, Works, plain_keeper, unlogged}
 use Rattle.clr_keeping.specs.TakenUp.{Logs}
@@ -35,7 +35,7 @@ abbrev IsWayBackTo : Option Id → Register → Result (List ℕ) Fault → Type
 IsWayBackTo o R known = (way_back_to R o ≡ known) × GivesBackTo R o
 
 -- what holds where the first of two faults is none, and no more where there is one
-of_first : (served closed : Done) (P : Type 0) → OnOk served P → OnOk (first_fault served closed) P
+of_first : (served : Done) (closed : Closed) (P : Type 0) → OnOk served P → OnOk (first_fault served closed) P
 of_first (Ok value) (Ok other) P holds = holds
 of_first (Ok value) (Err fault) P holds = tt
 of_first (Err fault) closed P holds = tt
@@ -50,21 +50,21 @@ module _ {M T : Type 0} (g : Ghosts T) (clean : IsAlwaysClean g)
   -- what is printed is what is answered of the register
   pub answer_given : (path : List ℕ) (IsOwn : Fault → Type 0) (answer : Register → Result (List ℕ) Fault) (result : Result (String Global) Fault)
       (old new : M) → Comes opens shuts ends path (WhileOpen (PrintsOf g IsOwn answer)) result old new
-      → GivesText IsOfLine (answer jones_register) result
-  answer_given path IsOwn answer result old new (inl (fault, is, of_line, shut)) =
-      subst (λ (r : Result (String Global) Fault). GivesText IsOfLine (answer jones_register) r) (sym is) (λ other. absurd (other of_line))
+      → GivesText IsDatabaseFault (answer jones_register) result
+  answer_given path IsOwn answer result old new (inl (cause, is, shut)) =
+      subst (λ (r : Result (String Global) Fault). GivesText IsDatabaseFault (answer jones_register) r) (sym is) (λ other. absurd (other (cause, refl)))
   answer_given path IsOwn answer result old new (inr visit) =
       visit.does.1.known jones_register (knows _ _ _ _ visit.opened) (clean visit.after)
 
   -- the same of a way back, which closes its record alone besides
   pub way_back_given : (path : List ℕ) (o : Option Id) (result : Result (String Global) Fault) (old new : M)
-      → Comes opens shuts ends path (WhileOpen (AnswersOf g IsOfWayBack (IsWayBackTo o))) result old new → GivesText IsOfLine (way_back_to jones_register o) result
-  way_back_given path o result old new (inl (fault, is, of_line, shut)) =
-      subst (λ (r : Result (String Global) Fault). GivesText IsOfLine (way_back_to jones_register o) r) (sym is) (λ other. absurd (other of_line))
+      → Comes opens shuts ends path (WhileOpen (AnswersOf g IsOfWayBack (IsWayBackTo o))) result old new → GivesText IsDatabaseFault (way_back_to jones_register o) result
+  way_back_given path o result old new (inl (cause, is, shut)) =
+      subst (λ (r : Result (String Global) Fault). GivesText IsDatabaseFault (way_back_to jones_register o) r) (sym is) (λ other. absurd (other (cause, refl)))
   way_back_given path o result old new (inr visit) =
       told result (visit.does.1.known jones_register (knows _ _ _ _ visit.opened) (clean visit.after))
     where
-      told : (result : Result (String Global) Fault) → Prints IsOfLine (IsWayBackTo o jones_register) result → GivesText IsOfLine (way_back_to jones_register o) result
+      told : (result : Result (String Global) Fault) → Prints IsDatabaseFault (IsWayBackTo o jones_register) result → GivesText IsDatabaseFault (way_back_to jones_register o) result
       told (Ok text) prints = prints.0
       told (Err fault) prints = λ other. (prints other).0
 
@@ -113,7 +113,7 @@ module _ {M T : Type 0} (g : Ghosts T) (clean : IsAlwaysClean g)
           it.did.serves)
 
       -- the database is closed after it, which sends nothing
-      closed_so : (result served closed : Done) (after : Held T) (later new : M) → result ≡ first_fault served closed → ends later after closed new
+      closed_so : (result served : Done) (closed : Closed) (after : Held T) (later new : M) → result ≡ first_fault served closed → ends later after closed new
           → OnOk served (IsBoardResponse (response later)) → OnOk result (IsBoardResponse (response new))
       closed_so result served closed after later new is back sent =
           subst (λ (r : Done). OnOk r (IsBoardResponse (response new))) (sym is) (of_first served closed _
@@ -125,10 +125,10 @@ module _ {M T : Type 0} (g : Ghosts T) (clean : IsAlwaysClean g)
       kept : (path : List ℕ) (result : Done) (old new : M)
           → ServesKept net seen args None output output' errors errors' logs g opens shuts ends None path result old new
           → OnOk result (IsBoardResponse (response new))
-      kept path result old new (inl (fault, is, of_line, shut)) = no_visit result fault _ is
+      kept path result old new (inl (cause, is, shut)) = no_visit result _ _ is
       kept path result old new (inr visit) =
           let stored = visit.does in
-          closed_so result stored.told visit.closed visit.after visit.later new stored.result_is visit.ended.0
+          closed_so result stored.told visit.closed visit.after visit.later new stored.result_is visit.ended
           (served_so stored.told visit.middle visit.later visit.before visit.after (knows _ _ _ _ visit.opened) stored.works)
 
       -- what goes out is the response to the request for the board

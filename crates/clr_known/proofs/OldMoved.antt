@@ -19,15 +19,16 @@ use Rattle.clr_load.specs.Stored.{HasTables}
 use Rattle.clr_load.specs.declared.fault.StoreFault.{StoreFault}
 use Rattle.clr_load.specs.declared.fault.StoreFault.TheVariants.{Sql, WrongVersion, BadRow, NoMemory, OtherTables}
 use Rattle.clr_store.specs.Moving.{RefusesMove}
-use Rattle.clr_edge.specs.Database.{IsMoved, IsOfLine, IsUnmoved}
+use Rattle.clr_edge.specs.Database.{IsDatabaseFault, IsMoved, IsUnmoved}
 use Rattle.clr_edge.specs.Fault.{of_store}
-use Rattle.clr_edge.specs.Visit.{Alone, Comes, Done, Ending, MovesRegister, Opening, Shutting, Visits, first_fault}
+use Rattle.clr_edge.specs.Visit.{Alone, Closed, Comes, Done, Ending, MovesRegister, Opening, Shutting, Visits, first_fault}
+use Rattle.clr_edge.specs.declared.fault.DatabaseFault.TheVariants as database
 use Rattle.clr_edge.specs.declared.fault.Fault.{Fault}
 use Rattle.clr_commands.specs.Migrate.{Migrates, PrintsMoved}
 use Rattle.clr_known.specs.Known.{IsAlwaysClean, IsVersionTwo, jones_register}
 use Rattle.clr_known.specs.OldTables.{HasOldJones, KnowsOldJones, MovesJones, first_step_tables}
 use Rattle.clr_known.proofs.JonesRegister.{jones_commands, lines_ask}
-use Rattle.clr_known.proofs.KnownAnswers.{moved_line}
+use Rattle.clr_edge.proofs.Databases.{first_fault-of, visits-as}
 use Rattle.clr_known.proofs.OldTables.{tables_are}
 
 -- the network of the register has no jumper
@@ -48,9 +49,9 @@ points_read : is_ok (old_points first_step_tables) ≡ true
 unfolding all_read read_placed is_utf8 chars encode_utf8
 points_read = refl
 
-refused : (cause : StoreFault) → RefusesMove first_step_tables cause → IsOfLine (of_store cause)
-refused Sql refuses = inr refl
-refused NoMemory refuses = inl refl
+refused : (cause : StoreFault) → RefusesMove first_step_tables cause → IsDatabaseFault (of_store cause)
+refused Sql refuses = (database.Sql, refl)
+refused NoMemory refuses = (database.NoMemory, refl)
 refused (BadRow Meta) refuses = absurd (cc (sym version_read ∙ refuses))
 refused (BadRow Section) refuses = absurd refuses
 refused (BadRow Point) refuses = absurd (cc (sym points_read ∙ ap is_ok refuses.1))
@@ -65,53 +66,44 @@ refused OtherTables refuses = absurd (refuses refl)
 
 module _ {M T : Type 0} (g : Ghosts T) (clean : IsAlwaysClean g) (opens : Opening M T) (shuts : Shutting M) (ends : Ending M T)
     (knows : KnowsOldJones g opens) where
-  unmoved : (before after : Held T) (fault : Fault) → HasOldJones (state g before).now → IsUnmoved g before fault after → IsOfLine fault
+  unmoved : (before after : Held T) (fault : Fault) → HasOldJones (state g before).now → IsUnmoved g before fault after → IsDatabaseFault fault
   unmoved before after fault has it =
       let refuses = it.refuses (clean after) (tables_by version_one jones_register) has in
-      subst (λ (f : Fault). IsOfLine f) (sym it.told_is) (refused it.fault (subst (λ (t : Tables). RefusesMove t it.fault) tables_are refuses))
+      subst (λ (f : Fault). IsDatabaseFault f) (sym it.told_is) (refused it.fault (subst (λ (t : Tables). RefusesMove t it.fault) tables_are refuses))
 
-  moved_tables : (told closed : Done) (before after : Held T) → HasOldJones (state g before).now → first_fault told closed ≡ Ok tt
+  moved_tables : (told : Done) (closed : Closed) (before after : Held T) → HasOldJones (state g before).now → first_fault told closed ≡ Ok tt
       → OnOk told (IsMoved g before after) → HasTables (state g after).now (tables_of jones_register)
   moved_tables (Ok value) closed before after has whole moved = moved.register (clean after) jones_register no_jumper has
   moved_tables (Err fault) closed before after has whole moved = absurd (cc whole)
 
-  told_line : (told : Done) (before after : Held T) → HasOldJones (state g before).now → IfErr told (λ fault. IsUnmoved g before fault after) → IfErr told IsOfLine
-  told_line (Ok value) before after has it = tt
-  told_line (Err fault) before after has it = unmoved before after fault has it
+  told_fault : (told : Done) (before after : Held T) → HasOldJones (state g before).now → IfErr told (λ fault. IsUnmoved g before fault after) → IfErr told IsDatabaseFault
+  told_fault (Ok value) before after has it = tt
+  told_fault (Err fault) before after has it = unmoved before after fault has it
 
   -- the tables are those of the register
   moved_so : (path : List ℕ) (moved : Done) (old new : M) → moved ≡ Ok tt → Comes opens shuts ends path (Alone (MovesRegister g)) moved old new
-      → Visits opens ends path (λ (middle : M) before after (closed : Done) (later : M). HasTables (state g after).now (tables_of jones_register)) old new
-  moved_so path moved old new ok (inl (fault, failed, of_line, shut)) = absurd (cc (sym ok ∙ failed))
+      → Visits opens ends path (λ (middle : M) before after (closed : Closed) (later : M). HasTables (state g after).now (tables_of jones_register)) old new
+  moved_so path moved old new ok (inl (cause, failed, shut)) = absurd (cc (sym ok ∙ failed))
   moved_so path moved old new ok (inr visit) =
-      let moves = visit.does.1 in record {
-        before = visit.before;
-        after = visit.after;
-        closed = visit.closed;
-        middle = visit.middle;
-        later = visit.later;
-        opened = visit.opened;
-        mode = visit.mode;
-        does = moved_tables moves.told visit.closed visit.before visit.after (knows _ _ _ _ visit.opened) (sym moves.result_is ∙ ok) moves.moved;
-        ended = visit.ended;
-      }
+      visits-as opens ends path _ _ old new (λ middle before after closed later opened it.
+      moved_tables it.1.told closed before after (knows _ _ _ _ opened) (sym it.1.result_is ∙ ok) it.1.moved) visit
 
   -- or only the database refused
-  of_line_so : (path : List ℕ) (moved : Done) (old new : M) → Comes opens shuts ends path (Alone (MovesRegister g)) moved old new → IfErr moved IsOfLine
-  of_line_so path moved old new (inl (fault, failed, of_line, shut)) = subst (λ (d : Done). IfErr d IsOfLine) (sym failed) of_line
-  of_line_so path moved old new (inr visit) =
+  database_so : (path : List ℕ) (moved : Done) (old new : M) → Comes opens shuts ends path (Alone (MovesRegister g)) moved old new → IfErr moved IsDatabaseFault
+  database_so path moved old new (inl (cause, failed, shut)) = subst (λ (d : Done). IfErr d IsDatabaseFault) (sym failed) (cause, refl)
+  database_so path moved old new (inr visit) =
       let moves = visit.does.1 in
-      subst (λ (d : Done). IfErr d IsOfLine) (sym moves.result_is)
-      (moved_line moves.told visit.closed (told_line moves.told visit.before visit.after (knows _ _ _ _ visit.opened) moves.unmoved) visit.ended.1)
+      first_fault-of moves.told visit.closed moved (λ fault. IsDatabaseFault fault) moves.result_is
+      (told_fault moves.told visit.before visit.after (knows _ _ _ _ visit.opened) moves.unmoved) (λ cause. (cause, refl))
 
   printed_so : (path : List ℕ) (moved : Done) (result : Result (String Global) Fault) (old new : M) → PrintsMoved moved result
       → Comes opens shuts ends path (Alone (MovesRegister g)) moved old new → MovesJones g opens ends path result old new
   printed_so path moved (Ok text) old new prints comes = (prints.1, moved_so path moved old new prints.0 comes)
-  printed_so path moved (Err fault) old new prints comes = subst (λ (d : Done). IfErr d IsOfLine) prints (of_line_so path moved old new comes)
+  printed_so path moved (Err fault) old new prints comes = subst (λ (d : Done). IfErr d IsDatabaseFault) prints (database_so path moved old new comes)
 
   pub old_moved : (path : List ℕ) (result : Result (String Global) Fault) (old new : M)
       → Migrates (Comes opens shuts ends path (Alone (MovesRegister g))) result old new → MovesJones g opens ends path result old new
-  old_moved path result old new (inl (is, same)) = subst (λ (r : Result (String Global) Fault). MovesJones g opens ends path r old new) (sym is) (inl refl)
+  old_moved path result old new (inl (is, same)) = subst (λ (r : Result (String Global) Fault). MovesJones g opens ends path r old new) (sym is) (database.NoMemory, refl)
   old_moved path result old new (inr (moved, prints, comes)) = printed_so path moved result old new prints comes
 
 -- what is printed, of any such move

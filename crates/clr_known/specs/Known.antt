@@ -25,8 +25,8 @@ use Rattle.clr_http.specs.Answered.{Source}
 use Rattle.clr_http.specs.Options.{plain}
 use Rattle.clr_http.specs.Response.{json, printed, response_bytes}
 use Rattle.clr_args.specs.declared.asked.ServeArgs.{ServeArgs}
-use Rattle.clr_edge.specs.Database.{HasRegister, IsOfLine, IsOfStore}
-use Rattle.clr_edge.specs.Visit.{Done, Ending, Opening, Visits}
+use Rattle.clr_edge.specs.Database.{HasRegister, IsDatabaseFault, IsOfStore}
+use Rattle.clr_edge.specs.Visit.{Closed, Ending, Opening, Visits}
 use Rattle.clr_edge.specs.declared.fault.Fault.{Fault}
 use Rattle.clr_edge.specs.declared.fault.Fault.TheVariants.{Journal}
 use Rattle.clr_edge.specs.declared.fault.JournalFault.TheVariants.{Missing}
@@ -86,7 +86,7 @@ pub record IsAskedForBoard {M T L R W : Type 0} (ends : Ending M T) (net : loopb
   pub keeps : (old new : M) (c : Connection R W) (is_expected : Bool)
       → net.hangs_up old c is_expected new
       → Stream.contents (seen.stream c.writer) ≡ Some (response new)
-  pub ended : (old new : M) (database : Held T) (closed : Done) → ends old database closed new
+  pub ended : (old new : M) (database : Held T) (closed : Closed) → ends old database closed new
       → response new ≡ response old
 
 -- ---- files
@@ -140,7 +140,7 @@ IsBoardResponse sent = (sent ≡ response_bytes (printed (board_text jones_regis
 -- what `migrate` prints of tables that are of the version that is read
 abbrev pub IsVersionTwo : Result (String Global) Fault → Type 0
 IsVersionTwo (Ok text) = string_bytes text ≡ version_line
-IsVersionTwo (Err fault) = IsOfLine fault
+IsVersionTwo (Err fault) = IsDatabaseFault fault
 
 -- WHAT A RUN PRINTS FOR AN INPUT over the register, also where its database was not closed; or why
 -- nothing: the database is at fault, or has the place of a journal, none of which was named; the
@@ -162,17 +162,17 @@ abbrev pub StoresWorked : {M T : Type 0} → Ghosts T → Opening M T → Ending
     → Result (String Global) Fault → M → M → Type 0
 StoresWorked {M} g makes ends path result old new = IfOk result (λ text.
     (string_bytes text ≡ worked_counts)
-    × Visits makes ends path (λ (middle : M) before after (closed : Done) (later : M).
+    × Visits makes ends path (λ (middle : M) before after (closed : Closed) (later : M).
     HasTables (state g after).now (tables_of worked_opening)) old new)
 
 -- WHAT THEY ANSWER of that register, and of an input whose bytes may be known
 pub record AreAnswers (input : Option (List ℕ))
     (board order way_back moved made : Result (String Global) Fault)
     (ran : Result Printed Fault) : Type 0 where
-  pub board_is : GivesText IsOfLine (Ok (board_text jones_register (pos 0))) board
-  pub order_is : GivesText IsOfLine
+  pub board_is : GivesText IsDatabaseFault (Ok (board_text jones_register (pos 0))) board
+  pub order_is : GivesText IsDatabaseFault
       (order_told jones_register (codes "JONES/1") (codes "1") (pos 0)) order
-  pub way_back_is : GivesText IsOfLine
+  pub way_back_is : GivesText IsDatabaseFault
       (way_back_to jones_register (read_id (codes "JONES/1"))) way_back
   pub moved_is : IsVersionTwo moved
   pub made_is : IfOk made (λ text. string_bytes text ≡ worked_counts)

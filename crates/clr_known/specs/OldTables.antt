@@ -22,8 +22,8 @@ use Rattle.clr_load.specs.Stored.{HasOldTables, HasTables, Keeps}
 use Rattle.clr_load.specs.declared.fault.StoreFault.{StoreFault}
 use Rattle.clr_load.specs.declared.layout.Layout.TheVariants.{OfOne}
 use Rattle.clr_store.specs.Change.{is_same}
-use Rattle.clr_edge.specs.Database.{IsOfLine}
-use Rattle.clr_edge.specs.Visit.{Done, Ending, Opening, Visits}
+use Rattle.clr_edge.specs.Database.{IsDatabaseFault}
+use Rattle.clr_edge.specs.Visit.{Closed, Ending, Opening, Visits}
 use Rattle.clr_edge.specs.declared.fault.Fault.{Fault}
 use Rattle.clr_commands.specs.Migrate.{version_line}
 use Rattle.clr_known.specs.Known.{jones_register}
@@ -135,6 +135,6 @@ KnowsOldJones {M} {T} g opens = (old new : M) (path : List ℕ) (c : Held T) →
 abbrev pub MovesJones : {M T : Type 0} → Ghosts T → Opening M T → Ending M T → List ℕ
     → Result (String Global) Fault → M → M → Type 0
 MovesJones {M} g opens ends path (Ok text) old new = (string_bytes text ≡ version_line)
-    × Visits opens ends path (λ (middle : M) before after (closed : Done) (later : M).
+    × Visits opens ends path (λ (middle : M) before after (closed : Closed) (later : M).
     HasTables (state g after).now (tables_of jones_register)) old new
-MovesJones g opens ends path (Err fault) old new = IsOfLine fault
+MovesJones g opens ends path (Err fault) old new = IsDatabaseFault fault

@@ -2,7 +2,7 @@
 //! much is known, to the last byte. What they ask is met by the machine in memory.
 ghost use Rattle.std.specs.Prelude.{IfSome, Ok, Some, codes, pos};
 ghost use Rattle.clr_stream.specs.Counted.{counted_inner};
-ghost use Rattle.clr_edge.specs.Database.{IsOfLine};
+ghost use Rattle.clr_edge.specs.Database.{IsDatabaseFault};
 ghost use Rattle.clr_print.specs.Printed.{board_text};
 ghost use Rattle.clr_rules.specs.IdText.{read_id};
 ghost use Rattle.clr_commands.specs.Answers.{GivesText};
@@ -44,7 +44,7 @@ pub struct Answers {
 
 /// The board.
 fn board_of_jones<R: JonesMachine>(alloc: Global, machine: &mut R) -> Result<String, Fault>
-    ensures { GivesText IsOfLine (Ok (board_text jones_register (pos 0))) result }
+    ensures { GivesText IsDatabaseFault (Ok (board_text jones_register (pos 0))) result }
 {
     let args = BoardArgs {
         database: "jones.db",
@@ -55,7 +55,7 @@ fn board_of_jones<R: JonesMachine>(alloc: Global, machine: &mut R) -> Result<Str
 
 /// The first round of JONES/1.
 fn order_of_jones<R: JonesMachine>(alloc: Global, machine: &mut R) -> Result<String, Fault>
-    ensures { GivesText IsOfLine
+    ensures { GivesText IsDatabaseFault
         (order_told jones_register (codes "JONES/1") (codes "1") (pos 0)) result }
 {
     let args = OrderArgs {
@@ -69,7 +69,7 @@ fn order_of_jones<R: JonesMachine>(alloc: Global, machine: &mut R) -> Result<Str
 
 /// The commands that give JONES/1 back.
 fn way_back_of_jones<R: JonesMachine>(alloc: Global, machine: &mut R) -> Result<String, Fault>
-    ensures { GivesText IsOfLine
+    ensures { GivesText IsDatabaseFault
         (way_back_to jones_register (read_id (codes "JONES/1"))) result }
 {
     let args = WayBackArgs {

@@ -1,9 +1,8 @@
 //! Databases with nothing in them, over disks that give back what was written to them.
-ghost use Rattle.std.specs.Prelude.{◌≡◌, false, IfErr, IfOk, IsTrue, None};
-ghost use Rattle.clr_edge.specs.Database.{IsOfLine};
+ghost use Rattle.std.specs.Prelude.{◌≡◌, false, IfOk, IsTrue, None};
 ghost use Rattle.clr_known.specs.Known.{IsAlwaysClean};
 
-use clr_edge::fault::Fault;
+use clr_edge::fault::DatabaseFault;
 use clr_journal::{Journal, OnDisk};
 use clr_load::StoreFault;
 use sqlite::{Alter, Connection, FileStore, Options};
@@ -19,14 +18,12 @@ pub trait Blank {
     type Log: Journal + Drop;
 
     /// A database with nothing in it.
-    fn empty(&self, alloc: Global) -> Result<Connection<Self::Tables>, Fault>
-        ensures mode { IfOk result (λ connection. connection.in_transaction ≡ false) }
-        ensures fault { IfErr result IsOfLine };
+    fn empty(&self, alloc: Global) -> Result<Connection<Self::Tables>, DatabaseFault>
+        ensures mode { IfOk result (λ connection. connection.in_transaction ≡ false) };
 
     /// Takes the connection out of a place, and closes it.
-    fn close(&self, place: &mut Option<Connection<Self::Tables>>) -> Result<(), Fault>
-        ensures taken { place.new ≡ None }
-        ensures fault { IfErr result IsOfLine };
+    fn close(&self, place: &mut Option<Connection<Self::Tables>>) -> Result<(), DatabaseFault>
+        ensures taken { place.new ≡ None };
 
     /// Each disk gives back what was written to it.
     ghost clean: { IsAlwaysClean Self.Tables.Store };
@@ -46,9 +43,8 @@ impl Blank for InMemory {
 
     ghost clean = { λ connection. always_clean connection };
 
-    fn empty(&self, alloc: Global) -> Result<Connection<FileStore<Memory>>, Fault>
+    fn empty(&self, alloc: Global) -> Result<Connection<FileStore<Memory>>, DatabaseFault>
         ensures mode { IfOk result (λ connection. connection.in_transaction ≡ false) }
-        ensures fault { IfErr result IsOfLine }
     {
         let files = Files {
             log: Memory::new(alloc),
@@ -57,46 +53,37 @@ impl Blank for InMemory {
         opened(alloc, files)
     }
 
-    fn close(&self, place: &mut Option<Connection<FileStore<Memory>>>) -> Result<(), Fault>
+    fn close(&self, place: &mut Option<Connection<FileStore<Memory>>>) -> Result<(), DatabaseFault>
         ensures taken { place.new ≡ None }
-        ensures fault { IfErr result IsOfLine }
     {
         closed(place.take())
     }
 }
 
 /// The database in files.
-fn opened<D: Disk + Drop>(alloc: Global, files: Files<D>) -> Result<Connection<FileStore<D>>, Fault>
+fn opened<D: Disk + Drop>(
+    alloc: Global,
+    files: Files<D>,
+) -> Result<Connection<FileStore<D>>, DatabaseFault>
     requires log { IsTrue (D.Disk.is_usable files.log) }
     requires db { IsTrue (D.Disk.is_usable files.db) }
     ensures mode { IfOk result (λ connection. connection.in_transaction ≡ false) }
-    ensures fault { IfErr result IsOfLine }
 {
     match Connection::open_files(alloc, files, Options::new(1)) {
         Ok(connection) => Ok(connection),
-        Err((error, _)) => Err(of_line(Fault::from(StoreFault::from(error)))),
+        Err((error, _)) => Err(DatabaseFault::of_store(StoreFault::from(error))),
     }
 }
 
 /// Closes a database, of which nothing is kept.
-fn closed<D: Disk + Drop>(connection: Option<Connection<FileStore<D>>>) -> Result<(), Fault>
-    ensures { IfErr result IsOfLine }
-{
+fn closed<D: Disk + Drop>(
+    connection: Option<Connection<FileStore<D>>>,
+) -> Result<(), DatabaseFault> {
     let Some(connection) = connection else {
         return Ok(());
     };
     match connection.close_files() {
         Ok(_) => Ok(()),
-        Err((error, _)) => Err(of_line(Fault::from(StoreFault::from(error)))),
-    }
-}
-
-/// Any other fault than want of memory is one of the database.
-pub(crate) fn of_line(fault: Fault) -> Fault
-    ensures { IsOfLine result }
-{
-    match fault {
-        Fault::Memory => Fault::Memory,
-        _ => Fault::Store(StoreFault::Sql),
+        Err((error, _)) => Err(DatabaseFault::of_store(StoreFault::from(error))),
     }
 }

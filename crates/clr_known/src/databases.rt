@@ -12,16 +12,15 @@ ghost use Rattle.clr_load.specs.Tables.{tables_of};
 ghost use Rattle.clr_load.specs.TypedRows.{IsTyped};
 ghost use Rattle.clr_text.specs.Lines.{commands_in};
 ghost use Rattle.clr_text.specs.Reading.{read_command};
-ghost use Rattle.clr_edge.specs.Database.{HasRegister, IsOfLine};
+ghost use Rattle.clr_edge.specs.Database.{HasRegister};
 ghost use Rattle.clr_known.specs.Known.{jones_lines, jones_register};
 
-use crate::blank::{Blank, of_line};
+use crate::blank::Blank;
 use crate::machine::Known;
 use clr_desk::Desk;
 use clr_edge::database::{Databases, Makes};
-use clr_edge::fault::Fault;
+use clr_edge::fault::{DatabaseFault, Fault};
 use clr_edge::files::{points_from, sections_from, staff_from};
-use clr_load::StoreFault;
 use clr_net::Network;
 use clr_rules::Command;
 use clr_staff::Staff;
@@ -66,25 +65,23 @@ impl<B: Blank + Drop> Databases for Known<B> {
 
     ghost ends = { λ old _ _ new. new ≡ old };
 
-    fn stored(&mut self, path: &str) -> Result<Connection<B::Tables>, Fault>
+    fn stored(&mut self, path: &str) -> Result<Connection<B::Tables>, DatabaseFault>
         ensures opens { IfOk result (λ connection.
             (self.new ≡ self.old) × HasRegister B.Tables.Store jones_register connection) }
         ensures mode { IfOk result (λ connection. connection.in_transaction ≡ false) }
         ensures shuts { IfErr result (λ _. self.new ≡ self.old) }
-        ensures fault { IfErr result IsOfLine }
     {
         if path == "jones.db" {
             jones_database(self.alloc, &self.blank)
         } else {
-            Err(Fault::Store(StoreFault::Sql))
+            Err(DatabaseFault::Sql)
         }
     }
 
-    fn end(&mut self, place: &mut Option<Connection<B::Tables>>) -> Result<(), Fault>
-        ensures ends { IfSome place.old (λ _. (self.new ≡ self.old) × IfErr result IsOfLine) }
+    fn end(&mut self, place: &mut Option<Connection<B::Tables>>) -> Result<(), DatabaseFault>
+        ensures ends { IfSome place.old (λ _. self.new ≡ self.old) }
         ensures none { place.old ≡ None → self.new ≡ self.old }
         ensures taken { place.new ≡ None }
-        ensures fault { IfErr result IsOfLine }
     {
         self.blank.close(place)
     }
@@ -96,27 +93,29 @@ impl<B: Blank + Drop> Makes for Known<B> {
 
     ghost makes = { λ old _ _ new. new ≡ old };
 
-    fn database(&mut self, _path: &str) -> Result<Connection<B::Tables>, Fault>
+    fn database(&mut self, _path: &str) -> Result<Connection<B::Tables>, DatabaseFault>
         ensures makes { IfOk result (λ _. self.new ≡ self.old) }
         ensures mode { IfOk result (λ connection. connection.in_transaction ≡ false) }
         ensures shuts { IfErr result (λ _. self.new ≡ self.old) }
-        ensures fault { IfErr result IsOfLine }
     {
         self.blank.empty(self.alloc)
     }
 }
 
 /// A database that has the register of JONES/1.
-fn jones_database<B: Blank>(alloc: Global, blank: &B) -> Result<Connection<B::Tables>, Fault>
+fn jones_database<B: Blank>(
+    alloc: Global,
+    blank: &B,
+) -> Result<Connection<B::Tables>, DatabaseFault>
     ensures register { IfOk result (λ connection.
         HasRegister B.Tables.Store jones_register connection) }
     ensures mode { IfOk result (λ connection. connection.in_transaction ≡ false) }
-    ensures fault { IfErr result IsOfLine }
 {
     let connection = blank.empty(alloc)?;
     match jones_made(alloc, connection) {
         Ok(connection) => Ok(connection),
-        Err(fault) => Err(of_line(fault)),
+        Err(Fault::Memory) => Err(DatabaseFault::NoMemory),
+        Err(_) => Err(DatabaseFault::Sql),
     }
 }
 

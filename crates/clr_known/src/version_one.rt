@@ -2,16 +2,15 @@
 ghost use Rattle.std.specs.Prelude.{◌≡◌, codes, false, IfErr, IfOk, IfSome, None};
 ghost use Rattle.sqlite.specs.Held.{state};
 ghost use Rattle.sqlite.specs.State.{HasCleanDisk};
-ghost use Rattle.clr_edge.specs.Database.{IsOfLine};
 ghost use Rattle.clr_known.specs.Known.{IsAlwaysClean, IsVersionTwo};
 ghost use Rattle.clr_known.specs.OldTables.{HasOldJones, KnowsOldJones, MovesJones};
 
-use crate::blank::{Blank, of_line};
+use crate::blank::Blank;
 use crate::old_tables::make_old;
 use clr_args::asked::MigrateArgs;
 use clr_commands::migrate::migrate;
 use clr_edge::database::Databases;
-use clr_edge::fault::Fault;
+use clr_edge::fault::{DatabaseFault, Fault};
 use clr_edge::journals::Journals;
 use clr_load::StoreFault;
 use sqlite::{Alter, Connection};
@@ -39,25 +38,23 @@ impl<B: Blank + Drop> Databases for OldKnown<B> {
 
     ghost ends = { λ old _ _ new. new ≡ old };
 
-    fn stored(&mut self, path: &str) -> Result<Connection<B::Tables>, Fault>
+    fn stored(&mut self, path: &str) -> Result<Connection<B::Tables>, DatabaseFault>
         ensures opens { IfOk result (λ connection.
             (self.new ≡ self.old) × HasOldJones (state B.Tables.Store connection).now) }
         ensures mode { IfOk result (λ connection. connection.in_transaction ≡ false) }
         ensures shuts { IfErr result (λ _. self.new ≡ self.old) }
-        ensures fault { IfErr result IsOfLine }
     {
         if path == "old.db" {
             old_database(self.alloc, &self.blank)
         } else {
-            Err(Fault::Store(StoreFault::Sql))
+            Err(DatabaseFault::Sql)
         }
     }
 
-    fn end(&mut self, place: &mut Option<Connection<B::Tables>>) -> Result<(), Fault>
-        ensures ends { IfSome place.old (λ _. (self.new ≡ self.old) × IfErr result IsOfLine) }
+    fn end(&mut self, place: &mut Option<Connection<B::Tables>>) -> Result<(), DatabaseFault>
+        ensures ends { IfSome place.old (λ _. self.new ≡ self.old) }
         ensures none { place.old ≡ None → self.new ≡ self.old }
         ensures taken { place.new ≡ None }
-        ensures fault { IfErr result IsOfLine }
     {
         self.blank.close(place)
     }
@@ -99,16 +96,15 @@ pub fn known_move<B: Blank + Drop>(machine: &mut OldKnown<B>) -> Result<String, 
 }
 
 /// A database of version 1 that has the register.
-fn old_database<B: Blank>(alloc: Global, blank: &B) -> Result<Connection<B::Tables>, Fault>
+fn old_database<B: Blank>(alloc: Global, blank: &B) -> Result<Connection<B::Tables>, DatabaseFault>
     ensures tables { IfOk result (λ connection.
         HasOldJones (state B.Tables.Store connection).now) }
     ensures mode { IfOk result (λ connection. connection.in_transaction ≡ false) }
-    ensures fault { IfErr result IsOfLine }
 {
     let connection = blank.empty(alloc)?;
     match old_made(connection) {
         Ok(connection) => Ok(connection),
-        Err(fault) => Err(of_line(Fault::from(fault))),
+        Err(fault) => Err(DatabaseFault::of_store(fault)),
     }
 }
 

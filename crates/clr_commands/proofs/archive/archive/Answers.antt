@@ -23,11 +23,11 @@ returns-in-Plain g c =
     record {
       visit =
           archived_alone (g.W.CountedWrite.stream c.args.output.now) (g.W.CountedWrite.stream c.archive_desk-archived.new.output) by g.R.Tables.Store
-          g.R.Databases.opens g.R.Databases.shuts g.R.Databases.ends c.args.args.now c.moment_of-before.result c.archive_desk-archived.result.0 c.close-closed.result
-          c.first_fault.result c.args.rt.now c.take_up.new.rt c.close-closed.new.rt c.in-Plain.desk c.archive_desk-archived.result.1 c.end.result
+          g.R.Databases.opens g.R.Databases.shuts g.R.Databases.ends c.args.args.now c.moment_of-before.result c.archive_desk-archived.result.0 c.first_fault.result
+          c.close-closed.result c.args.rt.now c.take_up.new.rt c.close-closed.new.rt c.in-Plain.desk c.archive_desk-archived.result.1 c.end.result
           (subst (λ opened. IsUpWith g.R.Tables.Store g.R.Databases.opens c.args.args.now.database.now by c.args.args.now.journal c.args.rt.now c.take_up.new.rt opened)
           c.in-Plain.is c.in_ok-opened.ensures.up)
-          c.moment_of-before.ensures c.archive_desk-archived.ensures same c.close-closed.ensures.ends c.close-closed.ensures.fault c.first_fault.ensures;
+          c.moment_of-before.ensures c.archive_desk-archived.ensures same c.close-closed.ensures c.first_fault.ensures;
     }
 
 -- or with one
@@ -37,13 +37,13 @@ returns-in-Logged g c =
     record {
       visit =
           archived_level (g.W.CountedWrite.stream c.args.output.now) (g.W.CountedWrite.stream c.archive_logged-archived.new.output) by g.R.Tables.Store
-          g.R.Databases.opens g.R.Databases.shuts g.R.Databases.ends c.args.args.now c.moment_of-before.result c.archive_logged-archived.result.0 c.let_go-closed.result
-          c.first_fault-in-Logged.result c.args.rt.now c.take_up.new.rt c.let_go-closed.new.rt c.in-Logged.desk c.archive_logged-archived.result.1
+          g.R.Databases.opens g.R.Databases.shuts g.R.Databases.ends c.args.args.now c.moment_of-before.result c.archive_logged-archived.result.0 c.first_fault-in-Logged.result
+          c.let_go-closed.result c.args.rt.now c.take_up.new.rt c.let_go-closed.new.rt c.in-Logged.desk c.archive_logged-archived.result.1
           (subst (λ opened. IsUpWith g.R.Tables.Store g.R.Databases.opens c.args.args.now.database.now by c.args.args.now.journal c.args.rt.now c.take_up.new.rt opened)
           c.in-Logged.is c.in_ok-opened.ensures.up)
           c.moment_of-before.ensures c.archive_logged-archived.ensures.archived c.archive_logged-archived.ensures.noted
           (c.archive_logged-archived.ensures.level, c.archive_logged-archived.ensures.sound, c.archive_logged-archived.ensures.safe)
-          c.let_go-closed.ensures.gone c.let_go-closed.ensures.fault c.first_fault-in-Logged.ensures;
+          c.let_go-closed.ensures c.first_fault-in-Logged.ensures;
     }
 
 -- it was not taken up, and nothing went out
@@ -56,5 +56,5 @@ returns-in_err-opened g c =
           g.R.Databases.ends c.args.args.now.database.now (output ≡ output) first_fault (logs g.R.Journals g.R.Log.Journal g.R.Time.Clock.shows)
           (ArchivesAlone c.args.args.now.before output output _ (plain_keeper g.R.Tables.Store))
           (ArchivesLogged (logs g.R.Journals g.R.Log.Journal g.R.Time.Clock.shows) g.R.Tables.Store c.args.args.now.before output output) c.args.args.now.journal _ c.args.rt.now c.take_up.new.rt _
-          c.from_residual.ensures.1 (λ closed. refl) refl (λ shut. (shut, refl)) c.in_err-opened.ensures.none;
+          c.from_residual.ensures.1 (λ closed. refl) refl (λ cause shut. (shut, refl)) c.in_err-opened.ensures.none;
     }

@@ -13,7 +13,7 @@ returns-clause-visit g c =
     let same : c.end-2.result ≡ c.in_ok-desk.desk.store = cc in
     let register : c.book.result.now.register ≡ c.in_ok-desk.desk.book.register = ap (λ (b : Shelved). b.register) c.book.ensures in
     visited g.R.Tables.Store g.R.Databases.opens g.R.Databases.shuts g.R.Databases.ends c.args.args.now.database.now (λ fault. IsMemory fault) (λ (Q : Register) known. Ok (board_text Q c.args.args.now.offset.minutes) ≡ known) c.board_of-printed.result c.args.rt.now c.open_desk.new.rt
-    c.close-closed.new.rt c.in_ok-desk.desk c.end-2.result c.close-closed.result c.in_ok-desk.ensures.up same c.close-closed.ensures.ends
+    c.close-closed.new.rt c.in_ok-desk.desk c.end-2.result c.close-closed.result c.in_ok-desk.ensures.up same c.close-closed.ensures
     (subst (λ (Q : Register). GivesText IsMemory (Ok (board_text Q c.args.args.now.offset.minutes)) c.board_of-printed.result) register
     (GivesText-text _ c.board_of-printed.result c.board_of-printed.ensures.text c.board_of-printed.ensures.fault))
     c.board_of-printed.ensures.fault

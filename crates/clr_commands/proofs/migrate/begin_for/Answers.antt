@@ -1,6 +1,6 @@
 use Rattle.clr_keeping.specs.TakenUp.{logs}
-use Rattle.clr_commands.proofs.Faults.{passed, taking_up_plain}
-use Rattle.clr_commands.proofs.Migrates.{begun_at, first_fault-plain, unbegun_at}
+use Rattle.clr_commands.proofs.Faults.{closed_plain, passed, taking_up_plain}
+use Rattle.clr_commands.proofs.Migrates.{begun_at, unbegun_at}
 use Rattle.clr_commands.proofs.migrate.begin_for.Goals as goal
 
 -- a journal was begun for the register of the database at the path
@@ -12,13 +12,13 @@ returns-clause-visit g c = (
   c.seconds-moment.ensures,
   begun_at (logs g.R.Journals g.R.Log.Journal g.R.Time.Clock.shows) g.R.Tables.Store g.R.Databases.opens g.R.Databases.shuts g.R.Databases.ends c.seconds-moment.result
       c.args.path.now c.args.journal.now c.begin_over-report.result.0 c.first_fault.result c.close-closed.result c.args.rt.now c.unlogged_desk.new.rt c.begin_over-report.new.rt
-      c.close-closed.new.rt c.in_ok-desk.desk c.begin_over-report.result.1 c.in_ok-desk.ensures.up c.begin_over-report.ensures.begun c.close-closed.ensures.ends
-      c.close-closed.ensures.fault c.first_fault.ensures,
+      c.close-closed.new.rt c.in_ok-desk.desk c.begin_over-report.result.1 c.in_ok-desk.ensures.up c.begin_over-report.ensures.begun c.close-closed.ensures
+      c.first_fault.ensures,
 )
 
 pub returns-clause-faults : goal.returns-clause-faults
 returns-clause-faults g c =
-    first_fault-plain c.begin_over-report.result.0 c.close-closed.result c.first_fault.result c.begin_over-report.ensures.faults c.close-closed.ensures.fault c.first_fault.ensures
+    closed_plain c.begin_over-report.result.0 c.close-closed.result _ c.first_fault.ensures c.begin_over-report.ensures.faults
 
 -- it was not taken up
 pub returns-in_err-desk-clause-visit : goal.returns-in_err-desk-clause-visit

@@ -14,7 +14,7 @@ returns-clause-visit g c =
     let same : c.end-2.result ≡ c.in_ok-desk.desk.store = cc in
     let register : c.book.result.now.register ≡ c.in_ok-desk.desk.book.register = ap (λ (b : Shelved). b.register) c.book.ensures in
     visited g.R.Tables.Store g.R.Databases.opens g.R.Databases.shuts g.R.Databases.ends c.args.args.now.database.now (λ fault. IsOfOrder fault) (λ (Q : Register) known. order_asked_for Q c.args.args.now ≡ known) c.order_of-printed.result c.args.rt.now c.open_desk.new.rt
-    c.close-closed.new.rt c.in_ok-desk.desk c.end-2.result c.close-closed.result c.in_ok-desk.ensures.up same c.close-closed.ensures.ends
+    c.close-closed.new.rt c.in_ok-desk.desk c.end-2.result c.close-closed.result c.in_ok-desk.ensures.up same c.close-closed.ensures
     (subst (λ (Q : Register). GivesText IsMemory (order_asked_for Q c.args.args.now) c.order_of-printed.result) register c.order_of-printed.ensures.answer)
     c.order_of-printed.ensures.faults
 

@@ -18,8 +18,8 @@ returns-clause-visit g c =
     c.args.rt.now c.take_up.new.rt c.take_up.new.rt c.let_go-closed.new.rt c.in_ok-opened.opened c.run_opened-printed.new.opened c.let_go-closed.result
     c.in_ok-opened.ensures.up (done_alone c.take_up.new.rt (RunsDesk (plain_keeper g.R.Tables.Store) input printed)
     (RunsDesk (logged_keeper g.R.Tables.Store by) input printed) c.in_ok-opened.opened c.run_opened-printed.new.opened c.run_opened-printed.ensures.ran)
-    c.run_opened-printed.ensures.level c.let_go-closed.ensures.gone
-    c.let_go-closed.ensures.fault c.printed_after.ensures
+    c.run_opened-printed.ensures.level c.let_go-closed.ensures
+    c.printed_after.ensures
 
 pub returns-clause-input : goal.returns-clause-input
 returns-clause-input g c =
@@ -27,14 +27,14 @@ returns-clause-input g c =
 
 pub returns-clause-faults : goal.returns-clause-faults
 returns-clause-faults g c =
-    FailsAsSubcommand-closed c.run_opened-printed.result c.let_go-closed.result _ c.printed_after.ensures c.let_go-closed.ensures.fault c.run_opened-printed.ensures.faults
+    FailsAsSubcommand-closed c.run_opened-printed.result c.let_go-closed.result _ c.printed_after.ensures c.run_opened-printed.ensures.faults
 
 -- it was not taken up, and the input is not read then
 pub returns-in_err-opened-clause-visit : goal.returns-in_err-opened-clause-visit
 returns-in_err-opened-clause-visit g c =
     not_worked g.R.Tables.Store g.R.Databases.opens g.R.Databases.shuts g.R.Databases.shuts g.R.Databases.ends c.args.args.now.database.now (Unit {0}) printed_after
     (logs g.R.Journals g.R.Log.Journal g.R.Time.Clock.shows) (RunsAlone (g.I.Read.remaining c.args.input.now)) c.args.args.now.journal _ c.args.rt.now c.take_up.new.rt _
-    c.from_residual.ensures.1 (λ closed. refl) tt (λ shut. shut) c.in_err-opened.ensures.none
+    c.from_residual.ensures.1 (λ closed. refl) tt (λ cause shut. shut) c.in_err-opened.ensures.none
 
 pub returns-in_err-opened-clause-input : goal.returns-in_err-opened-clause-input
 returns-in_err-opened-clause-input g c =

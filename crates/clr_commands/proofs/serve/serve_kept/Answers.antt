@@ -22,7 +22,7 @@ returns g c =
           c.args.args.now c.args.logins output output' errors errors' keeper)
           c.args.args.now.journal c.serve_opened-served.result _ c.args.rt.now c.take_up.new.rt c.serve_opened-served.new.net c.let_go-closed.new.rt
           c.in_ok-opened.opened c.serve_opened-served.new.opened c.let_go-closed.result c.in_ok-opened.ensures.up c.serve_opened-served.ensures.served
-          c.serve_opened-served.ensures.level c.let_go-closed.ensures.gone c.let_go-closed.ensures.fault c.first_fault.ensures;
+          c.serve_opened-served.ensures.level c.let_go-closed.ensures c.first_fault.ensures;
     }
 
 -- the register was not taken up
@@ -38,5 +38,5 @@ returns-in_err-opened g c =
           (λ K keeper. ServesDesk g.R.Loopback (seen g.R.Reader.Read.remaining g.R.Reader.CountedRead.failure_count g.R.Writer.CountedWrite.stream)
           c.args.args.now c.args.logins output output errors errors keeper)
           c.args.args.now.journal _ c.args.rt.now c.take_up.new.rt _ c.from_residual.ensures.1 (λ closed. refl) (refl, refl)
-          (λ shut. (shut, refl, refl)) c.in_err-opened.ensures.none;
+          (λ cause shut. (shut, refl, refl)) c.in_err-opened.ensures.none;
     }

@@ -5,7 +5,7 @@ use Rattle.clr_commands.proofs.verify.register_at.Goals as goal
 pub returns-clause-read : goal.returns-clause-read
 returns-clause-read g c =
     came g.R.Tables.Store g.R.Databases.opens g.R.Databases.shuts g.R.Databases.ends c.args.path.now c.register_of-told.result.0 c.args.rt.now c.open_desk.new.rt
-    c.close-closed.new.rt c.in_ok-desk.desk c.register_of-told.result.1 c.close-closed.result c.in_ok-desk.ensures.up c.register_of-told.ensures.read c.close-closed.ensures.ends
+    c.close-closed.new.rt c.in_ok-desk.desk c.register_of-told.result.1 c.close-closed.result c.in_ok-desk.ensures.up c.register_of-told.ensures.read c.close-closed.ensures
 
 pub returns-clause-good : goal.returns-clause-good
 returns-clause-good g c =

@@ -16,7 +16,7 @@ returns-clause-visit g c =
     let same : c.end.result ≡ c.in_ok-desk.desk.store = cc in
     let register : c.parted-book.result.0.register ≡ c.in_ok-desk.desk.book.register = ap (λ (b : Shelved). b.register) c.parted-book.ensures.book in
     visited g.R.Tables.Store g.R.Databases.opens g.R.Databases.shuts g.R.Databases.ends c.args.args.now.database.now (λ fault. IsOfWayBack fault) (IsWayBackOf c.args.args.now) c.wayback_of-printed.result c.args.rt.now c.open_desk.new.rt
-    c.close-closed.new.rt c.in_ok-desk.desk c.end.result c.close-closed.result c.in_ok-desk.ensures.up same c.close-closed.ensures.ends
+    c.close-closed.new.rt c.in_ok-desk.desk c.end.result c.close-closed.result c.in_ok-desk.ensures.up same c.close-closed.ensures
     (subst (λ (Q : Register). Prints IsMemory (IsWayBackOf c.args.args.now Q) c.wayback_of-printed.result) register
     (both_print (λ known. way_back_asked_for c.parted-book.result.0.register c.args.args.now ≡ known)
     (λ known. GivesBackTo c.parted-book.result.0.register (read_id c.args.args.now.clearance.now)) c.wayback_of-printed.result c.wayback_of-printed.ensures.answer

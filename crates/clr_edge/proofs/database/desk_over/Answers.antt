@@ -9,9 +9,9 @@ use Rattle.clr_load.specs.Stored.{HasTables}
 use Rattle.clr_load.proofs.Loading.{has_meta}
 use Rattle.clr_store.proofs.Moving.{opened_cause}
 use Rattle.clr_load.specs.Tables.{tables_of}
-use Rattle.clr_edge.specs.Database.{IsOfLine, IsRefused}
+use Rattle.clr_edge.specs.Database.{IsDatabaseFault, IsRefused}
 use Rattle.clr_edge.specs.Fault.{of_desk}
-use Rattle.clr_edge.proofs.Databases.{IsOfCommand-shut, IsOfLine-of_command, IsOfLine-of_version, IsOfLine-unfit}
+use Rattle.clr_edge.proofs.Databases.{IsOfCommand-shut, command_fault, unfit_fault, version_fault}
 use Rattle.clr_edge.proofs.Databases.{RefusesTables-unfit, RefusesOpening-of_command, SqlHasCause-unfit}
 use Rattle.clr_edge.proofs.Databases.{of_desk-of_store, rows_of-opened, survives_on, was_clean}
 use Rattle.clr_desk.specs.Faults.{IsOfCommand}
@@ -20,8 +20,8 @@ use Rattle.clr_edge.proofs.database.desk_over.Goals as goal
 -- the version is the one that is read
 pub returns-in-Err-clause-fault : goal.returns-in-Err-clause-fault
 returns-in-Err-clause-fault g c R known clean =
-    subst (λ fault. IsOfLine fault) (sym c.from.ensures)
-    (IsOfLine-of_version R _ (c.in-Err.ensures.refused clean (tables_of R) known.tables))
+    subst (λ fault. IsDatabaseFault fault) (sym c.from.ensures)
+    (version_fault R _ (c.in-Err.ensures.refused clean (tables_of R) known.tables))
 
 -- the rows are those of a good register
 pub returns-in-Ok-expect_good-clause-register : goal.returns-in-Ok-expect_good-clause-register
@@ -40,8 +40,8 @@ pub returns-in-Err-open-clause-fault : goal.returns-in-Err-open-clause-fault
 returns-in-Err-open-clause-fault g c R known clean_back =
     let clean = subst (λ h. HasCleanDisk (state g.S.Store h)) c.end.ensures.connection clean_back in
     let clean_before = was_clean _ _ _ c.in-Err-open.ensures.survives_too clean in
-    subst (λ fault. IsOfLine fault) (sym c.from-in-Err-open.ensures)
-    (IsOfLine-of_command _ (IsOfCommand-shut _ _
+    subst (λ fault. IsDatabaseFault fault) (sym c.from-in-Err-open.ensures)
+    (command_fault _ (IsOfCommand-shut _ _
     (c.in-Err-open.ensures.shut clean)
     (λ was_open. c.in-Err-open.ensures.cause clean R known.good
     known.typed (subst (λ db. HasTables db (tables_of R))
@@ -119,8 +119,8 @@ returns-in-Err-expect_good-clause-fault g c R known clean_back =
     let is : c.in-Ok-open.desk.book.register ≡ R =
     c.in-Ok-open.ensures.again clean R known.good
     (subst (λ db. HasTables db (tables_of R)) (sym same) known.tables) in
-    subst (λ fault. IsOfLine fault) (sym c.from-in-Err-expect_good.ensures)
-    (IsOfLine-unfit c.in-Ok-open.desk.book.register c.in-Err-expect_good.cause
+    subst (λ fault. IsDatabaseFault fault) (sym c.from-in-Err-expect_good.ensures)
+    (unfit_fault c.in-Ok-open.desk.book.register c.in-Err-expect_good.cause
     (subst (λ (r : Register). IsFit r) (sym is) (known.good, known.staffed)) c.in-Err-expect_good.ensures.fault)
 
 -- the tables are those of a register that is not good

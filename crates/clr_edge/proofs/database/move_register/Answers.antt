@@ -1,6 +1,6 @@
 use Rattle.std.proofs.Common.{inr, refl}
-use Rattle.clr_edge.specs.Database.{IsOfLine, IsOfStore}
-use Rattle.clr_edge.proofs.Databases.{IfErr-from, IfErr-passed, IsOfStore-line, IsOfStore-of, first_fault-of}
+use Rattle.clr_edge.specs.Database.{IsOfStore}
+use Rattle.clr_edge.proofs.Databases.{IfErr-from, IfErr-passed, IsOfStore-of, IsOfStore-of_database, first_fault-of}
 use Rattle.clr_edge.proofs.database.move_register.Goals as goal
 
 -- they were moved over the connection to that database, or not, and it was closed
@@ -23,7 +23,7 @@ returns-clause-visit g c = inr (record {
       result_is = c.first_fault.ensures;
     },
   );
-  ended = c.close-closed.ensures.ends;
+  ended = c.close-closed.ensures;
 })
 
 pub returns-clause-fault : goal.returns-clause-fault
@@ -31,8 +31,8 @@ returns-clause-fault g c =
     first_fault-of c.register_moved-moved.result.0 c.close-closed.result _ (λ fault. IsOfStore fault) c.first_fault.ensures
     (IfErr-from c.register_moved-moved.result.0 _ (λ fault. IsOfStore fault) (λ fault unmoved. IsOfStore-of unmoved.fault fault unmoved.told_is)
     c.register_moved-moved.ensures.unmoved)
-    (IfErr-from c.close-closed.result (λ fault. IsOfLine fault) (λ fault. IsOfStore fault) IsOfStore-line c.close-closed.ensures.fault)
+    IsOfStore-of_database
 
 pub returns-in_err-connection-clause-fault : goal.returns-in_err-connection-clause-fault
 returns-in_err-connection-clause-fault g c =
-    IfErr-passed _ _ (λ fault. IsOfStore fault) c.from_residual.ensures.1 (IsOfStore-line _ c.in_err-connection.ensures.fault)
+    IfErr-passed _ _ (λ fault. IsOfStore fault) c.from_residual.ensures.1 (IsOfStore-of_database _)

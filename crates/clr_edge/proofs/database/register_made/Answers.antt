@@ -1,7 +1,7 @@
 use Rattle.std.proofs.Common.{◌∙◌, subst, sym}
 use Rattle.clr_rules.specs.Register.{Register, opening}
-use Rattle.clr_edge.specs.Database.{IsMade, IsOfLine}
-use Rattle.clr_edge.proofs.Databases.{IsAsBefore-settled, IsOfLine-of_command}
+use Rattle.clr_edge.specs.Database.{IsMade}
+use Rattle.clr_edge.proofs.Databases.{IsAsBefore-settled}
 use Rattle.clr_edge.proofs.database.register_made.Goals as goal
 
 -- the desk that was made, whose connection is given back
@@ -24,7 +24,3 @@ returns-in-Err-clause-unmade g c = record {
       c.settled.ensures c.settled-in-Err.ensures;
   survives = c.in-Err.ensures.crash_none;
 }
-
-pub returns-in-Err-clause-fault : goal.returns-in-Err-clause-fault
-returns-in-Err-clause-fault g c =
-    subst (λ fault. IsOfLine fault) (sym c.from.ensures) (IsOfLine-of_command c.in-Err.fault c.in-Err.ensures.cause)

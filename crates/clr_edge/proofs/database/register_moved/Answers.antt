@@ -3,8 +3,8 @@ use Rattle.sqlite.specs.Held.{Held, state}
 use Rattle.clr_load.proofs.Loading.{has_meta}
 use Rattle.clr_store.proofs.Versions.{two_has}
 use Rattle.clr_load.specs.Tables.{tables_of}
-use Rattle.clr_edge.specs.Database.{IsMoved, IsOfLine}
-use Rattle.clr_edge.proofs.Databases.{IsAsBefore-settled, IsOfLine-of_move, IsSettled}
+use Rattle.clr_edge.specs.Database.{IsDatabaseFault, IsMoved}
+use Rattle.clr_edge.proofs.Databases.{IsAsBefore-settled, IsSettled, move_fault}
 use Rattle.clr_edge.proofs.database.register_moved.Goals as goal
 
 -- the store whose tables were moved, whose connection is given back
@@ -46,6 +46,6 @@ returns-in-Err-clause-unmoved g c = record {
 -- tables of a register are of the version that is read
 pub returns-in-Err-clause-known : goal.returns-in-Err-clause-known
 returns-in-Err-clause-known g c R known clean =
-    subst (λ fault. IsOfLine fault) (sym c.from.ensures)
-    (IsOfLine-of_move R _ (λ is. c.in-Err.ensures.other clean is 2 (two_has _ (tables_of R) known.tables refl)) (c.in-Err.ensures.unread
+    subst (λ fault. IsDatabaseFault fault) (sym c.from.ensures)
+    (move_fault R _ (λ is. c.in-Err.ensures.other clean is 2 (two_has _ (tables_of R) known.tables refl)) (c.in-Err.ensures.unread
     clean (tables_of R).meta (has_meta known.tables.layout _ (tables_of R) known.tables.here)))

@@ -1,8 +1,7 @@
 use Rattle.std.proofs.Common.{◌⊎◌, inl, inr}
 use Rattle.clr_keeping.specs.Beginning.{IsOfBegun}
-use Rattle.clr_edge.specs.Database.{IsOfLine}
 use Rattle.clr_keeping.specs.TakenUp.{IsOfTakingUp}
-use Rattle.clr_keeping.proofs.Begun.{IsOfTakingUp-line}
+use Rattle.clr_keeping.proofs.Keeping.{of_database-taking}
 use Rattle.clr_edge.proofs.Databases.{IfErr-from, IfErr-passed, first_fault-of}
 use Rattle.clr_keeping.proofs.beginning.begin_next.Goals as goal
 
@@ -23,7 +22,7 @@ returns-in-Logged-clause-visit g c =
       c.close-closed-in-Logged.result,
       up,
       c.go_on-begun.ensures.next,
-      c.close-closed-in-Logged.ensures.ends,
+      c.close-closed-in-Logged.ensures,
       c.first_fault.ensures,
     )
 
@@ -31,5 +30,4 @@ pub returns-in-Logged-clause-fault : goal.returns-in-Logged-clause-fault
 returns-in-Logged-clause-fault g c =
     first_fault-of c.go_on-begun.result.0 c.close-closed-in-Logged.result _ (λ fault. IsOfTakingUp fault ⊎ IsOfBegun fault) c.first_fault.ensures
     (IfErr-from c.go_on-begun.result.0 (λ fault. IsOfBegun fault) (λ fault. IsOfTakingUp fault ⊎ IsOfBegun fault) (λ fault is. inr is) c.go_on-begun.ensures.fault)
-    (IfErr-from c.close-closed-in-Logged.result (λ fault. IsOfLine fault) (λ fault. IsOfTakingUp fault ⊎ IsOfBegun fault)
-    (λ fault is. inl (IsOfTakingUp-line fault is)) c.close-closed-in-Logged.ensures.fault)
+    (λ cause. inl (of_database-taking cause))

@@ -14,7 +14,7 @@ returns-clause-begun g c = inr (record {
   gone = c.let_journal_go.ensures;
   line = c.in_ok-log.ensures.new;
   outcome = c.store_register_at-made.result;
-  did = c.store_register_at-made.ensures.visit;
+  did = c.store_register_at-made.ensures;
   result_is = c.begun_or.ensures;
 })
 

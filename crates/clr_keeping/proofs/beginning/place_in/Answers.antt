@@ -1,7 +1,7 @@
 use Rattle.std.proofs.Common.{Ok, Err, subst, sym}
 use Rattle.clr_keeping.specs.Beginning.{IsPlacedOrNot}
-use Rattle.clr_edge.specs.Database.{IsOfLine}
-use Rattle.clr_keeping.proofs.Begun.{IsOfLine-of_database, placed-level}
+use Rattle.clr_edge.specs.Visit.{reported}
+use Rattle.clr_keeping.proofs.Begun.{placed-level}
 use Rattle.clr_keeping.proofs.beginning.place_in.Goals as goal
 
 -- the place was set
@@ -13,7 +13,6 @@ returns-in-Ok-clause-placed g c =
       level = placed-level g.S.Store c.args.store c.args.first.now c.begin_at.new.self c.in-Ok.ensures.was_open c.in-Ok.ensures.made;
       none = λ clean is_open. tt;
       was_open = c.in-Ok.ensures.was_open;
-      fault = tt;
       survives = c.in-Ok.ensures.crash;
     } in
     subst (λ after. IsPlacedOrNot g.S.Store c.args.store c.args.first.now (Ok tt) after) (sym c.end.ensures.connection) placed
@@ -21,13 +20,12 @@ returns-in-Ok-clause-placed g c =
 -- or not
 pub returns-in-Err-clause-placed : goal.returns-in-Err-clause-placed
 returns-in-Err-clause-placed g c =
-    let placed : IsPlacedOrNot g.S.Store c.args.store c.args.first.now (Err c.from.result) c.begin_at.new.self = record {
+    let placed : IsPlacedOrNot g.S.Store c.args.store c.args.first.now (reported (Err c.from.result)) c.begin_at.new.self = record {
       made = λ clean. tt;
       saved = λ clean. tt;
       level = tt;
       none = c.in-Err.ensures.none;
       was_open = c.in-Err.ensures.was_open;
-      fault = subst (λ fault. IsOfLine fault) (sym c.from.ensures) (IsOfLine-of_database c.in-Err.cause c.in-Err.ensures.fault);
       survives = c.in-Err.ensures.crash;
     } in
-    subst (λ after. IsPlacedOrNot g.S.Store c.args.store c.args.first.now (Err c.from.result) after) (sym c.end-in-Err.ensures.connection) placed
+    subst (λ after. IsPlacedOrNot g.S.Store c.args.store c.args.first.now (reported (Err c.from.result)) after) (sym c.end-in-Err.ensures.connection) placed

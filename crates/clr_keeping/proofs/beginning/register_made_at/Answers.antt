@@ -1,8 +1,7 @@
 use Rattle.std.proofs.Common.{subst, sym}
 use Rattle.clr_rules.specs.Register.{Register, opening}
 use Rattle.clr_keeping.specs.Beginning.{IsMadeAt}
-use Rattle.clr_edge.specs.Database.{IsOfLine}
-use Rattle.clr_keeping.proofs.Begun.{IsOfLine-of_database, made-level}
+use Rattle.clr_keeping.proofs.Begun.{made-level}
 use Rattle.clr_edge.proofs.Databases.{IsAsBefore-settled}
 use Rattle.clr_keeping.proofs.beginning.register_made_at.Goals as goal
 
@@ -27,7 +26,3 @@ returns-in-Err-clause-unmade g c = record {
       c.settled.ensures c.settled-in-Err.ensures;
   survives = c.in-Err.ensures.crash_none;
 }
-
-pub returns-in-Err-clause-fault : goal.returns-in-Err-clause-fault
-returns-in-Err-clause-fault g c =
-    subst (λ fault. IsOfLine fault) (sym c.from.ensures) (IsOfLine-of_database c.in-Err.field-0.fault c.in-Err.ensures.fault)

@@ -1,11 +1,10 @@
-use Rattle.std.proofs.Common.{inr, refl}
-use Rattle.clr_edge.specs.Database.{IsOfLine}
-use Rattle.clr_edge.proofs.Databases.{first_fault-of}
+use Rattle.std.proofs.Common.{ap, inr, refl}
+use Rattle.clr_edge.specs.Visit.{reported}
 use Rattle.clr_keeping.proofs.beginning.store_register_at.Goals as goal
 
 -- the register was made over the connection to that database, which was closed
-pub returns-clause-visit : goal.returns-clause-visit
-returns-clause-visit g c = inr (record {
+pub returns : goal.returns
+returns g c = inr (record {
   before = c.in_ok-connection.connection;
   after = c.register_made_at-made.result.1;
   closed = c.close-closed.result;
@@ -19,14 +18,8 @@ returns-clause-visit g c = inr (record {
       outcome = c.register_made_at-made.result.0;
       made = c.register_made_at-made.ensures.made;
       unmade = c.register_made_at-made.ensures.unmade;
-      fault = c.register_made_at-made.ensures.fault;
-      result_is = c.first_fault.ensures;
+      result_is = ap reported c.and.ensures;
     },
   );
-  ended = c.close-closed.ensures.ends;
+  ended = c.close-closed.ensures;
 })
-
-pub returns-clause-fault : goal.returns-clause-fault
-returns-clause-fault g c =
-    first_fault-of c.register_made_at-made.result.0 c.close-closed.result _ (λ fault. IsOfLine fault) c.first_fault.ensures
-    c.register_made_at-made.ensures.fault c.close-closed.ensures.fault

@@ -38,13 +38,10 @@ returns-in-Err-clause-none g c =
       later = c.logged.new.rt;
       opened = subst (λ (m : _). g.R.Databases.opens c.args.rt.now c.args.path.now up.before m) (sym up.taken_up.0) up.opened;
       mode = up.mode;
-      does = (
-        not_up g.R.Tables.Store up.before was.store was.book.register up.taken_up.1
-            (logs g.R.Journals g.R.Log.Journal g.R.Time.Clock.shows) c.args.journal.now c.open_desk.new.rt c.logged.new.rt c.in-Err.fault c.in-Err.connection
-            c.in-Err.ensures.refused,
-        c.close-closed.ensures.fault,
-      );
-      ended = c.close-closed.ensures.ends;
+      does = not_up g.R.Tables.Store up.before was.store was.book.register up.taken_up.1
+          (logs g.R.Journals g.R.Log.Journal g.R.Time.Clock.shows) c.args.journal.now c.open_desk.new.rt c.logged.new.rt c.in-Err.fault c.in-Err.connection
+          c.in-Err.ensures.refused;
+      ended = c.close-closed.ensures;
     })
 
 -- the register was refused

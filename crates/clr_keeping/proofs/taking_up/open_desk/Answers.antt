@@ -2,7 +2,7 @@ use Rattle.std.proofs.Common.{inl, inr, refl}
 use Rattle.clr_keeping.specs.Keeping.{IsNotUp, plain}
 use Rattle.clr_keeping.specs.TakenUp.{IsOfTakingUp}
 use Rattle.clr_edge.proofs.Databases.{IfErr-passed}
-use Rattle.clr_keeping.proofs.Keeping.{of_line, of_tables}
+use Rattle.clr_keeping.proofs.Keeping.{of_database-taking, of_tables}
 use Rattle.clr_keeping.proofs.taking_up.open_desk.Goals as goal
 
 -- the tables were read
@@ -36,8 +36,8 @@ returns-in-Err-clause-none g c = inr (record {
   later = c.stored.new.self;
   opened = c.in_ok-connection.ensures.opens;
   mode = c.in_ok-connection.ensures.mode;
-  does = ((refl, record { refused = c.in-Err.ensures.told; survives = c.in-Err.ensures.unread; known = c.in-Err.ensures.fault }), c.close-closed.ensures.fault);
-  ended = c.close-closed.ensures.ends;
+  does = (refl, record { refused = c.in-Err.ensures.told; survives = c.in-Err.ensures.unread; known = c.in-Err.ensures.fault });
+  ended = c.close-closed.ensures;
 })
 
 pub returns-in-Err-clause-fault : goal.returns-in-Err-clause-fault
@@ -47,8 +47,8 @@ returns-in-Err-clause-fault g c = of_tables c.in-Err.ensures.told.fault c.in-Err
 pub returns-in_err-connection-clause-none : goal.returns-in_err-connection-clause-none
 returns-in_err-connection-clause-none g c =
     IfErr-passed _ _ (IsNotUp g.R.Databases.opens g.R.Databases.shuts g.R.Databases.ends c.args.path.now (plain g.R.Tables.Store) c.args.rt.now c.stored.new.self)
-    c.from_residual.ensures.1 (inl (c.in_err-connection.ensures.fault, c.in_err-connection.ensures.shuts))
+    c.from_residual.ensures.1 (inl (_, refl, c.in_err-connection.ensures.shuts))
 
 pub returns-in_err-connection-clause-fault : goal.returns-in_err-connection-clause-fault
 returns-in_err-connection-clause-fault g c =
-    IfErr-passed _ _ (λ fault. IsOfTakingUp fault) c.from_residual.ensures.1 (of_line _ c.in_err-connection.ensures.fault)
+    IfErr-passed _ _ (λ fault. IsOfTakingUp fault) c.from_residual.ensures.1 (of_database-taking _)

@@ -47,13 +47,10 @@ returns-in-Err-clause-none g c =
       opened = up.opened;
       mode = up.mode;
       does = (
-        (
-          up.taken_up.0,
-          misses_one g.R.Tables.Store up.before was.store was.book.register up.taken_up.1 c.in-Err.connection c.in-Err.fault c.in-Err.ensures.read_too c.in-Err.ensures.missing,
-        ),
-        c.close-closed.ensures.fault,
+        up.taken_up.0,
+        misses_one g.R.Tables.Store up.before was.store was.book.register up.taken_up.1 c.in-Err.connection c.in-Err.fault c.in-Err.ensures.read_too c.in-Err.ensures.missing,
       );
-      ended = c.close-closed.ensures.ends;
+      ended = c.close-closed.ensures;
     })
 
 pub returns-in-Err-clause-fault : goal.returns-in-Err-clause-fault
