@@ -33,7 +33,7 @@ returns-clause-placed g c =
     let before = state g.S.Store c.args.store in
     let after = state g.S.Store c.commit_at.new.self in
     let row = place_row c.args.first.now in
-    let placed : IsPlacedOrNot g.S.Store c.args.store c.args.first.now (reported (Err c.from.result)) c.commit_at.new.self = record {
+    let placed : IsPlacedOrNot g.S.Store c.args.store c.args.first.now (reported (Err c.of_store.result)) c.commit_at.new.self = record {
       made = λ clean. tt;
       saved = λ clean. tt;
       level = tt;
@@ -41,4 +41,4 @@ returns-clause-placed g c =
       was_open = c.in-Err.ensures.was_open;
       survives = subst (λ (edits : List Edit). Survives before after (AreEditedAt before.now edits row)) c.new.ensures.items c.in-Err.ensures.crash;
     } in
-    subst (λ after. IsPlacedOrNot g.S.Store c.args.store c.args.first.now (reported (Err c.from.result)) after) (sym c.end-in-Err.ensures.connection) placed
+    subst (λ after. IsPlacedOrNot g.S.Store c.args.store c.args.first.now (reported (Err c.of_store.result)) after) (sym c.end-in-Err.ensures.connection) placed

@@ -20,7 +20,7 @@ returns-in-Ok-clause-placed g c =
 -- or not
 pub returns-in-Err-clause-placed : goal.returns-in-Err-clause-placed
 returns-in-Err-clause-placed g c =
-    let placed : IsPlacedOrNot g.S.Store c.args.store c.args.first.now (reported (Err c.from.result)) c.begin_at.new.self = record {
+    let placed : IsPlacedOrNot g.S.Store c.args.store c.args.first.now (reported (Err c.of_store.result)) c.begin_at.new.self = record {
       made = λ clean. tt;
       saved = λ clean. tt;
       level = tt;
@@ -28,4 +28,4 @@ returns-in-Err-clause-placed g c =
       was_open = c.in-Err.ensures.was_open;
       survives = c.in-Err.ensures.crash;
     } in
-    subst (λ after. IsPlacedOrNot g.S.Store c.args.store c.args.first.now (reported (Err c.from.result)) after) (sym c.end-in-Err.ensures.connection) placed
+    subst (λ after. IsPlacedOrNot g.S.Store c.args.store c.args.first.now (reported (Err c.of_store.result)) after) (sym c.end-in-Err.ensures.connection) placed
