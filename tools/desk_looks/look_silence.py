@@ -8,6 +8,7 @@ from desk_looks.look_life import hanging
 from desk_looks.network import ordered
 
 CUT = ["N13-Q11", "N13-B1", "N13-Q13"]
+BACK = "\ue003"
 SOON = 7.5  # seconds: green is a state of 6, and looks take a while
 
 
@@ -86,4 +87,17 @@ def small(stage):
         restore()
 
 
-LOOKS = {"green": green, "clock": clock, "small clock": small}
+def half(stage):
+    """By a moment that is half written nothing goes; it stays there to be completed, or the clock is used."""
+    hand = stage.network(ordered("KIM", "N13-F12", CUT), "clearance/KIM/1", speaker="DISP1")
+    hand.browser.click("#moment-set")
+    hand.browser.keys(BACK)
+    for _ in range(2):
+        hand.press("instruct")
+        hand.reply("unsent", "half written")
+        hand.nothing_sent(0)
+    hand.browser.click("#moment-now")
+    hand.carry_out("instruct", "instruct step 1")
+
+
+LOOKS = {"green": green, "clock": clock, "small clock": small, "half moment": half}

@@ -18,7 +18,7 @@ export function startMoment() {
   set.addEventListener("click", () => show(true));
   at("moment-now").addEventListener("click", () => show(false));
   onSending(() => {
-    if (isSending() || field.value || line.hidden) return;
+    if (isSending() || field.value || field.validity.badInput || line.hidden) return; // one that is half written has no value
     line.hidden = true;
     set.hidden = false;
   });
