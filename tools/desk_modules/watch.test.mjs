@@ -15,11 +15,12 @@ const { recordRows } = await import("../../desk/page/board/board-page.js");
 const viewWith = (phase) => ({ card: { clearance: "KIM/1", phase, holder: "KIM", round: 0, done: 0, steps: 0 }, crews: [], fence: [], holds: [], points: [], work: "L2", steps: [] });
 const row = (phase, time) => `${"KIM/1".padEnd(29)} ${phase.padEnd(9)} ${"L2".padEnd(24)} 2026-11-24 ${time} +00:00 KIM\n`;
 
-let board = row("Granted", "07:00:00"), shown = { reply: "shown", view: viewWith("Granted") }, status = 200, sections = [], late = 0;
+let board = row("Granted", "07:00:00"), shown = { reply: "shown", view: viewWith("Granted") }, status = 200, sections = [], late = 0, isCut = false;
 globalThis.fetch = async (path) => {
   if (path === "board") return new Response(`head\n${board}`, { headers: { "Content-Type": "text/plain" } });
   if (path === "network") {
     if (late) await new Promise((settle) => { wait(settle, late); });
+    if (isCut) throw new TypeError("cut off");
     return Response.json({ sections, points: [], staff: [] });
   }
   return path.startsWith("clearance/") ? Response.json(shown, { status }) : new Response("", { status: 404 });
@@ -93,4 +94,16 @@ test("the network is asked for where the chosen record has changed, though the b
   shown = { reply: "shown", view: { ...viewWith("Granted"), crews: [] } };
   for (let turn = 0; turn < 2; turn++) await lookNow();
   assert.equal(network.sections.size, 1);
+});
+
+test("a network that did not come is asked for with the next board, though that is the same and it takes long", async () => {
+  late = 60;
+  for (let turn = 0; turn < 3; turn++) await lookNow();
+  room.turns = 9; // with the tenth it is asked for in any case
+  isCut = true;
+  await lookNow();
+  assert.notEqual(room.unread, null);
+  isCut = false;
+  await lookNow();
+  assert.equal(room.unread, null);
 });

@@ -134,11 +134,11 @@ async function readView(id) {
 }
 
 // The network may have changed where the board has, and once more after that, since two commands of one second leave it as
-// it was; and where the chosen record has, whose commands may all have one moment. Further it is asked for with each board,
-// or with some of them where that takes long.
+// it was; where the chosen record has, whose commands may all have one moment; and where it did not come. Further it is asked
+// for with each board, or with some of them where that takes long.
 async function readNetwork(text) {
   const isSame = text === shown;
-  if (isSame && settled && room.network !== null && slow > QUICK && room.turns % ALL_AGAIN) return;
+  if (isSame && settled && room.network !== null && room.unread === null && slow > QUICK && room.turns % ALL_AGAIN) return;
   const begun = performance.now(), answer = await getNetwork();
   if (answer.kind !== "answered" || !answer.body.sections) {
     room.unread ??= now();
