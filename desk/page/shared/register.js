@@ -31,9 +31,9 @@ export function moments() {
   return [performance.now(), Date.now()];
 }
 
-// Whether it was less than this many milliseconds ago, by both clocks.
+// Whether it was less than this many milliseconds ago, by both clocks: by one that was set back it is not known.
 export function isWithin(since, time) {
-  return moments().every((moment, clock) => moment - since[clock] < time);
+  return moments().every((moment, clock) => Math.abs(moment - since[clock]) < time);
 }
 
 // Whether an answer came just now; a page that nobody sees asks less often.
