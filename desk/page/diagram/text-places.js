@@ -127,6 +127,7 @@ export class Labels {
       if (best && best.cost <= cost) continue;
       const rect = [x - PAD, y - PAD, x + width + PAD, y + height + PAD];
       if (!fits(rect, view) || !this.#solid.isFree(rect) || !taken.isFree(rect)) continue;
+      if (ring > 0 && !this.#solid.isFree(between(label.box, rect))) continue; // it would be taken for that of the box between
       const { cost: more, over } = this.#costOf(rect), whole = cost + more;
       if (!best || whole < best.cost) best = { x, y, size, anchor: "start", form, ring, rect, over, cost: whole };
     }
@@ -150,11 +151,23 @@ export class Labels {
   }
 }
 
-// The line from a box to a text that lies farther off.
-export function leaderTo([left, top, right, bottom], [l, t, r, b]) {
+// The line from a box to a text that lies farther off: [from x, from y, to x, to y].
+function lineTo([left, top, right, bottom], [l, t, r, b]) {
   const near = (low, high, from, to) => Math.min(Math.max((from + to) / 2, low), high);
   const x = near(l, r, left, right), y = near(t, b, top, bottom);
-  return `M${near(left, right, x, x)},${near(top, bottom, y, y)}L${x},${y}`;
+  return [near(left, right, x, x), near(top, bottom, y, y), x, y];
+}
+
+// The rectangle that this line takes.
+function between(box, rect) {
+  const [x, y, toX, toY] = lineTo(box, rect);
+  return [Math.min(x, toX), Math.min(y, toY), Math.max(x, toX), Math.max(y, toY)];
+}
+
+// How that line is drawn.
+export function leaderTo(box, rect) {
+  const [x, y, toX, toY] = lineTo(box, rect);
+  return `M${x},${y}L${toX},${toY}`;
 }
 
 export { LINE };
