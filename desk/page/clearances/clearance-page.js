@@ -140,7 +140,7 @@ export class ClearancePage {
   }
 
   #noteMissing(answer) {
-    this.#missing = answer?.kind === "answered" && answer.body.reply !== "shown";
+    this.#missing = answer?.body?.refusal === "UNKNOWN_CLEARANCE"; // a 503, or a name that may not ask, says nothing of it
     this.update();
   }
 
