@@ -6,7 +6,7 @@ import time
 
 from desk_looks.browser import Differs, free_ports, say, wait_until
 from desk_looks.desk import Desk
-from desk_looks.network import HEADS
+from desk_looks.commands import HEADS
 
 SOURCES, FEEDERS, LONG_FEEDER = 50, 9, 11  # with the sources 5,000 sections
 POINTS = 10000

@@ -4,10 +4,10 @@ import json
 import os
 import time
 
+from desk_looks import network as made
 from desk_looks.browser import Browser, Differs, free_ports
 from desk_looks.desk import Desk, gridclear
 from desk_looks.hand import Hand
-from desk_looks.network import write_files
 
 
 class Windows:
@@ -27,7 +27,7 @@ class Windows:
 
 
 class Stage:
-    """One look's: `begin` serves a desk and opens its page in the first window; `network` does so on the made network."""
+    """One look's: `begin` serves a desk and opens its page in the first window; `network` does so on a made network."""
 
     def __init__(self, windows, work, pictures):
         self.windows, self.work, self.pictures = windows, work, pictures
@@ -40,9 +40,10 @@ class Stage:
         desk.start()
         return self.window(page)
 
-    def network(self, commands=(), page="board", speaker=None):
-        """The made network, after these commands, a minute ago; each of them is accepted. The first window speaks as this one."""
-        desk = Desk(self.work, "desk", write_files(self.work), free_ports(2))
+    def network(self, commands=(), page="board", speaker=None, net=made):
+        """A made network, after these commands, a minute ago; each of them is accepted. The first window speaks as this one.
+        `net` is the module desk_looks.network, or desk_looks.two_substations."""
+        desk = Desk(self.work, "desk", net.write_files(self.work), free_ports(2))
         give(desk, commands)
         hand = self.begin(desk, page)
         if speaker:
