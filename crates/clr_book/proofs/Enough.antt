@@ -2,25 +2,21 @@
 use Rattle.std.proofs.Common.{◌≡◌, ◌∙◌, ℕ, ◌&&◌, ◌||◌, Bool, true, false, not, List, [], ◌∷◌, ◌++◌, map, if◌then◌else◌, Option, None, Some, is_some, refl, subst, sym, ap}
 use Rattle.clr_rules.proofs.Common.{or_left, has_name, own_id, is_order, one_name}
 use Rattle.clr_rules.proofs.good.DeadWork.{granted_work_is_dead}
-use Rattle.clr_staff.specs.declared.employee.Role.{Role}
 use Rattle.clr_rules.specs.Answer.{answer, answer_by_checks, answer_with, first_refusal, known_of}
 use Rattle.clr_rules.specs.Command.{named_clearance}
-use Rattle.clr_rules.specs.Commands.{Known, by_holder, checks, edits_of}
-use Rattle.clr_rules.specs.Checks.{crew_is_off, crew_is_on, is_charge, is_operator, no_ground, not_tested, refuse}
+use Rattle.clr_rules.specs.Commands.{Known, checks, edits_of}
+use Rattle.clr_rules.specs.Checks.{crew_is_off, crew_is_on, no_ground, not_tested, refuse}
 use Rattle.clr_rules.specs.Good.{IsGood, ListsAreInOrder}
-use Rattle.clr_rules.specs.Prelude.{Id, Register, is_granted, is_running, is_waiting}
-use Rattle.clr_rules.specs.laws.Own.{SameOwn, is_instruct}
+use Rattle.clr_rules.specs.Prelude.{Id, Register, is_granted, is_waiting}
+use Rattle.clr_rules.specs.laws.Own.{is_instruct}
 use Rattle.clr_rules.proofs.edits.Passing.{is_show}
 use Rattle.clr_rules.proofs.near.NewAnswers.{near_is_enough}
 use Rattle.clr_rules.proofs.near.OwnAnswers.{settled_alike}
-use Rattle.clr_rules.proofs.near.OwnChecks.{checks_of_own, number, same_by_role, state, turn}
+use Rattle.clr_rules.proofs.near.OwnChecks.{checks_of_own, number, state, turn}
 use Rattle.clr_rules.specs.declared.command.Kind.TheVariants as kinds
 use Rattle.clr_rules.specs.declared.refusal.Refusal.TheVariants as refusals
-use Rattle.clr_order.specs.Restoring.{restoring_fault}
 use Rattle.clr_order.specs.Step.{Task}
 use Rattle.clr_rules.specs.Holds.{held_among}
-use Rattle.clr_rules.specs.Records.{is_released}
-use Rattle.clr_rules.specs.Refusals.{order_refusal}
 use Rattle.clr_rules.specs.Steps.{points_of, steps_in}
 use Rattle.clr_rules.specs.declared.step_row.StepRow.{StepRow}
 use Rattle.clr_rules.proofs.lists.RoundSteps.{of_round_is}
@@ -29,7 +25,7 @@ use Rattle.clr_book.specs.Laws.{OwnNeedsOrderAlone, OwnRowsAreEnough}
 use Rattle.clr_net.proofs.Walks.{same_itself}
 use Rattle.clr_rules.proofs.Common.{same_name}
 use Rattle.clr_rules.specs.Changes.{with_record}
-use Rattle.clr_rules.specs.Checks.{any_ground, crews_on, crews_on_work, has_ground, not_attested, outside_fence, where_some}
+use Rattle.clr_rules.specs.Checks.{any_ground, crews_on, crews_on_work, has_ground, outside_fence, where_some}
 use Rattle.clr_rules.specs.Fences.{clearance_fence}
 use Rattle.clr_rules.specs.Holds.{has_hold, has_some_hold, hold_of}
 use Rattle.clr_rules.specs.declared.change.Edit.TheVariants.{PutRecord, TakeHold}
@@ -43,18 +39,11 @@ use Rattle.clr_book.proofs.OwnRows.{has_own, own_in_order, same_at_work, same_cr
 use Rattle.clr_book.proofs.Replies.{settled}
 use Rattle.clr_rules.specs.declared.command.Command.{Command}
 use Rattle.clr_rules.specs.declared.command.Kind.{Kind}
-use Rattle.clr_rules.specs.declared.phase.Phase.{Phase}
-use Rattle.clr_rules.specs.declared.refusal.Refusal.{Refusal}
 use Rattle.clr_rules.specs.declared.hold_kind.HoldKind.TheVariants.{Crew, Ground, Tested}
 
 -- what is known beside the rows
 abbrev pub known_by : Kind → Known
 known_by kind = record { greatest = 0; fence = fence_at kind; crossed = None }
-
--- commands of a holder that begin alike
-by_holder_alike : (c : Id) (R S : Register) → SameOwn c R S → (by : List ℕ) (at : ℕ) (roles : Role → Bool) (phases : Phase → Bool) {own others : List (Option Refusal)} → own ≡ others
-    → by_holder R by at c roles phases own ≡ by_holder S by at c roles phases others
-by_holder_alike c R S same by at roles phases own = simp (same.staff, same.own_record, own)
 
 module _ (R : Register) (ordered : ListsAreInOrder R) (by : List ℕ) (at : ℕ) where
   abbrev asked : Kind → Command
@@ -76,7 +65,7 @@ module _ (R : Register) (ordered : ListsAreInOrder R) (by : List ℕ) (at : ℕ)
       let kind = kinds.SignOff c crew in
       let here : crew_is_off R c crew ≡ crew_is_off (own_rows R c kind) c crew =
       ap (λ (b : Bool). refuse (not b) refusals.CrewState) (same_hold_there R c c kind Crew crew (own_id c)) in
-      by_holder_alike c R (with_holds R c kind) (has_own R c kind) by at is_charge is_granted (λ i. here i ∷ [])
+      let same = has_own R c kind in simp (same.staff, same.own_record, here)
 
   on_checks : (c : Id) (crew : List ℕ) → checks (known (kinds.SignOn c crew)) R by at (kinds.SignOn c crew) ≡ checks (known_by (kinds.SignOn c crew)) (own_rows R c (kinds.SignOn c crew)) by at (kinds.SignOn c crew)
   on_checks c crew =
@@ -88,7 +77,7 @@ module _ (R : Register) (ordered : ListsAreInOrder R) (by : List ℕ) (at : ℕ)
       (λ work listed. ap (λ (b : Bool). refuse (not b) refusals.NotGrounded) (same_hold_there R c c kind Ground work (or_left (has_name (sections_at R c kind) work) false listed))) in
       let here : crew_is_on R c crew ≡ crew_is_on S c crew =
       ap (λ (b : Bool). refuse b refusals.CrewState) (same_hold_there R c c kind Crew crew (own_id c)) in
-      by_holder_alike c R (with_holds R c kind) (has_own R c kind) by at is_charge is_granted (λ i. tested i ∷ grounded i ∷ here i ∷ [])
+      let same = has_own R c kind in simp (tested, grounded, here) (simp (same.staff, same.own_record))
 
   -- of a step that is given out
   given_checks : (c : Id) (n : ℕ) → checks (known (kinds.Instruct c n)) R by at (kinds.Instruct c n) ≡ checks (known_by (kinds.Instruct c n)) (own_rows R c (kinds.Instruct c n)) by at (kinds.Instruct c n)
@@ -96,8 +85,7 @@ module _ (R : Register) (ordered : ListsAreInOrder R) (by : List ℕ) (at : ℕ)
       let kind = kinds.Instruct c n in
       let S = with_holds R c kind in
       let same = has_own R c kind in
-      same_by_role c R S same by at is_operator is_running
-      (λ i. number c R S same n i ∷ turn c R S same n i ∷ state c R S same n is_waiting i ∷ same_in_hand R c n i ∷ same_hinders R c n i ∷ [])
+      simp (same.staff, same.own_record, number c R S same n, turn c R S same n, state c R S same n is_waiting, same_in_hand R c n, same_hinders R c n)
 
   -- of a restoring order
   restore_checks : (c : Id) (tasks : List Task) → checks (known (kinds.Restore c tasks)) R by at (kinds.Restore c tasks) ≡ checks (known_by (kinds.Restore c tasks)) (own_rows R c (kinds.Restore c tasks)) by at (kinds.Restore c tasks)
@@ -109,8 +97,7 @@ module _ (R : Register) (ordered : ListsAreInOrder R) (by : List ℕ) (at : ℕ)
       let held : held_among R.holds c (points_of (steps_in R.steps c 1)) ≡ held_among S.holds c (points_of (steps_in S.steps c 1)) =
       ap (held_among R.holds c) first ∙ same_held_among R c tasks ∙ ap (held_among S.holds c) (sym first)
       ∙ ap (λ (rows : List StepRow). held_among S.holds c (points_of rows)) (same_round c R M (has_own R c kind) 1) in
-      same_by_role c R M (has_own R c kind) by at is_operator is_released
-      (λ i. order_refusal (restoring_fault (held i) tasks) ∷ [])
+      let same = has_own R c kind in simp (same.staff, same.own_record, held)
 
   -- of a section that is grounded, and of one whose ground is taken
   inside : (fence : List (List ℕ)) (section : List ℕ) → has_name fence section ≡ true → outside_fence fence section ≡ outside_fence (section ∷ []) section
@@ -135,7 +122,7 @@ module _ (R : Register) (ordered : ListsAreInOrder R) (by : List ℕ) (at : ℕ)
       ap (λ (b : Bool). refuse b refusals.CrewsOn) (same_some R c notified clear Crew) in
       let grounds : any_ground R c ≡ any_ground (own_rows R c kind) c =
       ap (λ (b : Bool). refuse b refusals.Grounded) (same_some R c notified clear Ground) in
-      by_holder_alike c R (with_holds R c kind) (has_own R c kind) by at is_charge is_granted (λ i. crews i ∷ grounds i ∷ not_attested notified clear ∷ [])
+      let same = has_own R c kind in simp (same.staff, same.own_record, crews, grounds)
 
   release_edits : (c : Id) (notified clear : Bool)
       → edits_of (Known.greatest (known (kinds.Release c notified clear))) (with_holds R c (kinds.Release c notified clear)) by at (kinds.Release c notified clear)
@@ -185,7 +172,7 @@ module _ (R : Register) (good : IsGood R) (by : List ℕ) (at : ℕ) where
       ap (λ (b : Bool). refuse (not b) refusals.NotTested) (same_hold_there R c c kind Tested section (or_left (has_name (section ∷ []) section) false (listed R good.said.in_order by at section))) in
       let grounded : has_ground R c section ≡ has_ground (own_rows R c kind) c section =
       ap (λ (b : Bool). refuse b refusals.Grounded) (same_hold_there R c c kind Ground section (or_left (has_name (section ∷ []) section) false (listed R good.said.in_order by at section))) in
-      by_holder_alike c R (with_holds R c kind) (has_own R c kind) by at is_charge is_granted (λ i. fence i ∷ tested i ∷ grounded i ∷ [])
+      let same = has_own R c kind in simp (fence, tested, grounded) (simp (same.staff, same.own_record))
 
   or_false : (b : Bool) → (b || false) ≡ true → b ≡ true
   or_false true is = refl
@@ -217,7 +204,7 @@ module _ (R : Register) (good : IsGood R) (by : List ℕ) (at : ℕ) where
   test_checks c section dead is =
       let kind = kinds.Test c section dead in
       let fence = inside R good.said.in_order by at (clearance_fence R c) section (known_inside c section is) in
-      by_holder_alike c R (with_holds R c kind) (has_own R c kind) by at is_charge is_granted (λ i. fence i ∷ [])
+      let same = has_own R c kind in simp (fence) (simp (same.staff, same.own_record))
 
   unground_checks : (c : Id) (section : List ℕ) → has_hold R.holds c Ground section ≡ true
       → checks (known R good.said.in_order by at (kinds.Unground c section)) R by at (kinds.Unground c section) ≡ checks (known_by (kinds.Unground c section)) (own_rows R c (kinds.Unground c section)) by at (kinds.Unground c section)
@@ -226,7 +213,7 @@ module _ (R : Register) (good : IsGood R) (by : List ℕ) (at : ℕ) where
       let fence = inside R good.said.in_order by at (clearance_fence R c) section (good.said.work_holds_belong.grounded_inside c section has) in
       let grounded : no_ground R c section ≡ no_ground (own_rows R c kind) c section =
       ap (λ (b : Bool). refuse (not b) refusals.NotGrounded) (same_hold_there R c c kind Ground section (or_left (has_name (section ∷ []) section) _ (listed R good.said.in_order by at section))) in
-      by_holder_alike c R (with_holds R c kind) (has_own R c kind) by at is_charge is_granted (λ i. fence i ∷ grounded i ∷ crews_alike R good.said.in_order by at c section i ∷ [])
+      let same = has_own R c kind in simp (fence, grounded, crews_alike R good.said.in_order by at c section) (simp (same.staff, same.own_record))
 
   ground_by : (c : Id) (section : List ℕ) (b : Bool) → has_hold R.holds c Tested section ≡ b → is_some (own_where b c) ≡ true
       → answer R (asked R good.said.in_order by at (kinds.Ground c section)) ≡ answer_with (Near.known (near_by (own_where b c) R (asked R good.said.in_order by at (kinds.Ground c section)))) (Near.rows (near_by (own_where b c) R (asked R good.said.in_order by at (kinds.Ground c section)))) (asked R good.said.in_order by at (kinds.Ground c section))
