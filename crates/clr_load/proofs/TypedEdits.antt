@@ -273,8 +273,8 @@ module _ (R : Register) (typed : IsTyped R) (k : Known) (small : k.greatest ≤ 
   holder_typed c r parts _ _ (handed_on to emergency) is = (and_parts (is_id c) (is_name to) is).1
 
   record_put : (kind : Kind) → is_typed_kind kind ≡ true → Pass (checks k R by at kind) → (s : Record) → RecordPut k R by at kind s → is_typed_record s ≡ true
-  record_put _ is passed _ (requested section) = rw (next_id passed.1.1.1.0, caller, is, time) refl
-  record_put _ is passed _ (switched tasks) = rw (next_id passed.1.1.0, caller, time) refl
+  record_put _ is passed _ (requested section) = rw (next_id (search passed), caller, is, time) refl
+  record_put _ is passed _ (switched tasks) = rw (next_id (search passed), caller, time) refl
   record_put kind is passed _ (written c r {holder = holder} named no_show found held comes) =
       let parts = record_typed R typed c r found in rw (parts.id, holder_typed c r parts kind holder held is, parts.work, time) refl
 

@@ -58,8 +58,8 @@ named_is_recorded k R by at kind h = recorded kind (all_pass (checks k R by at k
     recorded (Request section) passed = tt
     recorded (Switch tasks) passed = tt
     recorded (Jumper point from to lockable remote) passed = tt
-    recorded (Transfer c to emergency) passed = is_recorded R c passed.1.0
-    recorded (Show c) passed = is_recorded R c passed.1.0
+    recorded (Transfer c to emergency) passed = is_recorded R c (search passed)
+    recorded (Show c) passed = is_recorded R c (search passed)
     recorded _ passed = third _ passed
 
 -- the clearance that a command names, if it names one, has a record
@@ -100,16 +100,16 @@ open_if_named k R by at (Request section) no_show passed = tt
 open_if_named k R by at (Switch tasks) no_show passed = tt
 open_if_named k R by at (Jumper point from to lockable remote) no_show passed = tt
 open_if_named k R by at (Show c) no_show passed = cc no_show
-open_if_named k R by at (Order c points tasks) no_show passed = open_if_fits R c is_requested refl passed.1.1.1.1.0
-open_if_named k R by at (Instruct c n) no_show passed = open_if_fits R c is_running refl passed.1.1.1.1.0
-open_if_named k R by at (Repeat c n text) no_show passed = open_if_fits R c is_running refl passed.1.1.1.1.0
-open_if_named k R by at (Report c n done) no_show passed = open_if_fits R c is_running refl passed.1.1.1.1.0
-open_if_named k R by at (Grant c) no_show passed = open_if_fits R c is_ordered refl passed.1.1.1.1.0
-open_if_named k R by at (Transfer c to emergency) no_show passed = open_if_fits R c is_transferable refl passed.1.1.1.1.0
-open_if_named k R by at (Cancel c) no_show passed = open_if_fits R c is_cancellable refl passed.1.1.1.1.1.0
-open_if_named k R by at (Restore c tasks) no_show passed = open_if_fits R c is_released refl passed.1.1.1.1.0
-open_if_named k R by at (Amend c n) no_show passed = open_if_fits R c is_restoring refl passed.1.1.1.1.0
-open_if_named k R by at _ no_show passed = open_if_fits R _ is_granted refl passed.1.1.1.1.1.0
+open_if_named k R by at (Order c points tasks) no_show passed = open_if_fits R c is_requested refl (search passed)
+open_if_named k R by at (Instruct c n) no_show passed = open_if_fits R c is_running refl (search passed)
+open_if_named k R by at (Repeat c n text) no_show passed = open_if_fits R c is_running refl (search passed)
+open_if_named k R by at (Report c n done) no_show passed = open_if_fits R c is_running refl (search passed)
+open_if_named k R by at (Grant c) no_show passed = open_if_fits R c is_ordered refl (search passed)
+open_if_named k R by at (Transfer c to emergency) no_show passed = open_if_fits R c is_transferable refl (search passed)
+open_if_named k R by at (Cancel c) no_show passed = open_if_fits R c is_cancellable refl (search passed)
+open_if_named k R by at (Restore c tasks) no_show passed = open_if_fits R c is_released refl (search passed)
+open_if_named k R by at (Amend c n) no_show passed = open_if_fits R c is_restoring refl (search passed)
+open_if_named k R by at _ no_show passed = open_if_fits R _ is_granted refl (search passed)
 
 pub named_is_open : (k : Known) (R : Register) (by : List ℕ) (at : ℕ) (kind : Kind) → is_show kind ≡ false → Pass (checks k R by at kind)
     → (c : Id) → named_clearance kind ≡ Some c → (r : Record) → record_of R.records c ≡ Some r → is_open r.phase ≡ true

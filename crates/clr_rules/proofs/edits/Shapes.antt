@@ -9,6 +9,7 @@ use Rattle.clr_net.specs.declared.point.Position.TheVariants.{Opened, Closed as 
 use Rattle.clr_order.specs.declared.action.Action.TheVariants as actions
 use Rattle.clr_order.specs.declared.step.StepState.TheVariants.{Instructed, Repeated}
 use Rattle.clr_rules.specs.Answer.{reply_clearance}
+use Rattle.clr_rules.specs.Checks.{not_attested}
 use Rattle.clr_rules.specs.Command.{named_place}
 use Rattle.clr_rules.specs.Changes.{done_edits, new_record, new_section, new_steps, phase_after, point_edits}
 use Rattle.clr_rules.specs.Hold.{same_hold}
@@ -232,23 +233,23 @@ module _ (k : Known) (R : Register) (by : List ℕ) (at : ℕ) where
   edits_of_accepted (kinds.Order c points tasks) passed =
       let kind : Kind = kinds.Order c points tasks in
       by_record (AreEditsOf k R by at kind) tt R c _ (λ r found. (
-        own_record (kinds.Order c points tasks) c r found refl refl r.holder Ordered same (ordered (phase_fits R c r is_requested found passed.1.1.1.1.0)),
+        own_record (kinds.Order c points tasks) c r found refl refl r.holder Ordered same (ordered (phase_fits R c r is_requested found (search passed))),
         round_given (kinds.Order c points tasks) c 1 tasks (order c points tasks),
       ))
   edits_of_accepted (kinds.Restore c tasks) passed = by_record (AreEditsOf k R by at (kinds.Restore c tasks)) tt R c _ (λ r found. (
-    own_record (kinds.Restore c tasks) c r found refl refl r.holder Restoring same (restored tasks (phase_fits R c r is_released found passed.1.1.1.1.0)),
+    own_record (kinds.Restore c tasks) c r found refl refl r.holder Restoring same (restored tasks (phase_fits R c r is_released found (search passed))),
     round_given (kinds.Restore c tasks) c 2 tasks (restore c tasks),
   ))
   edits_of_accepted (kinds.Grant c) passed = by_record (AreEditsOf k R by at (kinds.Grant c)) tt R c _ (λ r found.
-      (own_record (kinds.Grant c) c r found refl refl r.holder Granted same (granted (phase_fits R c r is_ordered found passed.1.1.1.1.0)), tt))
+      (own_record (kinds.Grant c) c r found refl refl r.holder Granted same (granted (phase_fits R c r is_ordered found (search passed))), tt))
   edits_of_accepted (kinds.Transfer c to emergency) passed = by_record (AreEditsOf k R by at (kinds.Transfer c to emergency)) tt R c _ (λ r found.
       (own_record (kinds.Transfer c to emergency) c r found refl refl to r.phase (handed_on to emergency) stays, tt))
   edits_of_accepted (kinds.Cancel c) passed = by_record (AreEditsOf k R by at (kinds.Cancel c)) tt R c _ (λ r found.
       (own_record (kinds.Cancel c) c r found refl refl r.holder _ same (given_up c r (is_ordered r.phase && has_any_hold R.holds r.id) refl), tt))
   edits_of_accepted (kinds.Release c true true) passed = by_record (AreEditsOf k R by at (kinds.Release c true true)) tt R c _ (λ r found.
       tests_taken (kinds.Release c true true) c refl (places_of R.holds c Tested) _
-      (own_record (kinds.Release c true true) c r found refl refl r.holder Released same (released (phase_fits R c r is_granted found passed.1.1.1.1.1.0)), tt))
-  edits_of_accepted (kinds.Release c notified clear) passed = cc (passed.1.1.1.1.1.1.1.1.0)
+      (own_record (kinds.Release c true true) c r found refl refl r.holder Released same (released (phase_fits R c r is_granted found (search passed))), tt))
+  edits_of_accepted (kinds.Release c notified clear) passed = let attested : not_attested notified clear ≡ None = search passed in cc attested
   edits_of_accepted (kinds.Instruct c n) passed = by_step (AreEditsOf k R by at (kinds.Instruct c n)) tt R c n _ (λ r row found step.
       let here : IsFound R c n r row = record { recorded = found; step = step } in
       (into c n r row here, (by_holder (kinds.Instruct c n) c r found refl refl, (own_step (kinds.Instruct c n) c n r row here refl row.step.action Instructed row.step.reader instructed, tt))))

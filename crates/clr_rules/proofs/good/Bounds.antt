@@ -44,8 +44,8 @@ module _ (R : Register) (bounded : IsBounded R) where
 
   module _ (k : Known) (small : k.greatest ≤ 9999) (by : List ℕ) (at : ℕ) where
     number_of : (kind : Kind) (s : Record) → RecordPut k R by at kind s → Pass (checks k R by at kind) → IsNumber s
-    number_of _ _ (requested section) passed = next_number k.greatest small passed.1.1.1.0
-    number_of _ _ (switched tasks) passed = next_number k.greatest small passed.1.1.0
+    number_of _ _ (requested section) passed = next_number k.greatest small (search passed)
+    number_of _ _ (switched tasks) passed = next_number k.greatest small (search passed)
     number_of _ _ (written c r named no_show found held comes) passed = All-contains IsNumber R.records r bounded.numbers (member-row_of id_cmp record_key id_cmp_total c r R.records found).0
 
     round_of : (kind : Kind) (row : StepRow) → StepPut k R by kind row → IsRound row

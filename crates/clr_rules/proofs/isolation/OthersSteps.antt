@@ -44,7 +44,7 @@ module _ (c : Id) (R : Register) (no_operator : is_operators R c.requester ≡ f
   switcher_is_another : (tasks : List Task) → first_refusal (checks k R by at (Switch tasks)) ≡ None → same_name c.requester by ≡ false
   switcher_is_another tasks passed =
       let pass = all_pass (checks k R by at (Switch tasks)) passed in
-      operator_is_another (has_role_from (employee R.staff by) pass.0 pass.1.0)
+      operator_is_another (has_role_from (employee R.staff by) (search pass) (search pass))
 
   -- who gives an accepted command of others that makes a new clearance is another than the requester
   caller_is_another : (kind : Kind) → named_clearance kind ≡ None → is_own_kind c by kind None ≡ false → first_refusal (checks k R by at kind) ≡ None
@@ -53,7 +53,7 @@ module _ (c : Id) (R : Register) (no_operator : is_operators R c.requester ≡ f
   caller_is_another (Switch tasks) none others passed = switcher_is_another tasks passed
   caller_is_another (Jumper point from to lockable remote) none others passed =
       let pass = all_pass (checks k R by at (Jumper point from to lockable remote)) passed in
-      operator_is_another (has_role_from (employee R.staff by) pass.0 pass.1.0)
+      operator_is_another (has_role_from (employee R.staff by) (search pass) (search pass))
   caller_is_another _ none others passed = cc
 
   -- so an accepted command of others is about another clearance

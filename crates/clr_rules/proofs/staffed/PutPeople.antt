@@ -99,19 +99,19 @@ module _ (R : Register) (staffed : IsStaffed R) (good : IsGoodByPhase R) (k : Kn
 
   record_well : (kind : Kind) → Pass (checks k R by at kind) → (s : Record) → RecordPut k R by at kind s → PutWell R kind s
   record_well _ passed _ (requested section) =
-      let (row, found, charge) = caller_role R by is_charge passed.0 passed.1.0 in
+      let (row, found, charge) = caller_role R by is_charge (search passed) (search passed) in
       (ap (has_role (fits_holder (Some section))) found ∙ charge, λ is. absurd (false≢true is))
   record_well _ passed _ (switched tasks) =
-      let (row, found, operator) = caller_role R by is_operator passed.0 passed.1.0 in
+      let (row, found, operator) = caller_role R by is_operator (search passed) (search passed) in
       (ap (has_role (fits_holder None)) found ∙ operator, λ is. absurd (false≢true is))
   record_well kind passed _ (written c r {holder = holder} {phase = phase} named no_show found held comes) =
       (holder_fits c r found kind named no_show passed holder held, came_restoring c r holder found kind passed phase comes)
 
   -- a round is given by an operator
   round_operates : (kind : Kind) → Pass (checks k R by at kind) → (c : Id) (round : ℕ) (tasks : List Task) → GivesRound k by kind c round tasks → has_some_role R.staff is_operator ≡ true
-  round_operates _ passed _ _ _ (order c points tasks) = caller_there R by is_operator passed.0 passed.1.0
-  round_operates _ passed _ _ _ (restore c tasks) = caller_there R by is_operator passed.0 passed.1.0
-  round_operates _ passed _ _ _ (switch tasks) = caller_there R by is_operator passed.0 passed.1.0
+  round_operates _ passed _ _ _ (order c points tasks) = caller_there R by is_operator (search passed) (search passed)
+  round_operates _ passed _ _ _ (restore c tasks) = caller_there R by is_operator (search passed) (search passed)
+  round_operates _ passed _ _ _ (switch tasks) = caller_there R by is_operator (search passed) (search passed)
 
   done_by_report : (c : Id) (n : ℕ) (row : StepRow) → step_at (present_steps R.steps c) n ≡ Some row → (kind : Kind) → Pass (checks k R by at kind)
       → (action : Action) (state : StepState) (reader : Option (List ℕ)) → Moves by c n row kind action state reader → (is_done state ≡ false) ⊎ (reports_done kind ≡ true)
@@ -142,7 +142,7 @@ module _ (R : Register) (staffed : IsStaffed R) (good : IsGoodByPhase R) (k : Kn
 hold_put_by : (R : Register) (k : Known) (by : List ℕ) (at : ℕ) (kind : Kind) → Pass (checks k R by at kind) → (h : Hold) → HoldPut R kind h → is_point_kind h.kind ≡ true
     → has_some_role R.staff is_field ≡ true
 hold_put_by R k by at kind passed _ (at_work c r of place found off named) at_point = absurd (both_ways (is_point_kind of) off at_point)
-hold_put_by R k by at _ passed _ (by_step_done c n r row of found puts_it) at_point = caller_there R by is_field passed.0 passed.1.0
+hold_put_by R k by at _ passed _ (by_step_done c n r row of found puts_it) at_point = caller_there R by is_field (search passed) (search passed)
 
 edit_puts_by : (R : Register) (k : Known) (by : List ℕ) (at : ℕ) (kind : Kind) → Pass (checks k R by at kind) → (edit : Edit) → IsEditOf k R by at kind edit
     → PutsBy (has_some_role R.staff is_field ≡ true) edit

@@ -72,11 +72,11 @@ module _ (R : Register) (throughout : IsGoodThroughout R) where
   module _ (k : Known) (by : List ℕ) (at : ℕ) where
     record_fits : (kind : Kind) → Pass (checks k R by at kind) → (s : Record) → RecordPut k R by at kind s → PutFits R s
     record_fits _ passed _ (requested section) =
-        let (row, found, charge) = caller_role R by is_charge passed.0 passed.1.0 in (
-          not_refused_true (has_name (section_names (Grid.sections R.net)) section) UnknownSection passed.1.1.0,
+        let (row, found, charge) = caller_role R by is_charge (search passed) (search passed) in (
+          not_refused_true (has_name (section_names (Grid.sections R.net)) section) UnknownSection (search passed),
           sym (ap (has_role is_operator) found ∙ charge_operates_not row.role charge),
         )
-    record_fits _ passed _ (switched tasks) = let (row, found, operates) = caller_role R by is_operator passed.0 passed.1.0 in (refl, sym (ap (has_role is_operator) found ∙ operates))
+    record_fits _ passed _ (switched tasks) = let (row, found, operates) = caller_role R by is_operator (search passed) (search passed) in (refl, sym (ap (has_role is_operator) found ∙ operates))
     record_fits kind passed _ (written c r named no_show found held comes) = fits_before c r found
 
     -- WHERE NO CHECK APPLIES, the records that a command puts
