@@ -7,8 +7,8 @@ use Rattle.clr_order.specs.OrderFault.{fault_if, name_fault}
 use Rattle.clr_order.specs.Step.{Task, stray_point, task_points}
 use Rattle.clr_order.specs.Switching.{unswitching_point}
 use Rattle.clr_order.specs.declared.order_fault.OrderFault.TheVariants.{EmptyOrder, LongOrder, StepsWrong, UnknownPoint}
-use Rattle.clr_rules.specs.Checks.{refuse, too_many_clearances, unknown_caller, wrong_role, wrong_switching, is_charge, is_operator}
-use Rattle.clr_rules.specs.Prelude.{Command, Kind, Hold, Record, Refusal, StepRow, Id, same_id, Register, greatest_number, record_of, steps_of, holds_of, after_edits, UnknownSection}
+use Rattle.clr_rules.specs.Checks.{wrong_switching}
+use Rattle.clr_rules.specs.Prelude.{Command, Kind, Hold, Record, Refusal, StepRow, Id, same_id, Register, greatest_number, record_of, steps_of, holds_of, after_edits}
 use Rattle.clr_rules.specs.Good.{IsGoodAsSaid, OnlySwitchOrdersSwitch, has_record}
 use Rattle.clr_rules.specs.Near.{Near, is_beside, near_of, near_part}
 use Rattle.clr_rules.proofs.lists.Filters.{filter-no_member, filter-nothing, kept_there, name_says}
@@ -83,8 +83,7 @@ module _ (R : Register) (good : IsGoodAsSaid R) (by : List ℕ) (at : ℕ) where
         ∙ ap (λ (b : Bool). b && has_name (section_names (Grid.sections R.net)) section) (same_itself section)
 
     request_checks : checks (known_of R request) R by at (Request section) ≡ checks (known_of R request) (near_part R request) by at (Request section)
-    request_checks = ap (λ (b : Bool). unknown_caller R by ∷ wrong_role R by is_charge ∷ refuse (not b) UnknownSection
-        ∷ too_many_clearances (greatest_number R.records by) ∷ []) (sym section_near)
+    request_checks = simp section_near
 
     request_settled : (found : Option Refusal) → answer_by_checks (known_of R request) R request found ≡ answer_by_checks (known_of R request) (near_part R request) request found
     request_settled None =
@@ -127,7 +126,7 @@ module _ (R : Register) (good : IsGoodAsSaid R) (by : List ℕ) (at : ℕ) where
         (name_fault StepsWrong (unswitching_point tasks) (name_fault UnknownPoint stray None))))) stray_near
 
     switch_checks : checks (known_of R switch) R by at (Switch tasks) ≡ checks (known_of R switch) (near_part R switch) by at (Switch tasks)
-    switch_checks = ap (λ (wrong : Option Refusal). unknown_caller R by ∷ wrong_role R by is_operator ∷ too_many_clearances (greatest_number R.records by) ∷ wrong ∷ []) switching_near
+    switch_checks = simp switching_near
 
     switch_settled : (found : Option Refusal) → answer_by_checks (known_of R switch) R switch found ≡ answer_by_checks (known_of R switch) (near_part R switch) switch found
     switch_settled None =
