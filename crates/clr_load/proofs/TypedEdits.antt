@@ -280,16 +280,13 @@ module _ (R : Register) (typed : IsTyped R) (k : Known) (small : k.greatest ≤ 
 
   round_fits : (kind : Kind) → is_typed_kind kind ≡ true → Pass (checks k R by at kind) → (c : Id) (round : ℕ) (tasks : List Task) → GivesRound k by kind c round tasks → RoundFits c round tasks
   round_fits _ is passed _ _ _ (order c points tasks) =
-      let (_, (_, (_, (_, (_, (order_passes, _)))))) = passed in
       let (id, lists) = and_parts (is_id c) (list_all is_name points && list_all is_typed_task tasks) is in
-      record { id = id; fits = refl; few = order_fits R k.fence points tasks order_passes; typed = (and_parts (list_all is_name points) (list_all is_typed_task tasks) lists).1 }
+      record { id = id; fits = refl; few = order_fits R k.fence points tasks (search passed); typed = (and_parts (list_all is_name points) (list_all is_typed_task tasks) lists).1 }
   round_fits _ is passed _ _ _ (restore c tasks) =
-      let (_, (_, (_, (_, (_, (order_passes, _)))))) = passed in
       let (id, steps) = and_parts (is_id c) (list_all is_typed_task tasks) is in
-      record { id = id; fits = refl; few = (restoring_passed R c tasks order_passes).steps_fit; typed = steps }
+      record { id = id; fits = refl; few = (restoring_passed R c tasks (search passed)).steps_fit; typed = steps }
   round_fits _ is passed _ _ _ (switch tasks) =
-      let (_, (_, (number_passes, (order_passes, _)))) = passed in
-      record { id = next_id number_passes; fits = refl; few = (switching_passed R tasks order_passes).steps_fit; typed = is }
+      record { id = next_id (search passed); fits = refl; few = (switching_passed R tasks (search passed)).steps_fit; typed = is }
 
   reader_typed : (c : Id) (n : ℕ) (row : StepRow) → TypedStep row → (kind : Kind) (action : Action) (state : StepState) (reader : Option (List ℕ)) → Moves by c n row kind action state reader
       → is_name_or_none reader ≡ true

@@ -54,9 +54,9 @@ added_edits_fit R net p can =
 pub jumper_can : (k : Known) (R : Register) (by : List ℕ) (at : ℕ) (point from to : List ℕ) (lockable remote : Bool)
     → Pass (checks k R by at (Jumper point from to lockable remote)) → CanBeAdded R.net (new_jumper point from to lockable remote)
 jumper_can k R by at point from to lockable remote passed =
-    let (_, (_, (section_passes, (point_passes, (_, (room_passes, (ends_pass, _))))))) = passed in record {
-      known = not_refused_true (has_name (section_names (Grid.sections R.net)) from) UnknownSection section_passes;
-      new = not_refused (has_name (point_names (Grid.points R.net)) point) PointExists point_passes;
-      room = not_refused_true (has_room R.net to) NetworkFull room_passes;
-      differ = not_refused (same_name from to) SameEnds ends_pass;
+    record {
+      known = not_refused_true (has_name (section_names (Grid.sections R.net)) from) UnknownSection (search passed);
+      new = not_refused (has_name (point_names (Grid.points R.net)) point) PointExists (search passed);
+      room = not_refused_true (has_room R.net to) NetworkFull (search passed);
+      differ = not_refused (same_name from to) SameEnds (search passed);
     }

@@ -141,8 +141,8 @@ module _ (R : Register) (good : IsGoodByPhase R) (c : Id) (p : List ℕ) (k : Kn
   untag_here : (d : Id) (n : ℕ) (r : Record) (row : StepRow) → IsFound R d n r row → Pass (checks k R by at (kinds.Report d n true)) → row.step.action ≡ actions.Untag
       → hold_of r.id Tag row.step.point ≡ hold_of c Tag p → IsUntag R c p (asked by at (kinds.Report d n true))
   untag_here d n r row found passed untags one =
-      let (was, read, fits, (step_passes, _)) = role_begun R d is_running passed in
-      let s = step_there R d n step_passes in
+      let (was, read, fits, rest) = role_begun R d is_running passed in
+      let s = step_there R d n (search rest) in
       let same : d ≡ c = sym (record_id R.records d r found.recorded) ∙ ap Hold.id one in
       record {
         n = n;

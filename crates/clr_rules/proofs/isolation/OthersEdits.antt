@@ -97,16 +97,16 @@ module _ (c : Id) (R : Register) (k : Known) (by : List ℕ) (at : ℕ) where
   repeated_before : (d : Id) (n : ℕ) (done : Bool) (row : StepRow) → Pass (checks k R by at (kinds.Report d n done)) → step_at (present_steps R.steps d) n ≡ Some row
       → is_repeated row.step.state ≡ true
   repeated_before d n done row passed found =
-      let (_, _, _, (_, (state_passes, _))) = role_begun R d is_running passed in
+      let (_, _, _, rest) = role_begun R d is_running passed in
       not_refused_true (is_repeated row.step.state) WrongState
-      (check_of_found (step_at (present_steps R.steps d) n) row (λ row. refuse (not (is_repeated row.step.state)) WrongState) found state_passes)
+      (check_of_found (step_at (present_steps R.steps d) n) row (λ row. refuse (not (is_repeated row.step.state)) WrongState) found (search rest))
 
   hand_spares : (kind : Kind) → (is_report kind ≡ true → HandMatchesStep R) → not (same_id c (subject k by kind)) ≡ true → Pass (checks k R by at kind) → (p : List ℕ) (hand : Option Id)
       → HandSet R kind p hand → spares c R (SetHand p hand) ≡ true
   hand_spares _ matches others passed _ _ (into d n r row found) =
-      let (_, _, _, (_, (_, (_, (hand_passes, _))))) = role_begun R d is_running passed in
+      let (_, _, _, rest) = role_begun R d is_running passed in
       let free : other_hand d (hand_of R.states row.step.point) ≡ None =
-      check_of_found (step_at (present_steps R.steps d) n) row (λ row. other_hand d (hand_of R.states row.step.point)) found.step hand_passes in
+      check_of_found (step_at (present_steps R.steps d) n) row (λ row. other_hand d (hand_of R.states row.step.point)) found.step (search rest) in
       spares_hand c R row.step.point (Some d) (no_other_hand c d (hand_of R.states row.step.point) (not-true (same_id c d) others) free) (not-true (same_id c d) others)
   hand_spares _ matches others passed _ _ (out_of d n done r row found) =
       spares_hand c R row.step.point None (reported_hand c R d row n (matches refl) others found.step (repeated_before d n done row passed found.step)) refl

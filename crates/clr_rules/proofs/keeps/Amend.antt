@@ -198,10 +198,10 @@ amend_keeps R at c r row good found is p waits closes =
 
 pub amends_keep : (c : Id) (n : ℕ) → KeepsGood (Amend c n)
 amends_keep c n = commands_keep (Amend c n) (λ R by at good passed.
-    let (r, found, fits, (step_passes, (close_passes, _))) = role_begun R c is_restoring passed in
-    let s = step_there R c n step_passes in
+    let (r, found, fits, rest) = role_begun R c is_restoring passed in
+    let s = step_there R c n (search rest) in
     let both = and_parts (is_waiting s.row.step.state) (is_close s.row.step.action)
     (not_refused_true (is_waiting s.row.step.state && is_close s.row.step.action) WrongState
-    (check_of_found (step_at (present_steps R.steps c) n) s.row (λ (row : StepRow). refuse (not (is_waiting row.step.state && is_close row.step.action)) WrongState) s.found close_passes)) in
+    (check_of_found (step_at (present_steps R.steps c) n) s.row (λ (row : StepRow). refuse (not (is_waiting row.step.state && is_close row.step.action)) WrongState) s.found (search rest))) in
     found_step_edits R c n r s.row (λ r row. PutRecord (record r { last = at }) ∷ PutStep (amended row) ∷ []) found s.found
     (amend_keeps R at c r s.row good found fits s.is_present both.0 both.1))

@@ -32,8 +32,8 @@ cancelled g _ work v o some fits rests none h = absurd (false≢true fits)
 
 pub cancels_keep : (c : Id) → KeepsGood (Cancel c)
 cancels_keep c = commands_keep (Cancel c) (λ R by at good passed.
-    let (r, found, fits, (given_out_passes, _)) = holder_begun R c is_cancellable passed in
-    let rests = not_refused (some_active (steps_of R.steps c)) WrongState given_out_passes in
+    let (r, found, fits, rest) = holder_begun R c is_cancellable passed in
+    let rests = not_refused (some_active (steps_of R.steps c)) WrongState (search rest) in
     let none : has_any_hold R.holds r.id ≡ false → (kind : HoldKind) (place : List ℕ) → has_hold R.holds c kind place ≡ false =
     λ free. no_hold_at R.holds c (ap (has_any_hold R.holds) (sym (record_id R.records c r found)) ∙ free) in
     found_edits R c r (λ r. PutRecord (record r { phase = cancelled_phase R r; last = at }) ∷ []) found

@@ -32,9 +32,9 @@ use Rattle.clr_rules.proofs.keeps.Report.{reports_keep}
 
 tests_keep : (c : Id) (section : List ℕ) (dead : Bool) → KeepsGood (Test c section dead)
 tests_keep c section dead = commands_keep (Test c section dead) (λ R by at good passed.
-    let (r, found, fits, (inside_passes, _)) = holder_begun R c is_granted passed in
+    let (r, found, fits, rest) = holder_begun R c is_granted passed in
     let w = granted_work R c r good found fits in
-    let fenced = not_refused_true (has_name (clearance_fence R c) section) OutsideFence inside_passes in
+    let fenced = not_refused_true (has_name (clearance_fence R c) section) OutsideFence (search rest) in
     found_edits R c r (λ r. cond dead (PutHold (hold_of c Tested section)) (TakeHold (hold_of c Tested section)) ∷ PutRecord (record r { last = at }) ∷ []) found
     (by_test R good c r found w at section fenced dead))
   where
@@ -46,10 +46,10 @@ tests_keep c section dead = commands_keep (Test c section dead) (λ R by at good
 
 grounds_keep : (c : Id) (section : List ℕ) → KeepsGood (GroundIt c section)
 grounds_keep c section = commands_keep (GroundIt c section) (λ R by at good passed.
-    let (r, found, fits, (inside_passes, _)) = holder_begun R c is_granted passed in
+    let (r, found, fits, rest) = holder_begun R c is_granted passed in
     let w = granted_work R c r good found fits in
     found_edits R c r (λ r. PutHold (hold_of c Ground section) ∷ PutRecord (record r { last = at }) ∷ []) found
-    (hold_put_keeps R good c r found w at Ground section refl (λ _. not_refused_true (has_name (clearance_fence R c) section) OutsideFence inside_passes) (λ is. absurd (false≢true is))))
+    (hold_put_keeps R good c r found w at Ground section refl (λ _. not_refused_true (has_name (clearance_fence R c) section) OutsideFence (search rest)) (λ is. absurd (false≢true is))))
 
 -- what is checked at the work section
 work_check : (R : Register) (c : Id) (r : Record) (w : GrantedWork R c r) (check : List ℕ → Option Refusal) → record_of R.records c ≡ Some r → at_work R c check ≡ None → check w.work ≡ None
@@ -57,19 +57,19 @@ work_check R c r w check found passed = check_of_found r.work w.work check w.has
 
 ungrounds_keep : (c : Id) (section : List ℕ) → KeepsGood (Unground c section)
 ungrounds_keep c section = commands_keep (Unground c section) (λ R by at good passed.
-    let (r, found, fits, (_, (_, (crews_passes, _)))) = holder_begun R c is_granted passed in
+    let (r, found, fits, rest) = holder_begun R c is_granted passed in
     let w = granted_work R c r good found fits in
     found_edits R c r (λ r. TakeHold (hold_of c Ground section) ∷ TakeHold (hold_of c Tested section) ∷ PutRecord (record r { last = at }) ∷ []) found
     (unground_keeps R good c r found w at section (not_refused (same_name w.work section && has_some_hold R.holds c Crew) CrewsOn
-    (work_check R c r w (λ work. refuse (same_name work section && has_some_hold R.holds c Crew) CrewsOn) found crews_passes))))
+    (work_check R c r w (λ work. refuse (same_name work section && has_some_hold R.holds c Crew) CrewsOn) found (search rest)))))
 
 sign_ons_keep : (c : Id) (crew : List ℕ) → KeepsGood (SignOn c crew)
 sign_ons_keep c crew = commands_keep (SignOn c crew) (λ R by at good passed.
-    let (r, found, fits, (_, (ground_passes, _))) = holder_begun R c is_granted passed in
+    let (r, found, fits, rest) = holder_begun R c is_granted passed in
     let w = granted_work R c r good found fits in
     found_edits R c r (λ r. PutHold (hold_of c Crew crew) ∷ PutRecord (record r { last = at }) ∷ []) found
     (hold_put_keeps R good c r found w at Crew crew refl (λ is. absurd (false≢true is)) (λ _. not_refused_true (has_hold R.holds c Ground w.work) NotGrounded
-    (work_check R c r w (λ section. refuse (not (has_hold R.holds c Ground section)) NotGrounded) found ground_passes))))
+    (work_check R c r w (λ section. refuse (not (has_hold R.holds c Ground section)) NotGrounded) found (search rest)))))
 
 sign_offs_keep : (c : Id) (crew : List ℕ) → KeepsGood (SignOff c crew)
 sign_offs_keep c crew = commands_keep (SignOff c crew) (λ R by at good passed.

@@ -10,8 +10,8 @@ use Rattle.clr_rules.proofs.keeps.OneRecord.{found_edits, in_phase_of, record_al
 
 pub grants_keep : (c : Id) → KeepsGood (Grant c)
 grants_keep c = commands_keep (Grant c) (λ R by at good passed.
-    let (r, found, fits, (steps_passes, _)) = role_begun R c is_ordered passed in
-    let done : all_done (of_round (steps_of R.steps c) 1) ≡ true = rw (of_round_is R.steps c 1) (not_refused_true (all_done (steps_in R.steps c 1)) StepsLeft steps_passes) in
+    let (r, found, fits, rest) = role_begun R c is_ordered passed in
+    let done : all_done (of_round (steps_of R.steps c) 1) ≡ true = rw (of_round_is R.steps c 1) (not_refused_true (all_done (steps_in R.steps c 1)) StepsLeft (search rest)) in
     found_edits R c r (λ r. PutRecord (record r { phase = Granted; last = at }) ∷ []) found
     (record_alone R c r (record r { phase = Granted; last = at }) good found (open_where is_ordered refl r.phase fits) refl refl
     (to_granted R.net r.phase r.work (outlook_of R c) (Some (record r { phase = Granted; last = at }))

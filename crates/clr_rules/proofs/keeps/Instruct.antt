@@ -49,14 +49,14 @@ free_where_passed R c p passed d kind at_point has =
 
 pub instructs_keep : (c : Id) (n : ℕ) → KeepsGood (Instruct c n)
 instructs_keep c n = commands_keep (Instruct c n) (λ R by at good passed.
-    let (r, found, fits, (step_passes, (turn_passes, (state_passes, (hand_passes, (hold_passes, _)))))) = role_begun R c is_running passed in
-    let s = step_there R c n step_passes in
-    let turn : is_in_turn (present_steps R.steps c) s.row.ordinal ≡ true = rw s.ordinal (not_refused_true (is_in_turn (present_steps R.steps c) n) OutOfTurn turn_passes) in
-    let waits : is_waiting s.row.step.state ≡ true = state_fits R c n s is_waiting state_passes in
+    let (r, found, fits, rest) = role_begun R c is_running passed in
+    let s = step_there R c n (search rest) in
+    let turn : is_in_turn (present_steps R.steps c) s.row.ordinal ≡ true = rw s.ordinal (not_refused_true (is_in_turn (present_steps R.steps c) n) OutOfTurn (search rest)) in
+    let waits : is_waiting s.row.step.state ≡ true = state_fits R c n s is_waiting (search rest) in
     let hand : other_hand c (hand_of R.states s.row.step.point) ≡ None =
-    check_of_found (step_at (present_steps R.steps c) n) s.row (λ (row : StepRow). other_hand c (hand_of R.states row.step.point)) s.found hand_passes in
+    check_of_found (step_at (present_steps R.steps c) n) s.row (λ (row : StepRow). other_hand c (hand_of R.states row.step.point)) s.found (search rest) in
     let clear : cond (is_close s.row.step.action) (held_by (hindering_hold R.holds c s.row.step.point)) None ≡ None =
-    check_of_found (step_at (present_steps R.steps c) n) s.row (λ (row : StepRow). cond (is_close row.step.action) (held_by (hindering_hold R.holds c row.step.point)) None) s.found hold_passes in
+    check_of_found (step_at (present_steps R.steps c) n) s.row (λ (row : StepRow). cond (is_close row.step.action) (held_by (hindering_hold R.holds c row.step.point)) None) s.found (search rest) in
     let new = step_moved Instructed s.row.step.reader s.row in
     found_step_edits R c n r s.row
     (λ r row. SetHand row.step.point (Some c) ∷ PutRecord (record r { last = at }) ∷ PutStep (step_moved Instructed row.step.reader row) ∷ []) found s.found

@@ -86,8 +86,7 @@ module _ (point from to : List ℕ) (lockable remote : Bool) where
       → GrewWell R (after_edits (edits_of (known_of R (asked by at jumper)).greatest R by at jumper) R)
   jumper_grown R by at good passed =
       let p = new_jumper point from to lockable remote in
-      let (_, (_, (_, (_, (fence_passes, _))))) = passed in
-      both_grown R good p (crosses_no_fence R from to (not_crossed (crossed_by R from to) fence_passes)) (has_name (section_names (Grid.sections R.net)) to)
+      both_grown R good p (crosses_no_fence R from to (not_crossed (crossed_by R from to) (search passed))) (has_name (section_names (Grid.sections R.net)) to)
       (added_edits_fit R good.network p (jumper_can (known_of R (asked by at jumper)) R by at point from to lockable remote passed))
 
   pub jumpers_keep : KeepsGood jumper

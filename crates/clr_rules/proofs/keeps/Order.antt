@@ -237,12 +237,12 @@ requested_bare g _ work v is h = absurd (false≢true is)
 
 pub orders_keep : (c : Id) (points : List (List ℕ)) (tasks : List Task) → KeepsGood (Order c points tasks)
 orders_keep c points tasks = commands_keep (Order c points tasks) (λ R by at good passed.
-    let (r, found, fits, (order_passes, _)) = role_begun R c is_requested passed in
+    let (r, found, fits, rest) = role_begun R c is_requested passed in
     let id : r.id ≡ c = record_id R.records c r found in
     let (work, has_work, bare) = requested_bare R.net r.phase r.work (outlook_of R c) fits (in_phase_of R c r good found) in
     let fence : order_fence R c points ≡ work_fence R.net (Some work) points =
     ap (found_order_fence R.net points) found ∙ ap (λ (o : Option (List ℕ)). work_fence R.net o points) has_work in
-    let sound = order_passed R good.network work points tasks (ap (λ fence. unsound_order R fence points tasks) (sym fence) ∙ order_passes) in
+    let sound = order_passed R good.network work points tasks (ap (λ fence. unsound_order R fence points tasks) (sym fence) ∙ (search rest)) in
     found_edits R c r (λ r. PutRecord (record r { phase = Ordered; last = at }) ∷ put_steps (new_steps c 1 1 tasks)) found
     (subst (λ (d : Id). IsGoodByPhase (after_edits (PutRecord (record r { phase = Ordered; last = at }) ∷ put_steps (new_steps d 1 1 tasks)) R)) id
     (order_keeps R good r (ap (record_of R.records) id ∙ found) at work has_work (subst (λ (d : Id). IsBare (outlook_of R d)) (sym id) bare) (open_where is_requested refl r.phase fits) tasks sound)))

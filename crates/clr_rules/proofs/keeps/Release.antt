@@ -138,8 +138,8 @@ module _ (R : Register) (good : IsGoodByPhase R) (c : Id) (r : Record) (found : 
 
 pub releases_keep : (c : Id) (notified clear : Bool) → KeepsGood (Release c notified clear)
 releases_keep c notified clear = commands_keep (Release c notified clear) (λ R by at good passed.
-    let (r, found, fits, (crews_passes, (grounds_passes, _))) = holder_begun R c is_granted passed in
+    let (r, found, fits, rest) = holder_begun R c is_granted passed in
     let w = granted_work R c r good found fits in
     found_edits R c r (λ r. map (λ place. TakeHold (hold_of c Tested place)) (places_of R.holds c Tested) ++ PutRecord (record r { phase = Released; last = at }) ∷ []) found
-    (release_keeps R good c r found w at (not_refused (has_some_hold R.holds c Crew) CrewsOn crews_passes)
-    (not_refused (has_some_hold R.holds c Ground) Grounded grounds_passes)))
+    (release_keeps R good c r found w at (not_refused (has_some_hold R.holds c Crew) CrewsOn (search rest))
+    (not_refused (has_some_hold R.holds c Ground) Grounded (search rest))))

@@ -64,7 +64,7 @@ repeat_keeps R by at c r row good found runs p active =
 
 pub repeats_keep : (c : Id) (n : ℕ) (text : List ℕ) → KeepsGood (Repeat c n text)
 repeats_keep c n text = commands_keep (Repeat c n text) (λ R by at good passed.
-    let (r, found, fits, (step_passes, (state_passes, _))) = role_begun R c is_running passed in
-    let s = step_there R c n step_passes in
+    let (r, found, fits, rest) = role_begun R c is_running passed in
+    let s = step_there R c n (search rest) in
     found_step_edits R c n r s.row (λ r row. PutRecord (record r { last = at }) ∷ PutStep (step_moved Repeated (Some by) row) ∷ []) found s.found
-    (repeat_keeps R by at c r s.row good found fits s.is_present (state_fits R c n s is_active state_passes)))
+    (repeat_keeps R by at c r s.row good found fits s.is_present (state_fits R c n s is_active (search rest))))

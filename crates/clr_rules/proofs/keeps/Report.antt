@@ -268,9 +268,9 @@ undone_report R good c r found row p active runs at =
 
 pub reports_keep : (c : Id) (n : ℕ) (done : Bool) → KeepsGood (Report c n done)
 reports_keep c n done = commands_keep (Report c n done) (λ R by at good passed.
-    let (r, found, runs, (step_passes, (state_passes, _))) = role_begun R c is_running passed in
-    let s = step_there R c n step_passes in
-    let active = repeated_is_active s.row.step.state (state_fits R c n s is_repeated state_passes) in
+    let (r, found, runs, rest) = role_begun R c is_running passed in
+    let s = step_there R c n (search rest) in
+    let active = repeated_is_active s.row.step.state (state_fits R c n s is_repeated (search rest)) in
     found_step_edits R c n r s.row (λ r row. cond done (done_edits R at r row) (undone_edits at r row)) found s.found
     (by_report R good c r found s.row s.is_present active runs at done))
   where

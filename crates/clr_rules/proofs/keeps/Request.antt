@@ -57,7 +57,6 @@ request_keeps R by at section good known not_operator =
 
 pub requests_keep : (section : List ℕ) → KeepsGood (Request section)
 requests_keep section = commands_keep (Request section) (λ R by at good passed.
-    let (caller_passes, (role_passes, (section_passes, _))) = passed in
-    let (row, found, charge) = caller_role R by is_charge caller_passes role_passes in
-    request_keeps R by at section good (not_refused_true (has_name (section_names (Grid.sections R.net)) section) UnknownSection section_passes)
+    let (row, found, charge) = caller_role R by is_charge (search passed) (search passed) in
+    request_keeps R by at section good (not_refused_true (has_name (section_names (Grid.sections R.net)) section) UnknownSection (search passed))
     (ap (has_role is_operator) found ∙ charge_operates_not row.role charge))

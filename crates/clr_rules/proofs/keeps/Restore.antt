@@ -166,12 +166,12 @@ module _ (R : Register) (r : Record) (at : ℕ) (tasks : List Task) (good : IsGo
 
 pub restores_keep : (c : Id) (tasks : List Task) → KeepsGood (Restore c tasks)
 restores_keep c tasks = commands_keep (Restore c tasks) (λ R by at good passed.
-    let (r, found, fits, (order_passes, _)) = role_begun R c is_released passed in
+    let (r, found, fits, rest) = role_begun R c is_released passed in
     let own : r.id ≡ c = record_id R.records c r found in
     let unclosed = open_where is_released refl r.phase fits in
     let (work, work_is, h) = released R.net r.phase r.work (outlook_of R c) fits (in_phase_of R c r good found) in
     found_edits R c r (λ r. PutRecord (record r { phase = Restoring; last = at }) ∷ put_steps (new_steps c 2 1 tasks)) found
     (subst (λ (d : Id). IsGoodByPhase (after_edits (PutRecord (record r { phase = Restoring; last = at }) ∷ put_steps (new_steps d 2 1 tasks)) R)) own
     (restore_keeps R r at tasks good work (subst (λ (d : Id). InReleased R.net work (outlook_of R d)) (sym own) h)
-    (subst (λ (d : Id). IsRestoring (held_among R.holds d (points_of (steps_in R.steps d 1))) tasks) (sym own) (restoring_passed R c tasks order_passes))
+    (subst (λ (d : Id). IsRestoring (held_among R.holds d (points_of (steps_in R.steps d 1))) tasks) (sym own) (restoring_passed R c tasks (search rest)))
     (good.points_known.steps r.id r (ap (record_of R.records) own ∙ found) unclosed) (ap (record_of R.records) own ∙ found) unclosed work_is)))

@@ -61,6 +61,5 @@ module _ (R : Register) (by : List ℕ) (at : ℕ) (tasks : List Task) (good : I
 
 pub switches_keep : (tasks : List Task) → KeepsGood (Switch tasks)
 switches_keep tasks = commands_keep (Switch tasks) (λ R by at good passed.
-    let (caller_passes, (role_passes, (_, (order_passes, _)))) = passed in
-    let (row, found, operates) = caller_role R by is_operator caller_passes role_passes in
-    switch_keeps R by at tasks good (ap (has_role is_operator) found ∙ operates) (switching_passed R tasks order_passes))
+    let (row, found, operates) = caller_role R by is_operator (search passed) (search passed) in
+    switch_keeps R by at tasks good (ap (has_role is_operator) found ∙ operates) (switching_passed R tasks (search passed)))

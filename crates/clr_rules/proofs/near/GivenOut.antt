@@ -151,10 +151,10 @@ module _ (R : Register) (good : IsGoodAsSaid R) (switch : OnlySwitchOrdersSwitch
 
   same_point : first_refusal (early R) ≡ None → at_point R ≡ at_point (near_part R given)
   same_point h =
-      let (r, read, runs, (step_passes, (_, (state_passes, _)))) = role_begun R c is_running (all_pass (early R) h) in
-      let s = step_there R c n step_passes in
+      let (r, read, runs, rest) = role_begun R c is_running (all_pass (early R) h) in
+      let s = step_there R c n (search rest) in
       point_checks s.row s.found
-      (point_beside R good switch c n r read runs s (state_fits R c n s is_waiting state_passes))
+      (point_beside R good switch c n r read runs s (state_fits R c n s is_waiting (search rest)))
 
   same_refusal : first_refusal (checks (known_of R given) R by at (Instruct c n)) ≡ first_refusal (checks (known_of R given) (near_part R given) by at (Instruct c n))
   same_refusal = first_after (early R) (at_point R) (at_point (near_part R given)) (λ h. ap first_refusal (same_point h))

@@ -82,19 +82,17 @@ module _ (R : Register) (staffed : IsStaffed R) (good : IsGoodByPhase R) (k : Kn
       → (holder : List ℕ) → IsHeldBy c r kind holder → has_role (fits_holder r.work) (employee R.staff holder) ≡ true
   holder_fits c r found kind named no_show passed _ same = staffed.holders c r found (named_is_open k R by at kind no_show passed c named r found)
   holder_fits c r found _ named no_show passed _ (handed_on to emergency) =
-      let (_, (_, (_, (_, (phase_passes, (to_passes, _)))))) = passed in
-      let (w, is) = has_work R.net r.phase r.work (outlook_of R c) (phase_fits R c r is_transferable found phase_passes) (in_phase_of R c r good found) in
+      let (w, is) = has_work R.net r.phase r.work (outlook_of R c) (phase_fits R c r is_transferable found (search passed)) (in_phase_of R c r good found) in
       let charge = not_or (is_in_charge (employee R.staff to)) (same_name to r.holder)
       (not_refused (not (is_in_charge (employee R.staff to)) || same_name to r.holder) BadTransfer
-      (check_of_found (record_of R.records c) r (λ (r : Record). refuse (not (is_in_charge (employee R.staff to)) || same_name to r.holder) BadTransfer) found to_passes)) in
+      (check_of_found (record_of R.records c) r (λ (r : Record). refuse (not (is_in_charge (employee R.staff to)) || same_name to r.holder) BadTransfer) found (search passed))) in
       subst (λ (work : Option (List ℕ)). has_role (fits_holder work) (employee R.staff to) ≡ true) (sym is) charge
 
   came_restoring : (c : Id) (r : Record) (holder : List ℕ) → record_of R.records c ≡ Some r → (kind : Kind) → Pass (checks k R by at kind) → (phase : Phase) → ComesTo R c r kind phase
       → is_restoring phase ≡ true → CameRestoring R kind (record r { holder = holder; phase = phase; last = at })
   came_restoring c r holder found kind passed _ stays is = inl (r, ap (record_of R.records) (record_id R.records c r found) ∙ found, is)
   came_restoring c r holder found _ passed _ (restored tasks fits) is =
-      let (_, (_, (_, (_, (_, (order_passes, _)))))) = passed in
-      inr (tasks, ap (λ (d : Id). kinds.Restore d tasks) (sym (record_id R.records c r found)), (restoring_passed R c tasks order_passes).some_step)
+      inr (tasks, ap (λ (d : Id). kinds.Restore d tasks) (sym (record_id R.records c r found)), (restoring_passed R c tasks (search passed)).some_step)
   came_restoring c r holder found kind passed _ _ is = absurd (false≢true is)
 
   record_well : (kind : Kind) → Pass (checks k R by at kind) → (s : Record) → RecordPut k R by at kind s → PutWell R kind s
@@ -117,9 +115,8 @@ module _ (R : Register) (staffed : IsStaffed R) (good : IsGoodByPhase R) (k : Kn
       → (action : Action) (state : StepState) (reader : Option (List ℕ)) → Moves by c n row kind action state reader → (is_done state ≡ false) ⊎ (reports_done kind ≡ true)
   done_by_report c n row step _ passed _ _ _ done = inr refl
   done_by_report c n row step _ passed _ _ _ amended =
-      let (_, (_, (_, (_, (_, (_, (close_passes, _))))))) = passed in
       let waits = not_refused_true (is_waiting row.step.state && is_close row.step.action) WrongState
-      (check_of_found (step_at (present_steps R.steps c) n) row (λ (row : StepRow). refuse (not (is_waiting row.step.state && is_close row.step.action)) WrongState) step close_passes) in
+      (check_of_found (step_at (present_steps R.steps c) n) row (λ (row : StepRow). refuse (not (is_waiting row.step.state && is_close row.step.action)) WrongState) step (search passed)) in
       inl (waiting_not_done row.step.state (and_parts (is_waiting row.step.state) (is_close row.step.action) waits).0)
   done_by_report c n row step _ passed _ _ _ _ = inl refl
 
