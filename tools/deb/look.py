@@ -3,6 +3,7 @@
 import calendar
 import hashlib
 import io
+import json
 import lzma
 import os
 import pathlib
@@ -13,7 +14,7 @@ import tempfile
 import time
 
 TOP = pathlib.Path(__file__).resolve().parent.parent.parent
-PROGRAMS = {"usr/bin/gridclear", "usr/sbin/gridclear-setup", *(f"usr/lib/gridclear/{name}" for name in ("serve", "pause", "finish", "verify", "forward", "log", "backup", "follow", "desk-conf"))}
+PROGRAMS = {"usr/bin/gridclear", "usr/sbin/gridclear-setup", *(f"usr/lib/gridclear/{name}" for name in ("serve", "wait", "pause", "finish", "verify", "forward", "log", "backup", "follow", "keeping", "near", "desk-conf"))}
 CONFIGURATION = {"etc/gridclear/gridclear.conf", "etc/logrotate.d/gridclear"}
 SCRIPTS = {"preinst", "postinst", "prerm", "postrm"}
 CONTROL = {"control", "conffiles", "md5sums", *SCRIPTS}
@@ -141,19 +142,83 @@ def words(tree, tally):
 
 
 def pauses(program, place, tally):
-    """How long the register waits: one fault after another, after some minutes, and after it was stopped."""
+    """How long the register waits: one fault after another, after a minute, after a kill, and after it was stopped."""
     def after(result, minutes=0):
         begun = time.time() - 60 * minutes
         (place / "begun").touch()
         os.utime(place / "begun", (begun, begun))
         status, out = run("sh", str(program), env=os.environ | {"RUNTIME_DIRECTORY": str(place), "SERVICE_RESULT": result})
         found = (place / "pause").read_text() if (place / "pause").exists() else "none\n"
-        return found.strip() if (status, out) == (0, "") else out
+        return found.split()[0] if (status, out) == (0, "") else out
 
-    found = [after("exit-code") for _ in range(9)]
-    tally.check("a pause is twice the one before, up to 60 seconds", found == "1 2 4 8 16 32 60 60 60".split(), found)
-    found = [after("exit-code", 4), after("exit-code", 6), after("signal"), after("success"), after("exit-code")]
-    tally.check("after 5 minutes, and after a stop, it is short again", found == "60 1 2 none 1".split(), found)
+    found = [after("exit-code") for _ in range(6)]
+    tally.check("a pause is twice the one before, up to 8 seconds", found == "1 2 4 8 8 8".split(), found)
+    found = [after("signal"), after("signal"), after("exit-code"), after("exit-code"), after("exit-code"), after("signal")]
+    tally.check("a kill after a full disk's faults, and a fault after a kill, wait a second", found == "1 2 1 2 4 1".split(), found)
+    found = [after("exit-code"), after("exit-code"), after("exit-code", 2), after("exit-code"), after("success"), after("exit-code")]
+    tally.check("after a minute, and after a stop, it is short again", found == "1 2 1 2 none 1".split(), found)
+    found = run("sh", str(program.parent / "wait"), env=os.environ | {"RUNTIME_DIRECTORY": str(place)})
+    tally.check("the start says how long it waits, and why", found == (0, "this start waits 1 s after the last end (exit-code); systemctl restart gridclear does not\n"), found)
+
+
+def keepings(program, place, tally):
+    """What the page is given of standby, backup and disk: by the script over a folder without a register."""
+    backups, own = place / "backups", place / "own"
+    for one in (backups, own):
+        one.mkdir()
+    script = place / "keeping"
+    script.write_text(program.read_text().replace("/var/backups/gridclear/register", str(backups)))
+
+    def rows():
+        status, out = run("sh", str(script), cwd=own, env=os.environ | {"RUNTIME_DIRECTORY": str(place)})
+        found = json.loads((place / "keeping.json").read_text()) if (status, out) == (0, "") else {"written": 0, "rows": []}
+        tally.check("it was written just now, whole", abs(found["written"] - time.time()) < 10 and {tuple(one) for one in found["rows"]} == {("what", "at", "limit", "says", "alarm")}, out)
+        return {one["what"]: one for one in found["rows"]}
+
+    found = rows()
+    tally.check("a fresh register: no standby, no backup yet, its disk", list(found) == ["backup", "disk"] and (found["backup"]["at"], found["backup"]["says"], found["backup"]["alarm"]) == (None, "none yet", False), found)
+    tally.check("the disk's room", re.fullmatch(r"[0-9.]+ [GM]B free of [0-9.]+ [GM]B( for backups)?", found["disk"]["says"]) and abs(found["disk"]["at"] - time.time()) < 10 and found["disk"]["limit"] == 600, found)
+    (own / "began.db").write_text("")
+    os.utime(own / "began.db", (1, 1))
+    tally.check("no backup of an old register is an alarm", rows()["backup"]["alarm"])
+    copy = backups / "2026-12-01T023012.123Z"
+    copy.mkdir()
+    (copy / "verified").write_text("verify: the journal does not begin with the three files here\nverified 27 commands\n")
+    os.utime(copy / "verified", (1796000000, 1796000000))
+    wanted = {"what": "backup", "at": 1796000000, "limit": 93600, "says": "verified 27 commands", "alarm": False}
+    found = rows()["backup"]
+    tally.check("the last backup", found == wanted, found)
+    (copy / "verified").write_text("verified 27 commands\nmade from the journal\n")
+    found = rows()["backup"]
+    tally.check("one that was made from the journal is an alarm", found["alarm"] and found["says"] == "verified 27 commands, made from the journal: look at the register", found)
+    (backups / "failed").write_text('no copy could be "verified"\nmore\n')
+    found = rows()["backup"]
+    tally.check("so is one that failed", found["alarm"] and found["says"] == "the last one failed: no copy could be verified", found)
+    for text, says, alarm in (("1234\n3\n", "has line 1234", False), ("", "followed does not read", True), ("12x\n1\n", "followed does not read", True), ("12\n", "followed does not read", True)):
+        (own / "followed").write_text(text)
+        os.utime(own / "followed", (1796000000, 1796000000))
+        found = rows()["standby"]
+        tally.check(f"a standby that left {text!r}", found == {"what": "standby", "at": None if alarm else 1795999997, "limit": 60, "says": says, "alarm": alarm}, found)
+
+
+def nears(program, place, tally):
+    """What an update turns live or dead, and which records are near: a bus B with feeders, of which one has a clearance."""
+    def network(rows, live):
+        points = ",".join(f'{{"from":"{a}","hand":null,"holds":[{{"by":"KIM/1","kind":"Tag"}}],"jumper":false,"lockable":true,"point":"{name}","position":"closed","remote":false,"to":"{b}"}}' for name, a, b in rows)
+        sections = ",".join(f'{{"holds":[{{"by":"KIM/1","kind":"Ground"}}],"live":{"true" if one in live else "false"},"section":"{one}","source":false}}' for one in "BCDEF")
+        return f'{{"points":[{points}],"sections":[{sections}],"staff":[]}}'
+
+    before = [("P1", "B", "C"), ("P2", "C", "D"), ("P3", "B", "E"), ("P4", "E", "F")]
+    (place / "before").write_text(network(before, "BCDE"))
+    (place / "after").write_text(network([("P1", "B", "C"), ("P2", "C", "D"), ("P3", "B", "E"), ("P4", "D", "F")], "BCDF"))
+    (place / "changes").write_text("point P4: from D, was E\nemployee REED goes\n")
+    view = '{"reply":"shown","view":{"card":{"clearance":"%s","done":1,"holder":"%s","phase":"%s","round":1,"steps":1},"crews":%s,"fence":%s,"holds":[],"points":[],"steps":[{"reader":"REED","state":"Done","text":"OPEN %s"}],"work":%s}}\n'
+    (place / "views").write_text(view % ("KIM/1", "KIM", "Granted", '["C1","C2"]', '["D"]', "P2", '"D"') + view % ("JONES/1", "JONES", "Ordered", "[]", '["B"]', "P1", '"B"')
+                                 + view % ("OPS/1", "OPS", "Switching", "[]", "[]", "P4", "null") + view % ("REED/1", "REED", "Requested", "[]", "[]", "P9", '"Z"'))
+    status, out = run("sh", str(program), *(str(place / name) for name in ("before", "after", "changes", "views")))
+    wanted = ["section E turns dead", "section F turns live", "near KIM/1 (Granted, work at D, crews on: C1 C2): point P4, section F", "near JONES/1 (Ordered, work at B): point P4, section E",
+              "near OPS/1 (Switching): point P4", "near REED/1 (Requested, work at Z): employee REED"]
+    tally.check("what turns, and the records near", status == 0 and out.splitlines() == wanted, out)
 
 
 def parts(setup, place, tally):
@@ -195,5 +260,9 @@ def look(deb, folder, tally):
     words(folder, tally)
     with tempfile.TemporaryDirectory(prefix="pauses-") as place:
         pauses(folder / "usr/lib/gridclear/pause", pathlib.Path(place), tally)
+    with tempfile.TemporaryDirectory(prefix="keepings-") as place:
+        keepings(folder / "usr/lib/gridclear/keeping", pathlib.Path(place), tally)
+    with tempfile.TemporaryDirectory(prefix="nears-") as place:
+        nears(folder / "usr/lib/gridclear/near", pathlib.Path(place), tally)
     with tempfile.TemporaryDirectory(prefix="parts-") as place:
         parts(folder / "usr/sbin/gridclear-setup", pathlib.Path(place), tally)

@@ -35,3 +35,10 @@ test("once nothing was there it was started again", async () => {
   await asked(board);
   assert.equal(contact.refused, null);
 });
+
+test("what the proxy says in words, where no register is there, is shown", async () => {
+  const words = "502: no register answers. After a fault it starts again by itself";
+  const answer = await asked(() => new Response(`${words}\n`, { status: 502, headers: { "Content-Type": "text/plain; charset=utf-8" } }));
+  assert.deepEqual([answer.kind, answer.status, answer.why], ["lost", 502, `the proxy said ${words}`]);
+  assert.equal((await asked(() => html(504, "504 Gateway Time-out"))).why, "the proxy said 504, Gateway Time-out");
+});

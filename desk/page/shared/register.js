@@ -95,6 +95,7 @@ function judged(status, type, text) {
   const printed = status === 200 && type.includes("text/plain");
   if (printed || body?.reply || body?.fault || body?.sections) return { kind: "answered", status, body };
   if (status >= 400 && status < 500) return { kind: "barred", status };
+  if (type.includes("text/plain")) return { kind: "lost", status, why: `the proxy said ${text.trim()}` };
   return { kind: "lost", status, why: `the proxy said ${status}${text.includes("<title>") ? titleOf(text) : ""}` };
 }
 
