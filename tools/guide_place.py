@@ -24,7 +24,7 @@ STANDINS = {
                  'echo "$1" > ask.new; mv ask.new ask; for _ in $(seq 600); do [ -e ask ] || exit 0; sleep 0.05; done; exit 1',
 }
 # The package's programs, which run here as the caller, over the folder in which the lines run.
-PROGRAMS = ("gridclear-setup", "serve", "finish", "verify", "forward", "log", "follow", "backup")
+PROGRAMS = ("gridclear-setup", "serve", "finish", "verify", "forward", "log", "follow", "backup", "near")
 USERS = f"printf '{LOGIN[0]}:%s\\n' \"$(openssl passwd -6)\" > /etc/gridclear/users\n"
 
 

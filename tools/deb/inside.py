@@ -233,7 +233,7 @@ def meanwhile(root, tally):
     tally.check("while another call is under way it does nothing", status == 1 and "another call is under way" in out and not list(root.path(DATA).glob("journal-2*Z")), out)
     status, out = root.run(f"(flock /{BACKUPS} sleep 2 &); sleep 0.5; cd /{DATA}; runuser -u gridclear -- /usr/lib/gridclear/backup")
     tally.check("a second backup does nothing meanwhile", status == 1 and "another backup is under way" in out, out)
-    status, out = root.run("systemctl stop gridclear; touch /run/gridclear.activating; sleep 3; gridclear-setup --update; s=$?; rm /run/gridclear.activating; sleep 1; exit $s")
+    status, out = root.run("systemctl stop gridclear; touch /run/gridclear.activating; sleep 3; gridclear-setup --update --yes; s=$?; rm /run/gridclear.activating; sleep 1; exit $s")
     tally.check("a register that waits for its next start is started", status == 0 and root.curl("/board", port=8080)[0] == "200", out)
 
 
@@ -278,14 +278,17 @@ def update(root, tally):
     root.run("gridclear-setup --login DAY KIM DALE; systemctl restart gridclear gridclear-desk", "a word\n")
     (network / "points.csv").write_text(was["points"].replace("S2,L1,L2,yes", "S2,L1,L2,no"))
     before = root.run("curl -s http://127.0.0.1:8080/board")[1]
-    status, out = root.run("gridclear-setup --update; s=$?; sleep 1; exit $s")
-    tally.check("a point of a crew's fence stays", status == 1 and "fault: update Point S2 by JONES/1" in out, out)
+    pid = root.path("run/gridclear.pid").read_text()
+    status, out = root.run("gridclear-setup --update --yes; s=$?; sleep 1; exit $s")
+    tally.check("a point of a crew's fence stays", status == 1 and "fault: update Point S2 by JONES/1" in out and "nothing was done" in out, out)
     tally.check("and the register is served as before", before and root.run("curl -s http://127.0.0.1:8080/board")[1] == before, before)
+    asked(root, tally, network, was)
+    tally.check("none of these stopped it", root.path("run/gridclear.pid").read_text() == pid and root.run("curl -s http://127.0.0.1:8080/board")[1] == before and not list(root.path(DATA).glob("looked-at*")), before)
     (network / "sections.csv").write_text(was["sections"] + "L4,no\n")
     (network / "points.csv").write_text(was["points"].replace("S1,G,L1,yes,no,closed", "S1,G,L1,yes,no,open") + "S5,L1,L4,yes,no,open\n")
     (network / "staff.csv").write_text(was["staff"].replace("DALE,field,\n", "") + "ADA,charge,\n")
     begun = time.monotonic()
-    status, out = root.run("gridclear-setup --update")
+    status, out = root.run("gridclear-setup --update", "yes\n")
     took = time.monotonic() - begun
     lines = ("section L4 comes", "point S5 comes", "employee DALE goes", "employee ADA comes", "look: DALE is gone")
     tally.check("what changes is printed", status == 0 and all(line in out for line in lines), out)
@@ -305,20 +308,54 @@ def update(root, tally):
     status, out = root.run("rm -f /run/gridclear-backup.out; sleep 1; systemctl start gridclear-backup; s=$?; cat /run/gridclear-backup.out; exit $s")
     tally.check("so does a backup", status == 0 and "verified " in out and "made from the journal" not in out, out)
     status, out = root.run("gridclear-setup --update")
-    tally.check("given again it changes nothing", status == 0 and root.path(f"{DATA}/journal").read_text().count('"updated":') == 1, out)
+    tally.check("given again it changes nothing, and asks nothing", status == 0 and "nothing changes" in out and root.path(f"{DATA}/journal").read_text().count('"updated":') == 1, out)
     archived(root, tally)
+    cut(root, tally, network)
     for name, text in was.items():
         (network / f"{name}.csv").write_text(text)
-    status, out = root.run("gridclear-setup --update")
+    status, out = root.run("gridclear-setup --update --yes")
     tally.check("and back", "employee DALE comes" in out or "fault: update Employee ADA" in out, out)
     (network / "staff.csv").write_text(was["staff"] + "ADA,charge,\nEVE,field,\n")
     (network / "sections.csv").write_text(was["sections"] + "L4,no\n")
     (network / "points.csv").write_text(was["points"] + "S5,L1,L4,yes,no,open\n")
-    status, out = root.run("gridclear-setup --update")
+    status, out = root.run("gridclear-setup --update --yes")
     tally.check("once more", status == 0 and "employee EVE comes" in out, out)
     for name, text in was.items():
         (network / f"{name}.csv").write_text(text)
     root.run("rm -f /etc/gridclear/users /etc/gridclear/logins.csv; systemctl restart gridclear gridclear-desk")
+
+
+def asked(root, tally, network, was):
+    """What an update would do is shown, by a copy, and somebody is asked."""
+    (network / "points.csv").write_text(was["points"].replace("S1,G,L1,yes,no,closed\n", "") + "S5,L1,L4,yes,no,open\n")
+    (network / "sections.csv").write_text(was["sections"] + "L4,yes\n")
+    for answer in ("no\n", ""):
+        status, out = root.run("gridclear-setup --update", answer)
+        shown = ("point S1 goes", "section L1 turns dead", "section L4 turns live", "near JONES/1 (Granted, work at L2, crews on: C1): ", "Carry this out?")
+        tally.check(f"an update is shown, with what is near, and asked about: {answer.strip() or 'no answer'}", status == 1 and all(line in out for line in shown) and "nothing was done" in out, out)
+    near = next((line for line in out.splitlines() if line.startswith("near JONES/1")), "")
+    tally.check("near is what touches the fence, or a section beside it", all(f" {one}" in near for one in ("point S1", "point S5", "section L1", "section L4")) and "H" not in near.split("): ")[-1], near)
+    (network / "points.csv").write_text(was["points"])
+    status, out = root.run("gridclear-setup --check; gridclear-setup --check --names | grep -c 'differ by one letter$'")
+    tally.check("pairs of names are counted, and listed with --names", "look: pairs of names that differ by one letter: 2;" in out and out.splitlines()[-1] == "2" and "look: employee KIM may hold" in out, out)
+    tally.check("--names goes with --check alone", root.run("gridclear-setup --names")[0] == 2)
+
+
+def cut(root, tally, network):
+    """An update that was cut off once its line was written: the same line, given again, does the rest."""
+    board = root.run("curl -s http://127.0.0.1:8080/board")[1]
+    tally.check("there is a jumper", "JUMPER J1 " in board, board)
+    staff = (network / "staff.csv").read_text()
+    (network / "staff.csv").write_text(staff.replace("ADA,charge,\n", "EVE,charge,\n"))
+    three = " ".join(f"/{ETC}/network/{name}.csv" for name in ("sections", "points", "staff"))
+    status, out = root.run(f"systemctl stop gridclear; cd /{DATA}; runuser -u gridclear -- gridclear update room.db {three} --journal journal --without J1 && ! systemctl start gridclear")
+    tally.check("after a cut the login of who has left keeps the register from starting", status == 0 and "point J1 goes" in out, out)
+    status, out = root.run("gridclear-setup --update --yes --without J9")
+    tally.check("a jumper that never was is refused", status == 1 and "NoJumper J9" in out and "nothing was done" in out, out)
+    status, out = root.run("touch /run/gridclear.activating; gridclear-setup --update --without J1; s=$?; rm /run/gridclear.activating; sleep 1; exit $s")
+    tally.check("the same line does the rest", status == 0 and "jumper J1 is out already" in out and "look: ADA is gone" in out, out)
+    tally.check("and the register is served", root.curl("/board", port=8080)[0] == "200" and root.run("gridclear-setup --login EVE EVE", "a word\n")[0] == 0, out)
+    (network / "staff.csv").write_text(staff)
 
 
 def archived(root, tally):
