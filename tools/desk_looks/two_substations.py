@@ -59,7 +59,13 @@ ordered, granted, released, switch = TWO.ordered, TWO.granted, TWO.released, TWO
 
 
 def shift():
-    """In the middle of a shift: three clearances granted, two of them with a crew on, one ordered with a step that is out."""
+    """In the middle of a shift: four clearances granted, three of them with a crew on, one ordered with a step that is out."""
     return [*granted("OWENS", "SOU-3D", ["S334", "TS34"], ["C1"]), *granted("JONES", "LINE-13", ["L1213", "L-SOU"], ["C2"]),
-            *granted("KIM", "NOR-1C", ["N123", "N134"]), *ordered("LEE", "NOR-2D", ["N234", "TN12"]),
-            *step("LEE/1", 1, "OPEN N234"), *step("LEE/1", 2, "OPEN TN12", "instruct")]
+            *granted("KIM", "NOR-1C", ["N123", "N134"]), *granted("BOSS", "NOR-1D", ["N134", "TN12"], ["C3"]),
+            *ordered("LEE", "NOR-2D", ["N234", "TN12"]), *step("LEE/1", 1, "OPEN N234"), *step("LEE/1", 2, "OPEN TN12", "instruct")]
+
+
+# What the diagram has to say of it: the letters of each owner at a point, and the words of a section's state.
+LETTERS = {"S334": ["O B T"], "TS34": ["O B T"], "L1213": ["O B T"], "L-SOU": ["O B T"], "N123": ["O B T"], "N134": ["O B T", "O B T"],
+           "TN12": ["O B T", "hand"], "N234": ["O"]}
+WORDS = {"SOU-3D": "Granted, grounded", "LINE-13": "Granted, grounded", "NOR-1D": "Granted, grounded", "NOR-1C": "Granted", "NOR-2D": "Ordered"}

@@ -7,7 +7,7 @@ const ASIDE = 2; // what a way aside costs, against one in the direction
 export class Roving {
   #places; #groups; #reveal; #stop = null;
 
-  // `places` has name: { x, y }, `groups` name: { group }; `reveal(place)` brings one into view.
+  // `places` has name: { x, y }, `groups` name: group; `reveal(place)` brings one into view.
   constructor(places, groups, reveal) {
     this.#places = places;
     this.#groups = groups;
@@ -20,7 +20,7 @@ export class Roving {
 
   // The stop is this one; while the focus is on one, it stays there.
   begin(name) {
-    if (this.#groups.get(this.#stop)?.group.contains(document.activeElement)) return;
+    if (this.#groups.get(this.#stop)?.contains(document.activeElement)) return;
     this.#put(name);
   }
 
@@ -35,10 +35,10 @@ export class Roving {
   }
 
   #put(name) {
-    const old = this.#groups.get(this.#stop)?.group;
+    const old = this.#groups.get(this.#stop);
     this.#stop = name;
     if (old?.hasAttribute("tabindex")) old.setAttribute("tabindex", "-1");
-    const group = this.#groups.get(name)?.group;
+    const group = this.#groups.get(name);
     if (group?.hasAttribute("tabindex")) group.setAttribute("tabindex", "0");
   }
 
@@ -60,7 +60,7 @@ export class Roving {
     if (!next) return Boolean(way);
     this.#put(next);
     this.#reveal(this.#places.get(next));
-    this.#groups.get(next).group.focus({ preventScroll: true });
+    this.#groups.get(next).focus({ preventScroll: true });
     return true;
   }
 

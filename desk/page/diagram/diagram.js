@@ -14,6 +14,8 @@ import { Zoom } from "./zoom.js";
 export const MOST_DRAWN = 1000;
 const MOVES = [["←", "To the left", -160, 0], ["→", "To the right", 160, 0], ["↑", "Up", 0, -160], ["↓", "Down", 0, 160]];
 const FLASH = "M5,-11L1.5,-4.5H4L2.5,1L7.5,-6.5H5L6.5,-11Z"; // at the left upper edge of a section's box
+const GROUND = "M0,0V3M-7,3H7M-4.5,6H4.5M-2,9H2";            // below a section's box
+const TAG = "M8,0L12,-5H20V5H12ZM13,-1a1,1 0 1 0 0.1,0";     // on a point's line
 const KEYS = "Plus and minus zoom, arrows move it, 0 shows all. The points are also listed under Points.";
 const BY_KEYS = "By keys: Tab into the diagram, arrows from one to the next, Space picks.";
 
@@ -27,13 +29,14 @@ function pointTitle(state) {
   ].filter(Boolean).join("\n");
 }
 
-// Closed is full, open is hollow with a gap.
-function pointSymbol(state, picked, found) {
+// Closed is full, open is hollow with a gap; a tag hangs on the line, whichever way that leads.
+function pointSymbol({ position, holds }, picked, found) {
   const parts = [svg("rect", { class: "hit", x: -16, y: -16, width: 32, height: 32 })];
   if (found) parts.push(svg("circle", { class: "found", r: 17 }));
   if (picked) parts.push(svg("rect", { class: "ring", x: -12, y: -12, width: 24, height: 24, rx: 4 }));
   parts.push(svg("rect", { class: "box", x: -7, y: -7, width: 14, height: 14 }));
-  if (state.position === "open") parts.push(svg("path", { class: "gap", d: "M-4,4L4,-4" }));
+  if (position === "open") parts.push(svg("path", { class: "gap", d: "M-4,4L4,-4" }));
+  if (holds.some(({ kind }) => kind === "Tag")) parts.push(svg("path", { class: "tag", d: TAG }));
   return parts;
 }
 
@@ -44,24 +47,21 @@ function sectionTitle(section, marks, fenced) {
     ...marks.filter(({ kind }) => kind !== "dead").map(({ text }) => text)].filter(Boolean).join("\n");
 }
 
-// A live section has a filled box with a flash in it; the box of a dead one is empty, and its border is broken.
-function sectionParts(spot, section, marks, fenced, found) {
-  const { width } = spot, top = -BOX / 2;
+// A live section has a filled box with a flash in it; the box of a dead one is empty, and its border is broken. What is
+// grounded has that sign, a source its own at the side from which no line comes.
+function sectionParts({ width, feed }, section, marks, { fenced, found, picked }) {
+  const top = -BOX / 2, ring = (name, out) => svg("rect", { class: name, x: -out, y: top - out, width: width + 2 * out, height: BOX + 2 * out, rx: out + 2 });
   return [
     svg("title", {}, sectionTitle(section, marks, fenced)),
-    section.source ? svg("g", { class: "feed" },
+    section.source ? svg("g", { class: "feed", transform: feed > 0 ? `translate(${width},0) scale(-1,1)` : null },
       svg("circle", { cx: -16, cy: 0, r: 11 }), svg("path", { d: "M-22,1c3,-7 5,-7 6,-1s4,6 6,-1" }), svg("path", { d: "M-5,0H0" })) : null,
-    found ? svg("rect", { class: "found", x: -7, y: top - 7, width: width + 14, height: BOX + 14, rx: 9 }) : null,
+    found ? ring("found", 7) : null,
+    picked ? ring("ring", 5) : null,
     svg("rect", { class: "box", x: 0, y: top, width, height: BOX, rx: 4 }),
     fenced ? svg("rect", { class: "hatch", x: 0, y: top, width, height: BOX, rx: 4, fill: "url(#hatch)" }) : null,
     section.live ? svg("path", { class: "flash", d: FLASH }) : null,
+    section.holds.some(({ kind }) => kind === "Ground") ? svg("path", { class: "ground", d: GROUND, transform: `translate(${width - 9},${-top})` }) : null,
   ].filter(Boolean);
-}
-
-function hatch() {
-  return svg("defs", {},
-    svg("pattern", { id: "hatch", width: 8, height: 8, patternUnits: "userSpaceOnUse", patternTransform: "rotate(45)" },
-      svg("path", { d: "M0,0V8", class: "stroke" })));
 }
 
 // Where a press or a key on a point or section leads to, as long as it was no drag; `moves(event)` is whether a key moved on.
@@ -82,9 +82,9 @@ function pressable(group, does, moves) {
 }
 
 export class Diagram {
-  #network; #plan; #zoom; #frame; #writing; #points = new Map(); #sections = new Map(); #keys = new Map(); #roving;
-  #picking = null; #press; #found = new Set(); #finding = el("span", { class: "hint", role: "status" }); #last = null;
-  #dead = el("p", { class: "hint", "data-name": "dead" }); #byKeys = el("p", { class: "hint by-keys" });
+  #network; #plan; #zoom; #frame; #writing; #groups = { section: new Map(), point: new Map() }; #keys = new Map(); #roving;
+  #picking = null; #press; #shown = new Set(); #found = new Set(); #finding = el("span", { class: "hint", role: "status" }); #last = null;
+  #dead = el("p", { class: "hint", "data-name": "dead" }); #byKeys = el("p", { class: "hint by-keys" }); #inFull = el("p", { class: "in-full", role: "status" });
   node;
 
   // `press(kind, name)` is called where nothing is being picked.
@@ -94,9 +94,9 @@ export class Diagram {
     this.#plan = layOut(network);
     this.#writing = new Writing(network, this.#plan);
     const drawing = this.#draw();
-    this.#frame = el("div", { class: "net", tabindex: 0, role: "group", "aria-label": `One-line diagram. ${KEYS}` }, drawing);
+    this.#frame = el("div", { class: "net", tabindex: 0, role: "group", "aria-label": `One-line diagram. ${KEYS}` }, drawing, this.#inFull);
     // At the frame: a browser takes each part of a drawing that listens for the focus for a stop of Tab.
-    this.#frame.addEventListener("focusin", ({ target: { dataset } }) => { if (dataset.kind === this.#picking?.kind) this.#roving[dataset.kind]?.onFocus(dataset.name); });
+    this.#frame.addEventListener("focusin", ({ target }) => this.#onFocus(target));
     this.#zoom = new Zoom(this.#frame, drawing, this.#plan, (scale, view) => this.#writing.atView(scale, view));
     this.#roving = this.#rovings();
     this.node = el("div", { class: "diagram" }, this.#tools(), this.#byKeys, this.#frame, this.#dead, legend());
@@ -107,7 +107,14 @@ export class Diagram {
     const reveal = (place) => this.#zoom.reveal(place);
     const sections = new Map([...this.#plan.spots.values()].map(({ name, x, y, width }) => [name, { x: x + width / 2, y }]));
     const points = new Map(this.#plan.edges.map(({ point, x, y }) => [point.name, { x, y }]));
-    return { section: new Roving(sections, this.#sections, reveal), point: new Roving(points, this.#points, reveal) };
+    return { section: new Roving(sections, this.#groups.section, reveal), point: new Roving(points, this.#groups.point, reveal) };
+  }
+
+  // Says in full what is where the focus is, a name that has no room in the drawing too.
+  #onFocus({ dataset, firstChild }) {
+    const isPicked = this.#picking && dataset.kind === this.#picking.kind;
+    this.#inFull.textContent = isPicked ? firstChild.textContent.replaceAll("\n", "; ") : "";
+    if (isPicked) this.#roving[dataset.kind].onFocus(dataset.name);
   }
 
   // Shows what another drawing of the same register showed: all but jumpers lies in the same places.
@@ -117,8 +124,9 @@ export class Diagram {
 
   // Tab leads to what is picked, or to what is in the middle.
   #placeStop() {
-    const roving = this.#roving[this.#picking?.kind];
-    roving?.begin([...this.#picking.picked].find((name) => this.#plan.spots.has(name) || this.#points.has(name)) ?? roving.nearest(this.#zoom.middle()));
+    if (!this.#picking) return;
+    const { kind, picked } = this.#picking, roving = this.#roving[kind];
+    roving.begin([...picked].find((name) => this.#groups[kind].has(name)) ?? roving.nearest(this.#zoom.middle()));
   }
 
   // Shows the whole network where that can be read; otherwise these sections in the middle.
@@ -130,21 +138,23 @@ export class Diagram {
   }
 
   #draw() {
-    const base = this.#plan.edges.map((edge) => svg("path", { class: `line ${edge.kind}`, d: edge.path }));
+    const base = this.#plan.edges.map((edge) => svg("path", { class: edge.point.jumper ? "line jumper" : "line", d: edge.path }));
     const dots = this.#plan.edges.flatMap((edge) => [edge.dot, edge.other]).filter(Boolean)
       .map(([cx, cy]) => svg("circle", { class: "dot", cx, cy, r: 2.5 }));
-    const sections = [...this.#plan.spots.values()].map((spot) => this.#group("section", spot.name, spot.x, spot.y, this.#sections));
-    const points = this.#plan.edges.map((edge) => this.#group("point", edge.point.name, edge.x, edge.y, this.#points));
+    const sections = [...this.#plan.spots.values()].map((spot) => this.#group("section", spot.name, spot));
+    const points = this.#plan.edges.map((edge) => this.#group("point", edge.point.name, edge));
     const { width, height } = this.#plan;
+    const hatch = svg("pattern", { id: "hatch", width: 8, height: 8, patternUnits: "userSpaceOnUse", patternTransform: "rotate(45)" },
+      svg("path", { d: "M0,0V8", class: "stroke" }));
     return svg("svg", { class: "drawing", role: "presentation", width, height, viewBox: `0 0 ${width} ${height}` },
-      hatch(), svg("g", {}, base, dots), svg("g", {}, sections), svg("g", {}, points), this.#writing.node);
+      svg("defs", {}, hatch), svg("g", {}, base, dots), svg("g", {}, sections), svg("g", {}, points), this.#writing.node);
   }
 
-  #group(kind, name, x, y, groups) {
-    const group = svg("g", { "data-kind": kind, "data-name": name, transform: `translate(${x},${y})` });
+  #group(kind, name, { x, y, kind: lies }) {
+    const group = svg("g", { "data-kind": kind, "data-name": name, "data-lies": lies, transform: `translate(${x},${y})` });
     const picks = () => this.#picking?.kind === kind;
     pressable(group, () => (picks() ? this.#picking.toggle(name) : this.#press(kind, name)), (event) => picks() && this.#roving[kind].onKey(event, name));
-    groups.set(name, { group });
+    this.#groups[kind].set(name, group);
     return group;
   }
 
@@ -154,32 +164,30 @@ export class Diagram {
     find.addEventListener("keydown", (event) => { if (event.key === "Enter") go(); });
     return el("div", { class: "tools" },
       button("Whole network", () => this.#zoom.all()),
-      button("Closer", () => this.#zoom.closer()),
-      button("Farther", () => this.#zoom.farther()),
+      button("Closer", () => this.#zoom.closer(1)),
+      button("Farther", () => this.#zoom.closer(-1)),
       el("span", { class: "moves" }, MOVES.map(([sign, words, x, y]) => button(sign, () => this.#zoom.pan(x, y), { "aria-label": words, title: words }))),
       find, button("Find", go), this.#finding);
   }
 
   // Marks the section or point of this name, or those with it in their name, and brings the first to the middle.
   find(name) {
-    const names = [...this.#plan.spots.keys(), ...this.#points.keys()];
-    const exact = names.filter((one) => one === name);
-    const found = !name || exact.length ? exact : names.filter((one) => one.includes(name));
+    const names = Object.values(this.#groups).flatMap((groups) => [...groups.keys()]);
+    const found = names.includes(name) ? [name] : names.filter((one) => name && one.includes(name));
     this.#found = new Set(found);
     this.#finding.textContent = !name ? "" : !found.length ? `nothing has ${name} in its name`
       : `${found.length === 1 ? found[0] : `${found.length} found, as ${found[0]}`}, ringed`;
     const spot = this.#plan.spots.get(found[0]) ?? this.#plan.edges.find((edge) => edge.point.name === found[0]);
     if (spot) this.#zoom.bringToMiddle(spot);
-    const kind = this.#picking?.kind, first = found.find((one) => (kind === "point" ? this.#points : this.#sections).has(one));
-    if (kind && first) this.#roving[kind].begin(first);
+    const kind = this.#picking?.kind, first = found.find((one) => this.#groups[kind]?.has(one));
+    if (first) this.#roving[kind].begin(first);
     if (this.#last) this.update(this.#last);
   }
 
   // What is being picked: { kind, picked: Set, toggle(name), way() }, or null.
   pick(picking) {
     this.#picking = picking;
-    this.#frame.classList.toggle("picking-points", picking?.kind === "point");
-    this.#frame.classList.toggle("picking-sections", picking?.kind === "section");
+    for (const kind of Object.keys(this.#groups)) this.#frame.classList.toggle(`picking-${kind}s`, picking?.kind === kind);
     this.#byKeys.textContent = picking ? BY_KEYS : "";
     this.#placeStop();
   }
@@ -189,25 +197,34 @@ export class Diagram {
     const { states, room, fence, turned } = this.#last = seen;
     const marks = sectionMarks(room, turned);
     const picked = (kind, name) => this.#picking?.kind === kind && this.#picking.picked.has(name);
-    for (const [name, { group }] of this.#points) {
+    for (const [name, group] of this.#groups.point) {
       const state = states.get(name), chosen = picked("point", name), found = this.#found.has(name);
       this.#redraw(group, [state.position, state.hand, state.holds, chosen, found, this.#picking?.kind], () => {
-        this.#dressPoint(group, state, chosen);
+        group.setAttribute("class", `point ${state.position}${chosen ? " picked" : ""}`);
+        this.#offerPicking(group, "point", name, chosen, `${name}, ${state.position}`);
         return [svg("title", {}, pointTitle(state)), ...pointSymbol(state, chosen, found)];
       });
     }
-    for (const [name, { group }] of this.#sections) {
+    for (const [name, group] of this.#groups.section) {
       const own = marks.get(name) ?? [], chosen = picked("section", name), fenced = fence.has(name), found = this.#found.has(name);
       const section = this.#network.sections.get(name), alarmed = own.some(({ kind }) => kind === "live");
-      this.#redraw(group, [own, section.live, chosen, fenced, found, this.#picking?.kind], () => {
+      this.#redraw(group, [own, section.live, section.holds, chosen, fenced, found, this.#picking?.kind], () => {
         group.setAttribute("class", ["section", section.live ? "fed" : "dead", section.source ? "source" : "", fenced ? "fenced" : "", chosen ? "picked" : "", alarmed ? "live" : ""].join(" "));
         this.#offerPicking(group, "section", name, chosen, name);
-        return sectionParts(this.#plan.spots.get(name), section, own, fenced, found);
+        return sectionParts(this.#plan.spots.get(name), section, own, { fenced, found, picked: chosen });
       });
     }
     this.#sayDead();
     this.#markWay();
-    this.#writing.write({ states, marks, fence, found: this.#found, picked });
+    this.#writing.write({ states, marks, matter: new Set([...fence, ...this.#found]) });
+    this.#revealPicked();
+  }
+
+  // One that was picked in the list is brought into view.
+  #revealPicked() {
+    const now = this.#picking?.picked ?? new Set(), fresh = [...now].filter((name) => !this.#shown.has(name));
+    this.#shown = new Set(now);
+    if (fresh.length === 1 && this.#groups[this.#picking.kind].has(fresh[0])) this.#roving[this.#picking.kind].onFocus(fresh[0]);
   }
 
   #sayDead() {
@@ -219,15 +236,10 @@ export class Diagram {
   // The way to a source that the picked points leave open: section, point, section and so on.
   #markWay() {
     const way = this.#picking?.way?.() ?? [];
-    for (const [groups, turn] of [[this.#sections, 0], [this.#points, 1]]) {
+    Object.values(this.#groups).forEach((groups, turn) => {
       const names = new Set(way.filter((_, place) => place % 2 === turn));
-      for (const [name, { group }] of groups) group.classList.toggle("way", names.has(name));
-    }
-  }
-
-  #dressPoint(group, state, chosen) {
-    group.setAttribute("class", `point ${state.position}${chosen ? " picked" : ""}`);
-    this.#offerPicking(group, "point", state.point.name, chosen, `${state.point.name}, ${state.position}`);
+      for (const [name, group] of groups) group.classList.toggle("way", names.has(name));
+    });
   }
 
   #offerPicking(group, kind, name, chosen, label) {
@@ -246,41 +258,36 @@ export class Diagram {
   }
 }
 
-function sample(className, position, marks = {}) {
-  const state = { position, point: { name: "" } };
-  return svg("svg", { class: "net sample", viewBox: "-14 -12 28 24", width: 28, height: 24, "aria-hidden": "true" },
-    svg("path", { class: "line", d: "M-14,0H14" }), svg("g", { class: className }, pointSymbol(state, marks.picked)));
+function sample(className, left, wide, ...parts) {
+  const size = { viewBox: `${left} -14 ${wide} 37`, width: wide, height: 32 };
+  return svg("svg", { class: "net sample", ...size, "aria-hidden": "true" }, svg("g", { class: className }, parts));
 }
 
-function sectionSample(className, live) {
-  return svg("svg", { class: "net sample", viewBox: "0 -14 40 28", width: 40, height: 24, "aria-hidden": "true" },
-    svg("g", { class: `section ${className}` }, svg("rect", { class: "box", x: 2, y: -11, width: 36, height: 22, rx: 4 }),
-      live ? svg("path", { class: "flash", d: FLASH, transform: "translate(3,2)" }) : null));
+function pointSample(className, position, ...kinds) {
+  const parts = pointSymbol({ position, holds: kinds.map((kind) => ({ kind })) });
+  return sample(`point ${position} ${className}`, -14, kinds.length ? 38 : 28, svg("path", { class: "line", d: "M-14,0H24" }), ...parts);
 }
 
-function jumperSample() {
-  return svg("svg", { class: "net sample", viewBox: "-14 -12 28 24", width: 28, height: 24, "aria-hidden": "true" }, svg("path", { class: "line jumper", d: "M-14,0H14" }));
-}
-
-function fenceSample() {
-  return svg("svg", { class: "net sample", viewBox: "0 -14 40 28", width: 40, height: 24, "aria-hidden": "true" },
-    svg("g", { class: "section fenced" }, svg("rect", { class: "box", x: 2, y: -11, width: 36, height: 22, rx: 4 }),
-      svg("rect", { class: "hatch", x: 2, y: -11, width: 36, height: 22, rx: 4, fill: "url(#hatch)" })));
+function sectionSample(className, state = {}) {
+  const [, ...parts] = sectionParts({ width: 36 }, { holds: [], ...state }, [], { fenced: className === "fenced" });
+  return sample(`section ${className}`, -2, 40, ...parts);
 }
 
 function legend() {
   const entry = (mark, text) => el("li", {}, mark, el("span", {}, text));
   const sign = (text) => el("b", {}, text);
   return el("details", { class: "legend" }, el("summary", {}, "Signs"), el("ul", {},
-    entry(sample("point closed"), "closed"), entry(sample("point open"), "open"),
-    entry(jumperSample(), "a jumper"),
-    entry(sectionSample("fed", true), "live by the register: closed points lead there from a source"),
-    entry(sectionSample("dead", false), "dead by the positions of the points; only a test shows it in the field"),
+    entry(pointSample("", "closed"), "closed"), entry(pointSample("", "open"), "open"), entry(pointSample("", "open", "Tag"), "tagged"),
+    entry(sample("", -14, 28, svg("path", { class: "line jumper", d: "M-14,0H14" })), "a jumper"),
+    entry(sectionSample("fed", { live: true }), "live by the register: closed points lead there from a source"),
+    entry(sectionSample("dead"), "dead by the positions of the points; only a test shows it in the field"),
+    entry(sectionSample("dead", { holds: [{ kind: "Ground" }] }), "grounded"),
     entry(sign("→ live, → dead"), "what the step at hand, or the order that is being written, would make of it, by this page's reckoning"),
     entry(sign("≠"), "not in its normal position"),
-    entry(fenceSample(), "in the fence of the chosen clearance, or of the points that are picked"),
-    entry(sample("point closed way"), "purple: on the way to a source that the picked points leave open"),
+    entry(sectionSample("fenced"), "in the fence of the chosen clearance, or of the points that are picked"),
+    entry(pointSample("way", "closed"), "purple: on the way to a source that the picked points leave open"),
     entry(sign("red"), "tested live, until it is tested dead"),
     entry(sign("O B C T"), "held open, blocked, control off, tagged, after the owner's name"),
+    entry(sign("…"), "an owner's name for which there is no room: a press there shows it"),
     entry(sign("hand"), "its owner's step is given out there")));
 }

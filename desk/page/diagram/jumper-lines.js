@@ -1,50 +1,51 @@
-// The lines of jumpers, drawn over a network that lies as it did without them: dashed, in an arc from section to section.
+// The lines of jumpers, drawn over a network that lies as it did without them: dashed, and past every box and symbol.
 
-import { BOX } from "./boxes.js";
+import { BOX, partsOf, pointBox } from "./boxes.js";
 
-const BOW = 0.16, LEAST_BOW = 34, APART = 26; // of an arc, by its length; how far a second one between the same two lies off
-const PARTS = 24, CLEAR = 15;                 // places along an arc; what is to be free around its point
-const PLACES = [0.5, 0.42, 0.58, 0.34, 0.66, 0.26, 0.74, 0.18, 0.82];
+const ABOVE = -20, BELOW = 26;  // from the middle of a section to a line beside its row: below there is the sign of a ground
+const BESIDE = 6, APART = 4;    // from a box to a line that rises beside it; from one jumper to the next
+const NEAR = 3, CLEAR = 8;      // what is free beside a line, and around its point
+const HIT = 1e5;                // what it costs to run through something, in lengths
+const PLACES = [0.5, 0.35, 0.65, 0.2, 0.8];
 
-const middle = ({ x, y, width }) => ({ x: x + width / 2, y });
-const at = ({ a, c, b }, t) => ({
-  x: (1 - t) ** 2 * a.x + 2 * t * (1 - t) * c.x + t ** 2 * b.x,
-  y: (1 - t) ** 2 * a.y + 2 * t * (1 - t) * c.y + t ** 2 * b.y,
-});
+const grown = ([left, top, right, bottom], by) => [left - by, top - by, right + by, bottom + by];
+const overlap = (one, other) => one[0] < other[2] && other[0] < one[2] && one[1] < other[3] && other[1] < one[3];
+const longOf = ([left, top, right, bottom]) => right - left + bottom - top;
 
-// From the upper or lower edge of one box to that of the other.
-function arcOf(from, to, turn) {
-  const one = middle(from), other = middle(to), left = one.x <= other.x;
-  const [a, b] = left ? [one, other] : [other, one];
-  const long = Math.hypot(b.x - a.x, b.y - a.y) || 1, bow = Math.max(LEAST_BOW, long * BOW) + turn * APART;
-  const c = { x: (a.x + b.x) / 2 + ((b.y - a.y) / long) * bow, y: (a.y + b.y) / 2 - ((b.x - a.x) / long) * bow };
-  const edge = (end) => ({ x: end.x, y: end.y + (c.y < end.y ? -BOX / 2 : BOX / 2) });
-  return { a: edge(a), b: edge(b), c };
+// From one box up or down to its row's side, along it, along a line that rises at x, and so to the other. Its parts are
+// what lies between the two boxes.
+function lineAt(a, b, x, [fromY, toY]) {
+  const edge = (end, out) => end.y + (Math.sign(out) * BOX) / 2, dot = [a.x, edge(a, fromY)], other = [b.x, edge(b, toY)];
+  const path = `M${dot}V${a.y + fromY}H${x}V${b.y + toY}H${b.x}V${other[1]}`;
+  return { path, parts: partsOf(path).slice(1, -1), dot, other };
 }
 
-// Where nothing lies yet on the arc; otherwise its middle.
-function placeOn(arc, boxes) {
-  const isFree = ({ x, y }) => boxes.every(([left, top, right, bottom]) => x + CLEAR < left || x - CLEAR > right || y + CLEAR < top || y - CLEAR > bottom);
-  const places = PLACES.map((t) => at(arc, t));
-  return places.find(isFree) ?? places[0];
+// The line that runs through nothing, as far as there is one, and is the shortest.
+function bestLine(a, b, sides, boxes) {
+  const cost = ({ parts }) => parts.reduce((sum, part) => sum + longOf(part)
+    + HIT * boxes.filter((box) => overlap(grown(part, NEAR), box)).length, 0);
+  const ways = [ABOVE, BELOW].flatMap((from) => [ABOVE, BELOW].map((to) => [from, to]));
+  const lines = sides.flatMap((x) => ways.map((way) => lineAt(a, b, x, way))).map((line) => ({ ...line, cost: cost(line) }));
+  return lines.reduce((best, next) => (next.cost < best.cost ? next : best));
 }
 
-// Short pieces of the arc, as rectangles: texts keep off them.
-function partsOf(arc) {
-  return Array.from({ length: PARTS }, (_, place) => {
-    const one = at(arc, place / PARTS), next = at(arc, (place + 1) / PARTS);
-    return [Math.min(one.x, next.x), Math.min(one.y, next.y), Math.max(one.x, next.x), Math.max(one.y, next.y)];
-  });
+// Where its point lies: in the middle of its longest part, or where nothing is near.
+function placeOn({ parts }, boxes) {
+  const places = [...parts].sort((one, other) => longOf(other) - longOf(one)).flatMap(([left, top, right, bottom]) =>
+    PLACES.map((at) => ({ x: left + (right - left) * at, y: top + (bottom - top) * at, kind: left === right ? "upright" : "lane" })));
+  return places.find((place) => boxes.every((box) => !overlap(grown(pointBox(place), CLEAR), box))) ?? places[0];
 }
 
-// The edges of these jumpers; `boxes` are those of sections and points, and get one more for each.
+// The edges of these jumpers; `boxes` are those of sections, signs and points.
 export function jumperEdges(jumpers, spots, boxes) {
-  const between = new Map();
-  return jumpers.filter(({ from, to }) => spots.has(from) && spots.has(to)).map((point) => {
-    const key = [point.from, point.to].sort().join(" "), turn = between.get(key) ?? 0;
-    between.set(key, turn + 1);
-    const arc = arcOf(spots.get(point.from), spots.get(point.to), turn), { a, b, c } = arc, place = placeOn(arc, boxes);
-    boxes.push([place.x - CLEAR, place.y - CLEAR, place.x + CLEAR, place.y + CLEAR]);
-    return { point, path: `M${a.x},${a.y}Q${c.x},${c.y} ${b.x},${b.y}`, parts: partsOf(arc), ...place, kind: "jumper", dot: [a.x, a.y], other: [b.x, b.y] };
+  const points = [], lines = [];
+  return jumpers.filter(({ from, to }) => spots.has(from) && spots.has(to)).map((point, place) => {
+    const turn = (place % 3) * APART, end = ({ x, y, width }) => ({ x: x + width / 2 + 2 * turn - 2 * APART, y });
+    const sides = [...new Set([...spots.values()].flatMap(({ x, width }) => [x - BESIDE - turn, x + width + BESIDE + turn]))];
+    const line = bestLine(end(spots.get(point.from)), end(spots.get(point.to)), sides, [...boxes, ...points]);
+    const spot = placeOn(line, [...boxes, ...points, ...lines]);
+    points.push(pointBox(spot));
+    lines.push(...line.parts);
+    return { point, ...line, ...spot };
   });
 }

@@ -2,18 +2,19 @@
 // along its row and its branches below it; points that close a loop run in lanes of their own between columns and rows.
 // What only a jumper joins lies in rows of its own below, and moves nothing.
 
-import { BOX, pointBox, sectionBox } from "./boxes.js";
+import { BOX, FEED, pointBox, sectionBox, signBoxes } from "./boxes.js";
 import { jumperEdges } from "./jumper-lines.js";
 import { placings, treeOf } from "./tree.js";
 
 const ROW = 56, LANE = 24;    // from row to row; what each lane between them adds
 const BELOW = 18;             // where a point lies under a row on an upright line
-const LETTER = 7.4, SMALL = 6.4;
+const LETTER = 9.8, SMALL = 9.2; // widths of a letter of a section's name and of a point's
 const MARGIN = 44, TRACK = 16, MOST_WIDE = 8;
-const ASIDE = 60;             // beside the last column, where its texts may be longer than its sections
-const SHAPE = 16 / 9;         // the shape of the area, to which the drawing is stretched
-const MORE_ROW = 64, MORE_ZONE = 130; // by how much at most, from row to row and from column to column
-const LONE = 150;             // from one to the next of the sections that only jumpers join
+const WIDEST = 150;           // of the names of points beside a line that rises
+const BESIDE = 28, AROUND = 46, ZONE = 110; // what lies at a point beside its name; how wide its zone is at least
+const ASIDE = 90;             // beside the last column, where its texts may be longer than its sections
+const SHAPE = 16 / 9, MORE_ROW = 90; // the shape of the area; how much farther apart rows are at most, to fill it
+const LONE = 190;             // from one to the next of the sections that only jumpers join
 
 // The points that are not in the tree, with their left (or upper) end first.
 function tiesOf(network, spots, parent) {
@@ -54,33 +55,33 @@ function tracked(ties) {
 }
 
 // The height of each row, and of the lanes between two; `more` is what each row gets beside that.
-function levels(rows, lanes, more) {
-  const count = (gap) => lanes.get(gap)?.length ?? 0, high = ROW + more;
+function levels(rows, lanes, more = 0) {
+  const count = (gap) => lanes.get(gap)?.length ?? 0;
   const heights = [ROW + count(-0.5) * LANE];
-  for (let row = 1; row <= rows; row++) heights.push(heights[row - 1] + high + count(row - 0.5) * LANE);
+  for (let row = 1; row <= rows; row++) heights.push(heights[row - 1] + ROW + more + count(row - 0.5) * LANE);
   const lane = (tie) => {
     const row = tie.lane + 0.5, above = row === 0 ? 0 : heights[row - 1];
     return (above + heights[row]) / 2 + (tie.sub - (count(tie.lane) - 1) / 2) * LANE;
   };
-  return { heights, lane, below: BELOW + more / 4 };
+  return { heights, lane };
 }
 
-const boxWidth = (name) => Math.max(44, name.length * LETTER + 24); // with room for the flash of a live one
+const boxWidth = (name) => Math.max(48, name.length * LETTER + 22); // with room for the flash of a live one
 const widest = (names, letter) => Math.max(0, ...names.map((name) => name.length * letter));
 
 // The left side of each column, and in the channel after it the place of its tracks, its trunk and its points.
-function measure(spots, parent, channels, more) {
+function measure(spots, parent, channels) {
   const columns = [];
   for (const spot of spots.values()) (columns[spot.column] ??= []).push(spot);
   const measures = [];
   let left = MARGIN;
   columns.forEach((list, column) => {
-    const width = Math.max(...list.map((spot) => boxWidth(spot.name)));
+    const width = Math.max(...list.map((spot) => spot.width + (spot.feed > 0 ? FEED : 0)));
     const lists = channels.get(column) ?? [];
     const names = lists.flat().map((tie) => tie.point.name);
-    const step = TRACK + (lists.length && lists.length <= MOST_WIDE ? Math.min(widest(names, SMALL) + 10, 60) : 6);
+    const step = TRACK + (lists.length && lists.length <= MOST_WIDE ? Math.min(widest(names, SMALL) + BESIDE, WIDEST) : 6);
     const labels = (columns[column + 1] ?? []).map((spot) => parent.get(spot.name)?.point.name ?? "");
-    const zone = column + 1 < columns.length ? Math.max(60, widest(labels, SMALL) + 22) + more : 0;
+    const zone = column + 1 < columns.length ? Math.max(ZONE, widest(labels, SMALL) + AROUND) : 0;
     const first = left + width + 14, trunk = first + lists.length * step;
     measures.push({ left, width, first, step, trunk, next: trunk + zone, zone });
     left = trunk + zone;
@@ -99,12 +100,12 @@ function treeEdge(spot, up, from, ends, measures) {
 }
 
 // Where on its line a tie's point is drawn: on the upright part, where that passes below a row, otherwise on its lane.
-function tiePlace(tie, x, end, zone, { heights, lane, below }) {
+function tiePlace(tie, x, end, zone, { heights, lane }) {
   const top = Math.ceil(Math.min(end, tie.a.row)), last = Math.max(end, tie.a.row) - 1;
   if (last < top) return { x: zone - (tie.sub ?? 0) * 22, y: lane(tie), kind: "lane" };
   const gaps = Math.floor(last - top) + 1;
   const gap = Math.min(gaps - 1, Math.floor(gaps / 2) + (tie.track % 2));
-  return { x, y: heights[top + gap] + below, kind: "upright" };
+  return { x, y: heights[top + gap] + BELOW, kind: "upright" };
 }
 
 // The line of a tie. From a section that others follow it branches off the line to them.
@@ -125,14 +126,19 @@ function tieEdge(tie, entries, leads, measures, level) {
   return { point: tie.point, path: `M${start},${tie.a.y}H${x}V${level.lane(tie)}H${into}V${side}`, ...spot, dot: [x, tie.a.y] };
 }
 
-// A placing with its ties and the room that they take, and how large it is before it is stretched.
+// A placing with its ties and the room that they take, and how large it is. A source at which the drawing begins has its
+// sign at the left, another at the right.
 function planOf(network, { parent }, { spots, rows }) {
+  for (const spot of spots.values()) {
+    spot.width = boxWidth(spot.name);
+    spot.feed = network.sections.get(spot.name).source ? (parent.get(spot.name) ? 1 : -1) : 0;
+  }
   const ties = tiesOf(network, spots, parent), { channels, lanes } = tracked(ties);
-  const sized = (moreRow, moreZone) => {
-    const measures = measure(spots, parent, channels, moreZone), level = levels(rows, lanes, moreRow);
-    return { measures, level, width: (measures.at(-1)?.next ?? MARGIN) + ASIDE, height: level.heights[rows] - moreRow };
-  };
-  return { spots, rows, ties, sized, ...sized(0, 0) };
+  const measures = measure(spots, parent, channels), width = (measures.at(-1)?.next ?? MARGIN) + ASIDE;
+  const fill = (width / SHAPE - levels(rows, lanes).heights[rows]) / Math.max(1, rows - 1);
+  const more = Math.min(MORE_ROW, Math.max(0, fill)), level = levels(rows, lanes, more);
+  for (const spot of spots.values()) Object.assign(spot, { x: measures[spot.column].left, y: level.heights[spot.row] });
+  return { spots, ties, measures, level, width, height: level.heights[rows] - more };
 }
 
 // The plan that is shown largest in an area of the usual shape.
@@ -141,14 +147,7 @@ function bestPlan(network, tree) {
   return placings(tree).map((placing) => planOf(network, tree, placing)).reduce((best, next) => (size(next) < size(best) ? next : best));
 }
 
-// The same, stretched to that shape: from row to row, or from column to column.
-function stretched({ rows, measures, width, height, sized }) {
-  const moreRow = Math.min(MORE_ROW, Math.max(0, (width / SHAPE - height) / Math.max(1, rows - 1)));
-  const moreZone = Math.min(MORE_ZONE, Math.max(0, (height * SHAPE - width) / Math.max(1, measures.length - 1)));
-  return sized(moreRow, moreZone);
-}
-
-function edgesOf({ parent }, { spots, ties }, { measures, level }) {
+function edgesOf({ parent }, { spots, ties, measures, level }) {
   const entries = new Map(), ends = new Map(), leads = new Set();
   const rows = [...spots.values()].filter((spot) => parent.get(spot.name)).sort((a, b) => a.row - b.row).map((spot) => {
     const up = parent.get(spot.name);
@@ -168,20 +167,17 @@ function placeLone(network, spots, { width, height }) {
     let slot = near ? Math.min(across - 1, Math.round((near.x - MARGIN) / LONE)) : 0;
     while (taken.has(slot)) slot += 1;
     taken.add(slot);
-    spots.set(name, { name, width: boxWidth(name), x: MARGIN + (slot % across) * LONE, y: height + Math.floor(slot / across) * ROW });
+    const place = { x: MARGIN + (slot % across) * LONE, y: height + Math.floor(slot / across) * ROW };
+    spots.set(name, { name, width: boxWidth(name), feed: network.sections.get(name).source ? -1 : 0, ...place });
   }
   return height + Math.ceil((Math.max(-1, ...taken) + 1) / across) * ROW;
 }
 
 export function layOut(network) {
-  const tree = treeOf(network), plan = bestPlan(network, tree), { spots } = plan, size = stretched(plan);
-  for (const spot of spots.values()) {
-    spot.width = boxWidth(spot.name);
-    spot.x = size.measures[spot.column].left;
-    spot.y = size.level.heights[spot.row];
-  }
-  const edges = edgesOf(tree, plan, size), height = placeLone(network, spots, size);
+  const tree = treeOf(network), plan = bestPlan(network, tree), { spots, width } = plan;
+  const edges = edgesOf(tree, plan), height = placeLone(network, spots, plan);
   const jumpers = [...network.points.values()].filter(({ jumper }) => jumper);
-  edges.push(...jumperEdges(jumpers, spots, [...[...spots.values()].map(sectionBox), ...edges.map(pointBox)]));
-  return { spots, edges, width: size.width, height };
+  const boxes = [...[...spots.values()].flatMap((spot) => [sectionBox(spot), ...signBoxes(spot)]), ...edges.map(pointBox)];
+  edges.push(...jumperEdges(jumpers, spots, boxes));
+  return { spots, edges, width, height };
 }

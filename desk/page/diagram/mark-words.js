@@ -4,7 +4,6 @@ import { alarms, untested } from "../shared/live-alarms.js";
 import { network } from "../shared/network.js";
 
 const LETTERS = { HeldOpen: "O", Block: "B", Control: "C", Tag: "T" };
-const MOST_MARKS = 2;
 const NOTHING = { live: [], dead: [] };
 
 // Holds and the hand at a point by owner, as JONES/1 O B T hand.
@@ -44,11 +43,12 @@ export function sectionMarks(room, { live, dead } = NOTHING) {
   return found;
 }
 
-// Lines of text in shorter and shorter forms: all, the first with the number of the others, the first name with it.
-export function formsOf(lines) {
-  const most = lines.slice(0, MOST_MARKS), more = lines.length - most.length;
-  if (more) most[MOST_MARKS - 1] = `${most[MOST_MARKS - 1]} +${more}`;
-  const rest = lines.length > 1 ? ` +${lines.length - 1}` : "";
-  const short = lines[0].replace(/^(⚠ )?(\S+).*/, "$1$2");
-  return [most, [`${lines[0]}${rest}`], [`${short}${rest}`]];
+// Marks, each a line, in shorter and shorter forms. That a section is dead goes first, since its box shows it, and then
+// the clearance's name, for …; what follows that never does: the letters of holds, the words of a section's state.
+export function formsOf(marks) {
+  const kept = marks.filter(({ kind }) => kind !== "dead");
+  if (!kept.length) return [marks];
+  const broken = (all, at) => all.flatMap(({ text, kind }) => text.split(at).map((part) => ({ text: part, kind })));
+  const unnamed = kept.map(({ text, kind }) => ({ text: text.replace(/^(⚠ )?\S+\/\d+ /, "$1… "), kind }));
+  return [marks, kept, broken(kept, /(?<=\/\d+) /), unnamed, broken(unnamed, /(?<=,) /)];
 }

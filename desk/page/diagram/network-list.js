@@ -18,9 +18,7 @@ export class NetList {
   }
 
   pick() {}
-
   lookAt() {}
-
   viewAs() {}
 
   update(seen) {

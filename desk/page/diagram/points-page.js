@@ -16,33 +16,26 @@ const KINDS = {
   hand: ["in hand: a step is given out", (state) => state.hand !== null],
 };
 
-function links(ids) {
-  return ids.flatMap((id, place) => [place ? ", " : "", el("a", { href: `#/clearance/${id}` }, id)]);
+const links = (ids) => ids.flatMap((id, place) => [place ? ", " : "", el("a", { href: `#/clearance/${id}` }, id)]);
+
+function holdLines({ holds }) {
+  const owners = [...new Set(holds.map(({ by }) => by))];
+  return owners.map((owner) => el("p", {}, ...links([owner]), `: ${holds.filter(({ by }) => by === owner).map(({ kind }) => holdWord(kind)).join(", ")}`));
 }
 
-function holdsCell(state) {
-  const owners = [...new Set(state.holds.map((hold) => hold.by))];
-  return owners.length ? owners.map((owner) => el("p", {}, ...links([owner]),
-    `: ${state.holds.filter((hold) => hold.by === owner).map((hold) => holdWord(hold.kind)).join(", ")}`)) : null;
+function stepLines({ steps }) {
+  return steps.filter(({ state }) => state !== "Done").map(({ id, number, text, state, reader }) =>
+    el("p", {}, ...links([id]), ` step ${number} ${text}: ${stateWord(state)}${reader ? `, ${reader}` : ""}`));
 }
 
-function stepsCell(state) {
-  const left = state.steps.filter((step) => step.state !== "Done");
-  return left.length ? left.map((step) => el("p", {}, ...links([step.id]),
-    ` step ${step.number} ${step.text}: ${stateWord(step.state)}${step.reader ? `, ${step.reader}` : ""}`)) : null;
-}
-
-function cell(content, head = null) {
-  return el("td", { class: content ? null : "none", "data-head": head }, content ?? "–");
-}
+const cell = (content, head = null) => el("td", { class: content.length ? null : "none", "data-head": head }, content.length ? content : "–");
 
 function row(state) {
   const { point } = state;
   return el("tr", { "data-point": point.name },
     el("th", { scope: "row" }, point.name), el("td", {}, `${point.from} – ${point.to}`), el("td", { "data-head": "marks" }, marksOf(point)),
     el("td", { "data-head": "now" }, el("strong", {}, state.position), isOffNormal(state) ? " ≠" : ""),
-    cell(point.normal, "normally"), cell(state.hand ? links([state.hand]) : null, "in hand of"),
-    cell(holdsCell(state)), cell(stepsCell(state)));
+    cell(point.normal ?? "", "normally"), cell(state.hand ? links([state.hand]) : "", "in hand of"), cell(holdLines(state)), cell(stepLines(state)));
 }
 
 export class PointsPage {

@@ -1,29 +1,41 @@
 // The tree by which the diagram lies, and the columns and rows of its sections. It is a function of the file's network:
 // jumpers, the positions of now, and when a page was opened never shape it, so that each desk draws the same picture.
 
-const MOST_STRIPS = 12;
+import { reached } from "../shared/ways.js";
 
-// The sections and points that are no jumpers: `ways` has the points of each section that has any.
-function fixedOf({ sections, points }) {
-  const ways = new Map();
-  for (const point of points.values()) {
-    if (point.jumper) continue;
-    for (const end of [point.from, point.to]) (ways.get(end) ?? ways.set(end, []).get(end)).push(point);
-  }
-  return { sections: [...sections.values()].filter(({ name }) => ways.has(name)), ways };
+const MOST_STRIPS = 12;
+const NEAR = 4; // points away from a source: the sections up to there are its rank
+
+// The sections and points that are no jumpers: `ways` has the points of each section, `sections` those that have any.
+function fixedOf({ sections, ways }) {
+  const fixed = new Map([...ways].map(([name, points]) => [name, points.filter(({ jumper }) => !jumper)]));
+  return { sections: [...sections.values()].filter(({ name }) => fixed.get(name).length), ways: fixed };
 }
 
 const other = (point, name) => (point.from === name ? point.to : point.from);
+const isWay = (point) => point.normal !== "open";
+
+// The sources that the drawing begins at. One that is reached, over points that are not normally open, from another of over
+// one and a half times its rank is no such: a generator at the end of a feeder is drawn there.
+function rootsOf(fixed) {
+  const far = new Map(fixed.sections.filter(({ source }) => source).map(({ name }) => [name, new Map()]));
+  for (const [source, own] of far) {
+    for (const [name, step] of reached(fixed, source, isWay)) own.set(name, step ? own.get(step.from) + 1 : 0);
+  }
+  const rank = (own) => [...own.values()].filter((points) => points <= NEAR).length;
+  return [...far.keys()].filter((name) => [...far.values()].every((own) => !own.has(name) || 2 * rank(own) <= 3 * rank(far.get(name))));
+}
 
 // First over the points that are not normally open, so that it follows the feeders; all, where that is not known.
-function spanning({ sections, ways }) {
+function spanning(fixed) {
+  const { sections, ways } = fixed;
   const parent = new Map(), order = [], roots = [];
   const reach = (name, from, point) => { parent.set(name, from ? { from, point } : null); order.push(name); };
   const grow = (start) => {
     for (let place = start; place < order.length; place++) {
       for (const point of ways.get(order[place])) {
         const next = other(point, order[place]);
-        if (point.normal !== "open" && !parent.has(next)) reach(next, order[place], point);
+        if (isWay(point) && !parent.has(next)) reach(next, order[place], point);
       }
     }
   };
@@ -38,7 +50,7 @@ function spanning({ sections, ways }) {
     }
   };
   const plant = (name) => { roots.push(name); reach(name); };
-  for (const { name, source } of sections) if (source) plant(name);
+  for (const name of rootsOf(fixed)) plant(name);
   grow(0);
   growOverOpen();
   for (const { name } of sections) {

@@ -1,7 +1,7 @@
 // Zoom and pan of a drawing, by wheel, drag, buttons and keys. The drawing is as large as it is, and is moved and scaled
 // within its frame as one picture: while that goes on nothing is drawn again, and it is drawn sharply once it is still.
 
-const MOST = 3, LEAST = 0.05, READABLE = 0.6, FAR = 0.42, CLOSE = 0.8, LARGEST = 2, STEP = 1.25, PAN = 80, DRAG = 5;
+const MOST = 3, LEAST = 0.05, READABLE = 0.85, FAR = 0.42, CLOSE = 0.9, LARGEST = 2, STEP = 1.25, PAN = 80, DRAG = 5;
 const EDGE = 40;   // pixels from the edge of the frame, within which a place is not in view
 const STILL = 10;  // frames without a move, after which it is still: on a slow machine they take longer
 
@@ -12,9 +12,8 @@ function within(begin, length, size) {
 
 export class Zoom {
   #frame; #drawing; #size; #changed;
-  #x = 0; #y = 0; #scale = 1;
-  #byHand = false; // whether the operator has zoomed or moved it
-  #middle = null;  // what is to be in the middle where not all can be read
+  // What is shown; whether the operator has zoomed or moved it; and what is to be in the middle where not all can be read.
+  #at = { x: 0, y: 0, scale: 1, byHand: false, middle: null };
   #later = null;   // the next look at whether it is still
   #quiet = 0;      // frames since it was moved
 
@@ -33,7 +32,8 @@ export class Zoom {
   }
 
   #place() {
-    this.#drawing.style.transform = `translate(${Math.round(-this.#x * this.#scale)}px, ${Math.round(-this.#y * this.#scale)}px) scale(${this.#scale})`;
+    const { x, y, scale } = this.#at;
+    this.#drawing.style.transform = `translate(${Math.round(-x * scale)}px, ${Math.round(-y * scale)}px) scale(${scale})`;
   }
 
   #show() {
@@ -41,27 +41,23 @@ export class Zoom {
     this.#later = null;
     this.#place();
     this.#drawing.classList.remove("moving");
-    this.#frame.classList.toggle("far", this.#scale < FAR);
-    this.#changed(this.#scale, this.#view());
+    this.#frame.classList.toggle("far", this.#at.scale < FAR);
+    this.#changed(this.#at.scale, this.#view());
   }
 
   // What is seen of the drawing, in whole places of it: [left, top, right, bottom].
   #view() {
-    const { width, height } = this.#box(), within = 1 / this.#scale;
-    return [Math.ceil(this.#x + within), Math.ceil(this.#y + within), Math.floor(this.#x + width / this.#scale - within), Math.floor(this.#y + height / this.#scale - within)];
+    const { width, height } = this.#box(), { x, y, scale } = this.#at;
+    return [Math.ceil(x + 1 / scale), Math.ceil(y + 1 / scale), Math.floor(x + (width - 1) / scale), Math.floor(y + (height - 1) / scale)];
   }
 
   // Shows what another one showed.
   viewAs(other) {
-    this.#byHand = other.#byHand;
-    this.#middle = other.#middle;
-    this.#x = other.#x;
-    this.#y = other.#y;
-    this.#scale = other.#scale;
+    this.#at = { ...other.#at };
   }
 
   #move() {
-    this.#byHand = true;
+    this.#at.byHand = true;
     this.#drawing.classList.add("moving");
     this.#place();
     this.#quiet = 0;
@@ -75,24 +71,23 @@ export class Zoom {
   }
 
   #zoomAt(factor, left, top) {
-    const scale = Math.min(MOST, Math.max(LEAST, this.#scale * factor));
-    this.#x += left / this.#scale - left / scale;
-    this.#y += top / this.#scale - top / scale;
-    this.#scale = scale;
+    const before = this.#at.scale, scale = this.#at.scale = Math.min(MOST, Math.max(LEAST, before * factor));
+    this.#at.x += left / before - left / scale;
+    this.#at.y += top / before - top / scale;
     this.#move();
   }
 
   pan(left, top) {
-    this.#x += left / this.#scale;
-    this.#y += top / this.#scale;
+    this.#at.x += left / this.#at.scale;
+    this.#at.y += top / this.#at.scale;
     this.#move();
   }
 
   #centre(x, y, scale) {
     const { width, height } = this.#box();
-    this.#scale = scale;
-    this.#x = within(x - width / scale / 2, width / scale, this.#size.width);
-    this.#y = within(y - height / scale / 2, height / scale, this.#size.height);
+    this.#at.scale = scale;
+    this.#at.x = within(x - width / scale / 2, width / scale, this.#size.width);
+    this.#at.y = within(y - height / scale / 2, height / scale, this.#size.height);
     this.#show();
   }
 
@@ -108,54 +103,43 @@ export class Zoom {
   // The whole drawing where it can be read so; otherwise its middle, or its beginning.
   #begin() {
     if (!this.#frame.clientWidth) return;
-    if (this.#byHand) this.#show();
+    if (this.#at.byHand) this.#show();
     else if (this.#whole() >= READABLE) this.#fit();
-    else if (this.#middle) this.#centre(this.#middle.x, this.#middle.y, CLOSE);
-    else {
-      this.#scale = READABLE;
-      this.#x = this.#y = 0;
-      this.#show();
-    }
+    else if (this.#at.middle) this.#centre(this.#at.middle.x, this.#at.middle.y, CLOSE);
+    else this.#centre(0, 0, READABLE);
   }
 
   lookAt(place) {
-    this.#byHand = false;
-    this.#middle = place;
+    Object.assign(this.#at, { byHand: false, middle: place });
     this.#begin();
   }
 
-  closer() {
+  // By this many steps; below none farther.
+  closer(steps) {
     const { width, height } = this.#box();
-    this.#zoomAt(STEP, width / 2, height / 2);
-  }
-
-  farther() {
-    const { width, height } = this.#box();
-    this.#zoomAt(1 / STEP, width / 2, height / 2);
+    this.#zoomAt(STEP ** steps, width / 2, height / 2);
   }
 
   all() {
-    this.#byHand = true;
+    this.#at.byHand = true;
     this.#fit();
   }
 
-  bringToMiddle({ x, y }) {
-    this.#byHand = true;
-    this.#centre(x, y, Math.max(1, this.#scale));
+  bringToMiddle({ x, y }, scale = Math.max(1, this.#at.scale)) {
+    this.#at.byHand = true;
+    this.#centre(x, y, scale);
   }
 
   // The place of the drawing that is in the middle of the frame.
   middle() {
     const { width, height } = this.#box();
-    return { x: this.#x + width / this.#scale / 2, y: this.#y + height / this.#scale / 2 };
+    return { x: this.#at.x + width / this.#at.scale / 2, y: this.#at.y + height / this.#at.scale / 2 };
   }
 
   // Brings a place to the middle where it is not in view.
   reveal({ x, y }) {
-    const { width, height } = this.#box(), left = (x - this.#x) * this.#scale, top = (y - this.#y) * this.#scale;
-    if (left > EDGE && left < width - EDGE && top > EDGE && top < height - EDGE) return;
-    this.#byHand = true;
-    this.#centre(x, y, this.#scale);
+    const { width, height } = this.#box(), { scale } = this.#at, left = (x - this.#at.x) * scale, top = (y - this.#at.y) * scale;
+    if (left < EDGE || left > width - EDGE || top < EDGE || top > height - EDGE) this.bringToMiddle({ x, y }, scale);
   }
 
   #listen() {
@@ -165,7 +149,7 @@ export class Zoom {
       this.#zoomAt(event.deltaY < 0 ? STEP : 1 / STEP, event.clientX - frame.left, event.clientY - frame.top);
     }, { passive: false });
     const keys = {
-      "+": () => this.closer(), "=": () => this.closer(), "-": () => this.farther(), 0: () => this.all(),
+      "+": () => this.closer(1), "=": () => this.closer(1), "-": () => this.closer(-1), 0: () => this.all(),
       ArrowLeft: () => this.pan(-PAN, 0), ArrowRight: () => this.pan(PAN, 0),
       ArrowUp: () => this.pan(0, -PAN), ArrowDown: () => this.pan(0, PAN),
     };
@@ -192,8 +176,6 @@ export class Zoom {
       from = { x: event.clientX, y: event.clientY, moved: true };
       this.pan(left, top);
     });
-    const stop = () => { from = null; };
-    this.#frame.addEventListener("pointerup", stop);
-    this.#frame.addEventListener("pointercancel", stop);
+    for (const end of ["pointerup", "pointercancel"]) this.#frame.addEventListener(end, () => { from = null; });
   }
 }
