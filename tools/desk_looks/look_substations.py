@@ -100,12 +100,17 @@ def held(stage):
 
 
 def in_full(stage):
-    """What has no room is said in full where the focus is."""
+    """What has no room is said in full where the focus is, and the pointer."""
     hand = in_shift(stage, "switch")
     hand.browser.script("document.querySelector('main .net [data-name=\"N134\"]').focus()")
     for text in ("N134, between NOR-1C and NOR-1D", "tagged by KIM/1", "blocked by BOSS/1"):
         hand.shows(text, "main .in-full")
     hand.picture("held-in-full")
+    still(hand, "clearance/BOSS/1")
+    hand.browser.point(*hand.browser.script("""const { left, top, width, height } = document.querySelector('main .net [data-name="NOR-1D"] .box').getBoundingClientRect();
+        return [Math.round(left + width / 2), Math.round(top + height / 2)]"""))
+    for text in ("section NOR-1D", "BOSS/1 Granted, grounded"):
+        hand.shows(text, "main .in-full")
 
 
 def bays(stage):

@@ -96,7 +96,7 @@ export class Diagram {
     const drawing = this.#draw();
     this.#frame = el("div", { class: "net", tabindex: 0, role: "group", "aria-label": `One-line diagram. ${KEYS}` }, drawing, this.#inFull);
     // At the frame: a browser takes each part of a drawing that listens for the focus for a stop of Tab.
-    this.#frame.addEventListener("focusin", ({ target }) => this.#onFocus(target));
+    for (const type of ["focusin", "pointerover"]) this.#frame.addEventListener(type, (event) => this.#sayInFull(event));
     this.#zoom = new Zoom(this.#frame, drawing, this.#plan, (scale, view) => this.#writing.atView(scale, view));
     this.#roving = this.#rovings();
     this.node = el("div", { class: "diagram" }, this.#tools(), this.#byKeys, this.#frame, this.#dead, legend());
@@ -110,11 +110,11 @@ export class Diagram {
     return { section: new Roving(sections, this.#groups.section, reveal), point: new Roving(points, this.#groups.point, reveal) };
   }
 
-  // Says in full what is where the focus is, a name that has no room in the drawing too.
-  #onFocus({ dataset, firstChild }) {
-    const isPicked = this.#picking && dataset.kind === this.#picking.kind;
-    this.#inFull.textContent = isPicked ? firstChild.textContent.replaceAll("\n", "; ") : "";
-    if (isPicked) this.#roving[dataset.kind].onFocus(dataset.name);
+  // Says in full what the pointer or the focus is on, a name that has no room in the drawing too.
+  #sayInFull({ type, target }) {
+    const group = target.closest("[data-kind]"), { kind, name } = group?.dataset ?? {};
+    this.#inFull.textContent = group?.firstChild?.textContent.replaceAll("\n", "; ") ?? "";
+    if (type === "focusin" && kind && kind === this.#picking?.kind) this.#roving[kind].onFocus(name);
   }
 
   // Shows what another drawing of the same register showed: all but jumpers lies in the same places.
@@ -288,6 +288,6 @@ function legend() {
     entry(pointSample("way", "closed"), "purple: on the way to a source that the picked points leave open"),
     entry(sign("red"), "tested live, until it is tested dead"),
     entry(sign("O B C T"), "held open, blocked, control off, tagged, after the owner's name"),
-    entry(sign("…"), "an owner's name for which there is no room: a press there shows it"),
+    entry(sign("…"), "an owner's name for which there is no room: it is said below, once the pointer or the focus is there"),
     entry(sign("hand"), "its owner's step is given out there")));
 }

@@ -3,7 +3,7 @@
 import { BOX, partsOf, pointBox } from "./boxes.js";
 
 const ABOVE = -20, BELOW = 26;  // from the middle of a section to a line beside its row: below there is the sign of a ground
-const BESIDE = 6, APART = 4;    // from a box to a line that rises beside it; from one jumper to the next
+const BESIDE = 4, APART = 3;    // from a box to a line that rises beside it; from one jumper to the next
 const NEAR = 3, CLEAR = 8;      // what is free beside a line, and around its point
 const HIT = 1e5;                // what it costs to run through something, in lengths
 const PLACES = [0.5, 0.35, 0.65, 0.2, 0.8];
