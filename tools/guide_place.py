@@ -87,7 +87,7 @@ class Place:
         shutil.copytree(TOP / "desk", self.srv / "desk", ignore=shutil.ignore_patterns("run", "files"))
         for name in ("desk/files", "desk/run", "docs"):
             (self.srv / name).mkdir()
-        shutil.copy(TOP / "docs" / "RULES.md", self.srv / "docs")
+        shutil.copy(TOP / "docs" / "refusals.csv", self.srv / "docs")
         for name, beside in (("normal.csv", "normal.csv"), ("journal", "journal"), ("beside", ".")):
             (self.srv / "desk" / "files" / name).symlink_to(self.own / beside)
         (self.etc / "network").mkdir()

@@ -72,7 +72,7 @@ def install(root, tally):
     status, page = root.curl("/")
     tally.check("the page is there", status == "200" and "gridclear desk" in page, page)
     tally.check("and its files", all(root.curl(path)[0] == "200" for path in ("/page.js", "/clearances/offers.js")) and root.curl("/normal")[1] == (TOP / "examples" / "points.csv").read_text())
-    tally.check("and the table of refusals", root.curl("/replies/RULES.md") == ("200", (TOP / "docs/RULES.md").read_text()))
+    tally.check("and the table of refusals", root.curl("/replies/refusals.csv") == ("200", (TOP / "docs/refusals.csv").read_text()))
     tally.check("and the network", root.curl("/network")[1].startswith('{"points":[{"from":"G"'), root.curl("/network"))
     tally.check("a command by the page", root.curl("/command", "-d", COMMAND)[0] == "200")
     tally.check("a page of another site is refused", root.curl("/board", "-H", "Sec-Fetch-Site: cross-site")[0] == "403")

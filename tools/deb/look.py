@@ -110,7 +110,7 @@ def program(package, tally):
 def page(package, tally):
     """The page has the table of refusals beside its module, where a checkout has it in docs/."""
     files = package.files(package.data)
-    tally.check("the page has RULES", files.get("usr/share/gridclear/page/replies/RULES.md") == (TOP / "docs/RULES.md").read_bytes())
+    tally.check("the page has the refusals", files.get("usr/share/gridclear/page/replies/refusals.csv") == (TOP / "docs/refusals.csv").read_bytes())
 
 
 def unpacked(package, folder):

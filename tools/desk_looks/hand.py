@@ -67,6 +67,14 @@ class Hand:
             self.shows(text, "dialog")
         for one in answers:
             self.answer(one)
+        if name == "done" and not asked:
+            self.confirm_report()
+
+    def confirm_report(self):
+        """A report that makes something live or dead is asked about."""
+        wait_until(lambda: self.there("dialog") or self.newest()[0] > self.number, "a question or a reply to a report")
+        if self.there("dialog"):
+            self.answer("yes")
 
     def rest(self):
         """Pointer and focus leave the lists, so that what another desk does is shown at once."""
@@ -192,5 +200,6 @@ class Hand:
         self.reply("accepted", "repeat", text)
         count += self.tab_to("done")
         self.browser.keys(ENTER)
+        self.confirm_report()
         self.reply("accepted", "done")
         say(f"  a step's three commands by keyboard alone: {count + len(text) + 4} keys")

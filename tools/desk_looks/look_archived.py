@@ -45,6 +45,7 @@ def of_record(hand):
     hand.shows("It is over; its record stays")
     wait_until(lambda: any(row[0] == "1.1" for row in rows(hand)), "the steps of LEE/1")
     has_whole_log(rows(hand))
+    hand.shows("archived: the log below has them", "main .card")
     hand.lacks("On paper", "main")
     hand.lacks("OPEN", "main .steps-place")
 

@@ -155,6 +155,7 @@ def one_step(keys):
     keys.write("repeat-text", "open n11-q33" + ENTER)
     keys.accepted("repeat")
     keys.act("done")
+    keys.answer("yes")  # it makes N11-F33 dead
     keys.accepted("done")
     keys.press("#several", SPACE)
 
@@ -177,6 +178,7 @@ def grant_and_work(keys):
     keys.answer("yes")
     keys.accepted("live")
     keys.act("dead N11-F33")
+    keys.answer("yes")  # it ends an alarm
     keys.accepted("dead")
     keys.choose('main [data-name="to false"]', "KIM")
     keys.act("transfer false")
@@ -184,6 +186,7 @@ def grant_and_work(keys):
     keys.accepted("holder KIM")
     keys.speak("BOSS")
     keys.choose('main [data-name="to true"]', "JONES")
+    keys.write("reason", "KIM is ill")
     keys.act("transfer true")
     keys.answer("yes")
     keys.accepted("holder JONES")
@@ -254,7 +257,7 @@ def jumper(keys):
             raise Differs(f"the end that was picked by keys is {found}, not {wanted}")
     keys.act("lockable", SPACE)
     keys.act("jumper")
-    keys.hand.shows("Nobody can take it out", "dialog")
+    keys.hand.shows("No command takes it out", "dialog")
     keys.answer("yes")
     keys.accepted("J1 is in the register")
     keys.act("write CLOSE J1")

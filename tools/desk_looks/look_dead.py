@@ -1,6 +1,7 @@
 """What makes sections dead asks, with all their names, where more are than are named beside the button, or where people are;
-a harmless loop is said, and asks nothing."""
+a harmless loop is said, and asks nothing. The most important are named first, and all of them on demand."""
 
+from desk_looks import two_substations
 from desk_looks.network import ordered, step, switch
 
 STATION = [f"N11-F{feeder}{place}" for feeder in (1, 2, 3) for place in (1, 2, 3)]
@@ -11,11 +12,27 @@ def many(stage):
     """A whole station: at the form and at the step."""
     hand = stage.network([switch(["OPEN N11-Q0"])], "clearance/DISP1/1", speaker="DISP1")
     hand.declined("instruct", f"makes N11-BUS, {', '.join(STATION)} dead")
+    unfolds(hand, "main .step-place")
     hand.picture("dead-asked")
     hand.turn("switch")
     hand.pick("N11-Q0")
     hand.press("OPEN N11-Q0")
     hand.declined("switch", f"makes N11-BUS, {', '.join(STATION)} dead")
+    unfolds(hand, "main .turn-notes")
+
+
+def unfolds(hand, place):
+    """Six are named, and on demand all."""
+    hand.shows(f"N11-BUS, {', '.join(STATION[:5])} and 4 more", place)
+    hand.lacks(STATION[-1], place)
+    hand.browser.click(f"{place} details.more summary")
+    hand.shows(f"N11-BUS, {', '.join(STATION)}", place)
+
+
+def busbar(stage):
+    """A busbar and a source are named, whatever they are called."""
+    hand = stage.network([switch(["OPEN NOR-LV1"], by="BERT")], "clearance/BERT/1", speaker="BERT", net=two_substations)
+    hand.shows("makes NOR-BB1, LINE-14, LINE-15, NOR-1A, NOR-1B, NOR-1C and 9 more dead", "main .step-place")
 
 
 def few(stage):
@@ -38,4 +55,4 @@ def loop(stage):
     hand.carry_out("instruct", "instruct step 1")
 
 
-LOOKS = {"dead many": many, "dead few": few, "dead people": people, "dead loop": loop}
+LOOKS = {"dead many": many, "dead busbar": busbar, "dead few": few, "dead people": people, "dead loop": loop}

@@ -57,7 +57,7 @@ def switch(hand):
     hand.press("pick S2")
     hand.press("CLOSE S2")
     hand.carry_out("switch", "OPS/1", asked=["would be refused (HELD) for JONES/1"], answers=["send"])
-    hand.refused("instruct", "HELD, number 20", "in the way: JONES/1", asked=["would be refused (HELD) for JONES/1"], answers=["send"])
+    hand.refused("instruct", "You cannot instruct step 1 of OPS/1: JONES/1 has S2 held open.", "HELD, number 20", asked=["would be refused (HELD) for JONES/1"], answers=["send"])
     hand.turn("clearance/JONES/1")
     hand.shows("TAG S2", "main .step-place")
     time.sleep(0.5)
@@ -106,7 +106,7 @@ def stop_and_start(hand):
 def work_part(hand):
     say("work, and a register that hangs while a crew is signed on")
     hand.press("as JONES")
-    hand.refused("ground L2", "NOT_TESTED")
+    hand.refused("ground L2", "You cannot ground L2: it is not tested dead under JONES/1.", "NOT_TESTED, number 25")
     hand.carry_out("dead L2", "dead")
     hand.carry_out("ground L2", "ground L2")
     with hanging(hand.desk.register()):
@@ -137,6 +137,8 @@ def hand_over(hand):
 def transfer(hand, name, emergency=""):
     kind = "true" if emergency else "false"
     hand.browser.click(f'main [data-name="to {kind}"] option[value="{name}"]')
+    if emergency:
+        hand.write("reason", "a car accident")
     hand.carry_out(f"transfer {kind}", emergency, f"holder {name}", answers=["yes"])
 
 

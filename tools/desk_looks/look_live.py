@@ -52,10 +52,25 @@ def alarm(stage):
     reloads(one, two)
     for hand in (one, two):
         hand.turn("clearance/KIM/1")
-    one.carry_out("dead N13-F11", "dead")
+    ends_only_asked(one)
     for hand in (one, two):
         without(hand, "TESTED LIVE", "#alarms")
         without(hand, "TESTED LIVE", "main")
+
+
+def ends_only_asked(hand):
+    """What ends the alarm is neither beside what raises it, nor looks like it; it names who found the section live, and when."""
+    between = hand.rect('main [data-name="crew"]')
+    for section in ("N13-F11", "N13-F12"):
+        dead, live = (hand.rect(f'main [data-name="{name} {section}"]') for name in ("dead", "live"))
+        if not dead[3] < between[1] < between[3] < live[1]:
+            raise Differs(f"tested dead at {dead}, tested live at {live}")
+    looks = [hand.browser.script("const s = getComputedStyle(document.querySelector(arguments[0])); return [s.backgroundColor, s.borderColor, s.fontWeight]",
+                                 f'main [data-name="{name} N13-F11"]') for name in ("dead", "live")]
+    if any(one == other for one, other in zip(*looks)):
+        raise Differs(f"tested dead and tested live look alike: {looks}")
+    hand.declined("dead N13-F11", "N13-F11 was found live under KIM/1 by KIM, 20", "that ends the alarm at each desk", sent=1)
+    hand.carry_out("dead N13-F11", "dead", answers=["yes"])
 
 
 def sign_on_asks(hand):
@@ -137,9 +152,10 @@ def without_reply(stage):
     hand.found("N13-F12 is still tested dead", "not carried out")
     hand.shows("TESTED LIVE: N13-F12", "#alarms")
     hand.browser.click('#replies [data-name$="Give it again"]')
+    hand.answer("yes")
     hand.reply("accepted", "live")
     hand.shows("TESTED LIVE: N13-F12", "#alarms")
-    hand.carry_out("dead N13-F12", "dead")
+    hand.carry_out("dead N13-F12", "dead", answers=["yes"])
     without(hand, "TESTED LIVE", "#alarms")
 
 

@@ -35,9 +35,8 @@ def what_was(stage):
         hand.shows(normal, f'{row} [data-name="normal"]')
         hand.shows(before, f'{row} [data-name="before"]')
         other.shows("not known", f'{row} [data-name="before"]')
-        first = "CLOSE" if normal == "closed" else "LEAVE"
         found = choices(hand, point)
-        if [one[1] for one in found] != [False, False] or found[0][0] != first:
+        if found != [["CLOSE", False], ["LEAVE", False]]:
             raise Differs(f"the choices at {point} are {found}")
     hand.press(f"LEAVE {TIE}")
     other.shows("open", f'tr[data-point="{TIE}"] [data-name="normal"]')

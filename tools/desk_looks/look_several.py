@@ -3,7 +3,7 @@
 import json
 import time
 
-from desk_looks.browser import ENTER, Differs, say, wait_until
+from desk_looks.browser import ALT, ENTER, Differs, say, wait_until
 from desk_looks.look_accident import middle
 from desk_looks.network import needed, ordered, step
 
@@ -38,14 +38,17 @@ def row(stage):
         going(hand, "repeat-text")
         hand.browser.keys(text.lower() + ENTER)
         hand.reply("accepted", "DALE: repeat", text)
+        wait_until(lambda: hand.browser.script("return document.activeElement?.id") == "next", "the focus on the heading")
+        hand.browser.chord(ALT, "n")
         going(hand, "done")
         hand.browser.keys(ENTER)
+        hand.confirm_report()
         hand.reply("accepted", "DALE: report", "done")
         keys += 3
     commands = [json.loads(line) for line in hand.desk.sent()]
     if [one["by"] for one in commands] != ["DISP2", "DALE", "DALE"] * len(texts):
         raise Differs(f"the names are {[one['by'] for one in commands]}")
-    say(f"  {len(texts)} steps: {keys} times Enter beside the repeats, and no change of name")
+    say(f"  {len(texts)} steps: {keys} times Enter and {len(texts)} times Alt+N beside the repeats, and no change of name")
 
 
 def other_step(stage):
@@ -72,6 +75,9 @@ def held_key(stage):
     hand.browser.script("document.querySelector('main [data-name=done]').focus()")
     time.sleep(1)
     hand.browser.hold_enter(4)
+    hand.shows("Is OPEN N11-Q12 done in the field?", "dialog")
+    hand.nothing_sent(0)
+    hand.answer("yes")
     hand.reply("accepted", "report step 1")
     hand.nothing_sent(1)
 

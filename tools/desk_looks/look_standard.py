@@ -53,7 +53,7 @@ def exported(stage, hand):
 
 
 def imported(stage, hand):
-    """A file of another desk: its orders are offered; one names a point that is not there, which is left out."""
+    """A file of another desk: its orders are offered; one names a point that is not there, which is marked and asked about."""
     path = os.path.join(stage.work, "orders.json")
     order = {"kind": "order", "work": "N11-F12", "points": ["N11-Q12", "TIE1-N11-N12", "NONE"], "steps": ["OPEN NONE"]}
     with open(path, "w", encoding="utf-8") as file:
@@ -64,7 +64,12 @@ def imported(stage, hand):
     unfold(hand)
     hand.browser.click('main [data-name="standard"] option[value="N11-F12 for work"]')
     hand.press("take")
-    wait_until(lambda: written(hand) == ["OPEN N11-Q12", "OPEN TIE1-N11-N12", "BLOCK N11-Q12", "BLOCK TIE1-N11-N12", "TAG N11-Q12", "TAG TIE1-N11-N12"], "the needed steps")
+    needed = ["OPEN N11-Q12", "OPEN TIE1-N11-N12", "OPEN NONE", "BLOCK N11-Q12", "BLOCK TIE1-N11-N12", "TAG N11-Q12", "TAG TIE1-N11-N12"]
+    wait_until(lambda: written(hand) == needed, "the needed steps")
+    hand.shows("not in the network", "main .picks")
+    hand.declined("order", "OPEN NONE: not in the network")
+    hand.press("pick NONE")
+    wait_until(lambda: written(hand) == [one for one in needed if "NONE" not in one], "the steps without that point")
     hand.nothing_sent(0)
 
 

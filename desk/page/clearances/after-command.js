@@ -5,9 +5,7 @@ function withStep(view, number, changes) {
   return { steps: view.steps.map((step, place) => (place === number - 1 ? { ...step, ...changes } : step)) };
 }
 
-function asWritten(texts) {
-  return { steps: texts.map((text) => ({ text, state: "Waiting", reader: null })) };
-}
+const asWritten = (texts) => ({ steps: texts.map((text) => ({ text, state: "Waiting", reader: null })) });
 
 function amended(view, number) {
   return withStep(view, number, { text: view.steps[number - 1].text.replace(/^CLOSE /, "LEAVE ") });

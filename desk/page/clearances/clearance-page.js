@@ -1,6 +1,8 @@
 // One clearance or switch order: its card, who may do what next, its steps, its fence, points, holds and crews.
 
 import { holderCell } from "../board/board-page.js";
+import { storyOf } from "../log/log-words.js";
+import { isBegun } from "../log/reading-back.js";
 import { Story } from "../log/record-log.js";
 import { OrderEditor } from "../orders/isolating.js";
 import { RestoreEditor } from "../orders/restoring.js";
@@ -17,9 +19,10 @@ import { askLastMoment, lastMoment } from "./last-moment.js";
 import { isUnderWay, offersOf, presentStep } from "./offers.js";
 import { printedOrders } from "./printed-order.js";
 import { severalControl, withRow } from "./several-names.js";
+import { NOT_KEPT, reasonLines, reasonsOf } from "./reasons.js";
 import { amendControl, repeatControl, reportControl, stepsFindings, stepsTable } from "./steps.js";
 import { wayBackOf } from "./way-back.js";
-import { sectionState, workControl } from "./work.js";
+import { crewsOn, sectionState, workControl } from "./work.js";
 
 const CONTROLS = {
   order: (context) => new OrderEditor(context.view, context).node,
@@ -32,10 +35,10 @@ const CONTROLS = {
 const SHOWN = {
   order: () => [],
   restore: (view) => view.holds.filter((hold) => hold.by === view.card.clearance),
-  work: (view) => [view.fence, view.holds, view.crews, liveIn(view.fence)],
+  work: (view) => [view.fence, view.holds, crewsOn(view), liveIn(view.fence)],
   release: (view) => [view.card, releaseObstacles(view)],
-  transfer: (view) => view.card.holder,
-  emergency: (view) => view.card.holder,
+  transfer: (view) => [view.card.holder, crewsOn(view)],
+  emergency: (view) => [view.card.holder, crewsOn(view)],
   cancel: (view) => view.card.phase,
 };
 
@@ -85,11 +88,11 @@ function facts(view) {
     parts.push(el("h3", {}, `Points at the fence`), table(["Point", "Position", "In hand of", "Holds"], view.points.map((row) => pointRow(row, view))));
     parts.push(el("h3", {}, "Fence"), table(["Section", "Tests and grounds"], view.fence.map((name) => sectionRow(name, view))));
   }
-  if (view.crews.length) parts.push(el("h3", {}, "Crews on"), el("p", {}, view.crews.join(", ")));
-  if (view.card.round) {
-    const rounds = view.card.round === 2 ? [1, 2] : [1];
-    parts.push(el("h3", {}, "On paper"), printedOrders(view.card.clearance, rounds));
-  }
+  if (view.crews.length) parts.push(el("h3", {}, "Crews on"), el("p", {}, crewsOn(view).join(", ")));
+  const reasons = reasonLines(view.card.clearance);
+  if (reasons.length) parts.push(el("h3", {}, "In an emergency"), reasons, el("p", { class: "hint" }, NOT_KEPT));
+  const { clearance, round } = view.card;
+  if (round) parts.push(el("h3", {}, "On paper"), printedOrders(clearance, round === 2 ? [1, 2] : [1]));
   return parts;
 }
 
@@ -98,16 +101,23 @@ function momentCell(id) {
   return last === null ? "not known here" : el("span", { title: wholeTime(last) }, shortTime(last));
 }
 
+// An archive takes the steps of what is over. A record that never had an order has none either: only the log knows.
+function stepsWords({ clearance, phase, done, steps, round }) {
+  if (steps) return `${done} of ${steps} done, round ${round}`;
+  if (phase !== "Closed") return "none";
+  return storyOf(clearance).steps.length ? "archived: the log below has them" : isBegun(clearance) ? "none" : "none, or archived";
+}
+
 function card(view, staff) {
-  const { clearance, phase, holder, done, steps, round } = view.card;
+  const { clearance, phase, holder } = view.card;
   const fact = (name, ...value) => el("div", {}, el("dt", {}, name), el("dd", {}, ...value));
   return el("dl", { class: "card" },
     fact("Phase", el("span", { class: `phase ${phase}` }, phase), el("span", { class: "words" }, ` ${phaseWord(phase)}`)),
     fact(view.work ? "Work section" : "Kind", view.work ?? "switch order"),
     fact("Holder", holderCell(holder, view.work, staff)),
-    fact("Steps", steps ? `${done} of ${steps} done, round ${round}` : "none"),
+    fact("Steps", stepsWords(view.card)),
     fact("Last moment", momentCell(clearance)),
-    fact("Crews", view.crews.join(", ") || "none"));
+    fact("Crews", crewsOn(view).join(", ") || "none"));
 }
 
 // What one who may do nothing here waits for.
@@ -120,7 +130,7 @@ function idleWords(view, caller) {
 export class ClearancePage {
   #desk; #id; #made = new Map(); #missing = false; #known = false; #tall = 0;
   #card = el("div", { class: "card-place" }); #reading = el("div"); #next = el("div", { class: "next-body" }); #others = el("div"); #steps = el("div", { class: "steps-place" }); #facts = el("div", { class: "facts-place" }); #way = el("div", { class: "way-place" }); #story;
-  #heading = el("h3", { tabindex: -1, id: "next" }, "Next");
+  #heading = el("h3", { tabindex: -1, id: "next" }, "Next"); #holder = el("span", { class: "held-by" });
   title;
   node;
 
@@ -131,7 +141,7 @@ export class ClearancePage {
     choose(id);
     this.#story = new Story(id);
     this.node = el("section", { class: "clearance", "data-id": id },
-      el("h2", { tabindex: -1 }, id), this.#card,
+      el("h2", { tabindex: -1 }, id, this.#holder), this.#card,
       el("div", { class: "columns" },
         el("div", {}, el("div", { class: "next" }, this.#heading, this.#reading, this.#next, this.#others), this.#steps),
         el("div", {}, el("div", { class: "diagram-place small" }), this.#facts, this.#way)), this.#story.node);
@@ -144,9 +154,7 @@ export class ClearancePage {
     this.update();
   }
 
-  leave() {
-    this.#desk.pick(null);
-  }
+  leave() { this.#desk.pick(null); }
 
   update() {
     const view = viewOf(this.#id);
@@ -156,14 +164,15 @@ export class ClearancePage {
     }
     this.#known = true;
     askLastMoment(view, () => this.update());
-    const { staff } = this.#desk.network;
-    panel(this.#card, [view.card, view.work, view.crews, lastMoment(this.#id), staff.get(view.card.holder)?.supervisor], () => card(view, staff));
+    const { staff } = this.#desk.network, { holder } = view.card;
+    this.#holder.textContent = this.#id.startsWith(`${holder}/`) ? "" : ` held by ${holder}`;
+    panel(this.#card, [view.card, view.work, crewsOn(view), stepsWords(view.card), lastMoment(this.#id), staff.get(holder)?.supervisor], () => card(view, staff));
     this.#drawNext(view);
     const found = stepsFindings(view, this.#desk);
     panel(this.#steps, [view.steps, found, isUnderWay(view)], () => (view.steps.length ? [el("h3", {}, `Steps of round ${view.card.round}`), stepsTable(view, found)] : []));
     panel(this.#way, view.card.phase === "Closed", () => (view.card.phase === "Closed" ? [] : [wayBackOf(this.#id)]));
     this.#story.draw();
-    panel(this.#facts, [view.points, view.holds, view.fence, view.crews, view.card, liveIn(view.fence)], () => facts(view));
+    panel(this.#facts, [view.points, view.holds, view.fence, crewsOn(view), view.card, liveIn(view.fence), reasonsOf(this.#id)], () => facts(view).flat());
   }
 
   // Without a view nothing of an older one is left.
@@ -235,7 +244,5 @@ export class ClearancePage {
     return result;
   }
 
-  focusNext() {
-    this.#heading.focus();
-  }
+  focusNext() { this.#heading.focus(); }
 }

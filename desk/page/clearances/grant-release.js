@@ -1,16 +1,17 @@
 // Granting a clearance, giving it back, giving it up, and handing it over.
 
 import { drafted, draftName } from "../shared/drafts.js";
-import { el, button, choice, field } from "../shared/elements.js";
+import { el, button, choice, field, form } from "../shared/elements.js";
 import { namesOfRole } from "../shared/network.js";
-import { ask } from "../shared/question.js";
+import { agreed, ask } from "../shared/question.js";
+import { NOT_KEPT, noteReason } from "./reasons.js";
+import { crewsOn } from "./work.js";
 
 export async function grant(view, act) {
   const { clearance, holder } = view.card;
-  const answer = await ask(`Grant ${clearance} to ${holder}?`, [
-    `From now on ${holder} may test, ground and sign crews on; nobody takes a grant back, but the holder releases it.`,
-  ], [["yes", `Grant ${clearance} to ${holder}`], [null, "Do not grant it"]]);
-  if (answer === "yes") await act({ do: "grant", clearance });
+  const what = `From now on ${holder} may test, ground and sign crews on; nobody takes a grant back, but the holder releases it.`;
+  const grants = `Grant ${clearance} to ${holder}`;
+  if (await agreed(`${grants}?`, [what], grants, "Do not grant it")) await act({ do: "grant", clearance });
 }
 
 // Not where a step's controls were a moment ago.
@@ -21,7 +22,7 @@ export function grantControl({ view, act }) {
     button(`Grant ${clearance} to ${holder}`, () => grant(view, act), { "data-name": "grant", class: "main" }));
 }
 
-const NO = [null, "No: do not release"];
+const NO = "No: do not release";
 
 // What a release would be refused for.
 export function releaseObstacles({ card, crews, holds }) {
@@ -43,15 +44,11 @@ export async function release(view, act) {
     await notYet(clearance, obstacles);
     return;
   }
-  const notified = await ask(`Release ${clearance}: first of two`, [
-    "Releasing gives the line back: from then on it may be switched in.",
-    `Are all employees who work under ${clearance} notified that it is released?`,
-  ], [["yes", "Yes, all are notified"], NO]);
-  if (notified !== "yes") return;
-  const clear = await ask(`Release ${clearance}: second of two`, [
-    `Are all employees clear of ${view.fence.join(", ")}?`,
-  ], [["yes", "Yes, all are clear"], NO]);
-  if (clear !== "yes") return;
+  const notified = ["Releasing gives the line back: from then on it may be switched in.",
+    `Are all employees who work under ${clearance} notified that it is released?`];
+  if (!(await agreed(`Release ${clearance}: first of two`, notified, "Yes, all are notified", NO))) return;
+  const clear = `Are all employees clear of ${view.fence.join(", ")}?`;
+  if (!(await agreed(`Release ${clearance}: second of two`, [clear], "Yes, all are clear", NO))) return;
   await act({ do: "release", clearance, notified: true, clear: true });
 }
 
@@ -63,40 +60,42 @@ export function releaseControl({ view, act }) {
 }
 
 async function cancel(view, act) {
-  const { clearance, phase } = view.card;
-  const answer = await ask(`Cancel ${clearance}`, [
-    phase === "Ordered" ? "The order is given up. What it holds already is undone by a restoring order." : "It is given up; its record stays.",
-  ], [["yes", `Cancel ${clearance}`], [null, "Do not cancel"]]);
-  if (answer === "yes") await act({ do: "cancel", clearance });
+  const { clearance, phase } = view.card, cancels = `Cancel ${clearance}`;
+  const what = phase === "Ordered" ? "The order is given up. What it holds already is undone by a restoring order."
+    : "It is given up; its record stays.";
+  if (await agreed(cancels, [what], cancels, "Do not cancel")) await act({ do: "cancel", clearance });
 }
 
 export function cancelControl({ view, act }) {
   return el("div", { class: "offer" }, button(`Cancel ${view.card.clearance}`, () => cancel(view, act), { "data-name": "cancel" }));
 }
 
-function handOver({ view, act, staff }, emergency) {
+// Who has to be informed of it.
+const informedWords = (view) => (view.crews.length ? `Crews on: ${crewsOn(view).join(", ")}. Each has to be informed who is in charge now, and so have the operators.`
+  : "No crew is on. The operators have to be informed.");
+
+function handOver({ view, act, staff, caller }, emergency) {
   const { clearance, holder } = view.card;
   const names = namesOfRole(staff, "charge").filter((name) => name !== holder);
   const pick = choice([["", "choose"], ...names.map((name) => [name, name])], { "data-name": `to ${emergency}`, required: true });
   const to = drafted(pick, draftName(emergency ? "transfer in an emergency" : "transfer", clearance));
-  const send = async (event) => {
-    event.preventDefault();
-    if (!to.value) return;
-    const lines = emergency
-      ? [`You take ${clearance} from ${holder} in an emergency, as the holder's supervisor, and give it to ${to.value}.`]
+  const why = el("input", { type: "text", size: 30, maxlength: 200, autocomplete: "off", required: true, "data-name": "reason" });
+  const reason = emergency ? drafted(why, draftName("transfer for a reason", clearance)) : null;
+  const send = async () => {
+    const text = reason?.value.trim();
+    if (!to.value || text === "") return;
+    const first = emergency
+      ? [`You take ${clearance} from ${holder} in an emergency, as the holder's supervisor, and give it to ${to.value}.`, `The reason: ${text}. ${NOT_KEPT}`]
       : [`${to.value} becomes the holder of ${clearance}; you no longer are.`];
-    const answer = await ask(`Transfer ${clearance}`, lines, [["yes", `Transfer to ${to.value}`], [null, "Do not transfer"]]);
-    if (answer === "yes") await act({ do: "transfer", clearance, to: to.value, emergency });
+    const lines = [...first, informedWords(view)];
+    if (!(await agreed(`Transfer ${clearance}`, lines, `Transfer to ${to.value}`, "Do not transfer"))) return;
+    const { accepted } = await act({ do: "transfer", clearance, to: to.value, emergency });
+    if (accepted && emergency) noteReason({ clearance, by: caller.name, to: to.value, text });
   };
-  return el("form", { class: "offer line", onsubmit: send },
-    field(emergency ? "In an emergency, transfer to" : "Transfer to", to),
+  return form(send, { class: "offer line" },
+    field(emergency ? "In an emergency, transfer to" : "Transfer to", to), reason ? field("Reason", reason) : null,
     el("button", { "data-name": `transfer ${emergency}` }, "Transfer"));
 }
 
-export function transferControl(desk) {
-  return handOver(desk, false);
-}
-
-export function emergencyControl(desk) {
-  return handOver(desk, true);
-}
+export const transferControl = (desk) => handOver(desk, false);
+export const emergencyControl = (desk) => handOver(desk, true);

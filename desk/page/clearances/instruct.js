@@ -1,7 +1,7 @@
 // Giving a step out. The register judges it first; the text to be read out comes with its accepted reply, at the desk
 // that gave it alone.
 
-import { livingFindings, mayGo } from "../orders/findings-shown.js";
+import { living, livingFindings, mayGo } from "../orders/findings-shown.js";
 import { findingsAt } from "../orders/findings.js";
 import { el, button } from "../shared/elements.js";
 import { boardLine } from "../shared/watch.js";
@@ -21,8 +21,12 @@ export async function instruct(desk, view, step, act, by = {}) {
 }
 
 // What is in the way of the present step, kept up to date.
-export function stepNotes(desk, view, step) {
-  return livingFindings(() => findingsOf(desk, view, step));
+export const stepNotes = (desk, view, step) => livingFindings(() => findingsOf(desk, view, step));
+
+// What would be refused is not the act that is offered first.
+export function instructButton(desk, view, step, does, attributes = {}) {
+  const node = button(`Instruct step ${step.number}`, does, { "data-name": "instruct", ...attributes });
+  return living(node, () => node.classList.toggle("main", !findingsOf(desk, view, step).some(({ refused }) => refused)));
 }
 
 export function instructControl({ view, act, desk }) {
@@ -30,7 +34,7 @@ export function instructControl({ view, act, desk }) {
   return el("div", { class: "offer step-place" },
     el("p", {}, "Next is step ", String(step.number), ", ", el("span", { class: "text" }, step.text), ". Say nothing on the line before the register has accepted it."),
     stepNotes(desk, view, step),
-    button(`Instruct step ${step.number}`, () => instruct(desk, view, step, act), { class: "main", "data-name": "instruct" }));
+    instructButton(desk, view, step, () => instruct(desk, view, step, act)));
 }
 
 // An operator says that no other desk gave it.

@@ -8,18 +8,12 @@ import { boardLine } from "../shared/watch.js";
 
 const printed = new Map(); // clearance: what its printed order says, in seconds; null where there is none
 
-export function momentInOrder(text) {
-  return secondsOfPrinted(/^LAST (.*)$/m.exec(text)?.[1] ?? "");
-}
+export const momentInOrder = (text) => secondsOfPrinted(/^LAST (.*)$/m.exec(text)?.[1] ?? "");
 
-function momentInLog(id) {
-  return logRows().findLast((row) => row.id === id && row.done)?.at ?? null;
-}
+const momentInLog = (id) => logRows().findLast((row) => row.id === id && row.done)?.at ?? null;
 
 // In seconds; null where it is not known.
-export function lastMoment(id) {
-  return boardLine(id)?.last ?? printed.get(id) ?? momentInLog(id);
-}
+export const lastMoment = (id) => boardLine(id)?.last ?? printed.get(id) ?? momentInLog(id);
 
 // Asks for the order of a record that is over, once; `changed` is called where it has come.
 export async function askLastMoment({ card: { clearance, round, phase } }, changed) {

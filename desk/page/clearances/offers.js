@@ -5,9 +5,7 @@ import { WORK } from "../replies/command-words.js";
 import { namesOfRole } from "../shared/network.js";
 
 // Whether its steps are being done. What a cancel has left is not done any more.
-export function isUnderWay({ card: { phase } }) {
-  return ["Ordered", "Restoring", "Switching"].includes(phase);
-}
+export const isUnderWay = ({ card: { phase } }) => ["Ordered", "Restoring", "Switching"].includes(phase);
 
 // The first step that is not done, with its number; null where none is left to be done.
 export function presentStep(view) {
@@ -30,14 +28,10 @@ function stepOffers(view, staff) {
 }
 
 // Whether a step is given out, and not reported yet.
-export function isStepOut(view) {
-  return ["Instructed", "Repeated"].includes(presentStep(view)?.state);
-}
+export const isStepOut = (view) => ["Instructed", "Repeated"].includes(presentStep(view)?.state);
 
 // While a step is out a cancel would be refused.
-function cancelOffers(view, says) {
-  return isStepOut(view) ? [] : [{ does: "cancel", says, names: [view.card.holder] }];
-}
+const cancelOffers = (view, says) => isStepOut(view) ? [] : [{ does: "cancel", says, names: [view.card.holder] }];
 
 // A grant is offered when all steps are done, not before.
 function grantOffers(view, operators) {
@@ -45,11 +39,9 @@ function grantOffers(view, operators) {
 }
 
 function handing(view, staff) {
-  const { holder } = view.card;
-  const supervisor = staff.get(holder)?.supervisor;
-  const offers = [{ does: "transfer", says: "transfer the clearance", names: [holder] }];
-  if (supervisor) offers.push({ does: "emergency", says: "transfer it in an emergency", names: [supervisor] });
-  return offers;
+  const { holder } = view.card, supervisor = staff.get(holder)?.supervisor;
+  return [{ does: "transfer", says: "transfer the clearance", names: [holder] },
+    ...(supervisor ? [{ does: "emergency", says: "transfer it in an emergency", names: [supervisor] }] : [])];
 }
 
 const OFFERS = {

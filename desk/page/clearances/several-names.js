@@ -1,13 +1,13 @@
 // One row for the present step, where this desk speaks for several: it is given, repeated and reported, each by the name
-// that is chosen there. Enter goes on from one to the next, and nothing goes on by itself.
+// that is chosen there. Enter goes on from one to the next, but not to the report; and nothing goes on by itself.
 
 import { mayUse } from "../shared/caller.js";
-import { el, button, choice, field } from "../shared/elements.js";
+import { el, button, choice, field, form } from "../shared/elements.js";
 import { namesOfRole } from "../shared/network.js";
 import { keepIn, readKept } from "../shared/storage.js";
-import { instruct, stepNotes } from "./instruct.js";
+import { instruct, instructButton, stepNotes } from "./instruct.js";
 import { presentStep } from "./offers.js";
-import { heardInput, repeatAs } from "./steps.js";
+import { heardInput, repeatAs, reportAs } from "./steps.js";
 
 const KEPT = "gridclear-several";
 const PARTS = { Waiting: "giver", Instructed: "hearer", Repeated: "reporter" };
@@ -21,9 +21,7 @@ function keep(changes) {
   keepIn("sessionStorage", KEPT, kept);
 }
 
-export function isSeveral() {
-  return kept.on === true;
-}
+export const isSeveral = () => kept.on === true;
 
 export function startSeveral(box, changed) {
   box.checked = isSeveral();
@@ -45,9 +43,7 @@ function nameChoice(part, names, chosen, keepName) {
   return choice([["", "choose"], ...names.map((name) => [name, name])], { "data-name": part, onchange: (event) => keepName(event.target.value) }, known);
 }
 
-export function keepGiver(name, top) {
-  keep({ giver: { name, top } });
-}
+export const keepGiver = (name, top) => { keep({ giver: { name, top } }); };
 
 // Who gives: once another name is at the top, as after a hand-over, nobody gives in the name that was chosen before it.
 export function giverUnder(top) {
@@ -89,31 +85,27 @@ export function severalControl({ view, act, staff, desk, caller }) {
   const does = {
     giver: () => by(giver) && instruct(desk, view, step, act, by(giver)),
     hearer: () => by(hearer) && repeatAs(view, step, heard.value.trim(), act, by(hearer)),
-    reporter: (done) => by(reporter) && act({ do: "report", clearance, step: step.number, done, ...by(reporter) }),
+    reporter: (done) => by(reporter) && reportAs(desk, view, step, done, act, by(reporter)),
   };
   heard.size = 16;
   (part === "hearer" ? heard : null)?.setAttribute("data-goes", "yes");
-  const goes = (own) => (own === part && own !== "hearer" ? "yes" : null);
-  const send = (event) => {
-    event.preventDefault();
-    if (part === "hearer") does.hearer();
-  };
+  const send = () => { if (part === "hearer") does.hearer(); };
   // Enter in a list of names goes on to what is to be done.
   const goOn = (event) => {
     if (event.key !== "Enter" || event.target.tagName !== "SELECT") return;
     event.preventDefault();
     event.currentTarget.querySelector("[data-goes]")?.focus();
   };
-  return el("form", { class: "offer several step-place", onsubmit: send, onkeydown: goOn },
+  return form(send, { class: "offer several step-place", onkeydown: goOn },
     el("p", {}, `Step ${step.number} of ${view.steps.length}, `, el("span", { class: "text" }, step.text),
       part === "giver" ? ". Say nothing on the line before the register has accepted it." : ""),
     part === "giver" ? stepNotes(desk, view, step) : null,
     el("div", { class: "cells" },
       cell("Given by", part === "giver", giver,
-        el("div", { class: "answers" }, button(`Instruct step ${step.number}`, does.giver, { class: "main", "data-name": "instruct", "data-goes": goes("giver") }))),
+        el("div", { class: "answers" }, instructButton(desk, view, step, does.giver, { "data-goes": part === "giver" ? "yes" : null }))),
       cell("Repeated by", part === "hearer", hearer,
         el("div", { class: "answers" }, field("As it was heard", heard), el("button", { class: "main", "data-name": "repeat" }, `Repeat step ${step.number}`))),
       cell("Reported by", part === "reporter", reporter,
-        el("div", { class: "answers" }, button(`Step ${step.number} is done`, () => does.reporter(true), { class: "main", "data-name": "done", "data-goes": goes("reporter") }),
+        el("div", { class: "answers" }, button(`Step ${step.number} is done`, () => does.reporter(true), { class: "main", "data-name": "done" }),
           button(`Step ${step.number} was not done`, () => does.reporter(false), { "data-name": "not-done" })))));
 }

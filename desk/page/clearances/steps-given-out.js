@@ -13,9 +13,7 @@ const GAP = 30; // seconds without a look at the register, in which another desk
 // near the clock, and no gap since; `seen`: a view had the step as given out since then; `looked`: the last look.
 const given = new Map(readKept("sessionStorage", KEPT) ?? []);
 
-function keep() {
-  keepIn("sessionStorage", KEPT, [...given]);
-}
+const keep = () => { keepIn("sessionStorage", KEPT, [...given]); };
 
 // An instruct of this desk was accepted. It is not sure that no other desk gave the same where the reply was lost, or
 // where the moment is far off the clock: then all commands of the record have that moment.

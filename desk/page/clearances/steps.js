@@ -1,12 +1,12 @@
 // The steps of a clearance: their table, the repeat and the report of a step, and amend beside them.
 
 import { findingsList } from "../orders/findings-shown.js";
-import { findingsOfSteps } from "../orders/findings.js";
+import { findingsAt, findingsOfSteps } from "../orders/findings.js";
 import { stateWord } from "../replies/words.js";
 import { drafted, draftName } from "../shared/drafts.js";
-import { el, button, field, table, unbroken } from "../shared/elements.js";
+import { el, button, field, form, table, unbroken } from "../shared/elements.js";
 import { exampleStep } from "../shared/network.js";
-import { ask } from "../shared/question.js";
+import { agreed, ask } from "../shared/question.js";
 import { isUnderWay, presentStep, waitingCloses } from "./offers.js";
 
 const SIGNS = { Waiting: "○", Instructed: "◔", Repeated: "◑", Done: "●" };
@@ -62,18 +62,25 @@ export function heardInput(view, step) {
 
 export function repeatControl({ view, act, network }) {
   const step = presentStep(view), input = heardInput(view, step);
-  const send = (event) => {
-    event.preventDefault();
-    repeatAs(view, step, input.value.trim(), act);
-  };
-  return el("form", { class: "offer", onsubmit: send },
+  return form(() => repeatAs(view, step, input.value.trim(), act), { class: "offer" },
     field(`Step ${step.number}, repeated as you heard it`, input, `word for word, as ${exampleStep(network)}`),
     el("button", { class: "main", "data-name": "repeat" }, `Repeat step ${step.number}`));
 }
 
-export function reportControl({ view, act }) {
-  const step = presentStep(view);
-  const report = (done) => act({ do: "report", clearance: view.card.clearance, step: step.number, done });
+// Sends that a step was done, or was not. No command takes "done" back: what makes something live or dead, or joins two
+// sources, is asked about.
+export async function reportAs(desk, view, step, done, act, by = {}) {
+  const { clearance } = view.card, [action, name] = step.text.split(" ");
+  const found = done ? findingsAt(desk, name, { action, own: clearance }).filter(({ turns, joins }) => turns || joins) : [];
+  if (found.length) {
+    const lines = [...found.map(({ text, asked }) => `It ${asked ?? text}.`), "Nobody takes a report back: from then on all rely on it."];
+    if (!(await agreed(`Is ${step.text} done in the field?`, lines, `${step.text} is done`, "Do not report it"))) return null;
+  }
+  return act({ do: "report", clearance, step: step.number, done, ...by });
+}
+
+export function reportControl({ view, act, desk }) {
+  const step = presentStep(view), report = (done) => reportAs(desk, view, step, done, act);
   return el("div", { class: "offer" },
     el("p", { class: "readout" }, "You repeated: ", el("strong", {}, step.text)),
     el("div", { class: "answers" },
@@ -82,11 +89,10 @@ export function reportControl({ view, act }) {
 }
 
 async function amendStep(view, step, act) {
-  const point = step.text.split(" ")[1];
-  const answer = await ask(`Amend step ${step.number} of ${view.card.clearance}`, [
-    `${step.text} becomes LEAVE ${point}: the point stays open, and the step's hold is taken off.`,
-  ], [["yes", `Amend to LEAVE ${point}`], [null, "Leave it as it is"]]);
-  if (answer === "yes") await act({ do: "amend", clearance: view.card.clearance, step: step.number });
+  const point = step.text.split(" ")[1], { clearance } = view.card;
+  const what = `${step.text} becomes LEAVE ${point}: the point stays open, and the step's hold is taken off.`;
+  const isMeant = await agreed(`Amend step ${step.number} of ${clearance}`, [what], `Amend to LEAVE ${point}`, "Leave it as it is");
+  if (isMeant) await act({ do: "amend", clearance, step: step.number });
 }
 
 export function amendControl({ view, act }) {

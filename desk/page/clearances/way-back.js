@@ -2,27 +2,21 @@
 
 import { living } from "../orders/findings-shown.js";
 import { saidOf } from "../replies/command-words.js";
+import { faultWords } from "../replies/words.js";
 import { el, panel } from "../shared/elements.js";
 import { getWayBack } from "../shared/register.js";
 import { room } from "../shared/watch.js";
 
 const ADVICE = "Nothing here is sent. Each command is given by the one who is named, or another of that role, and states what has "
   + "then been done in the field. The list is the register's own, as it is now.";
-const WORDS = {
-  NoWay: "A step is given out, and the staff has no field employee who could report it: there is no way back.",
-  NoSuch: "The register has no such record.",
-  NoRoute: "This register does not answer the way back: it is older than this page.",
-};
 
-function commandsIn(text) {
-  return text.split("\n").filter(Boolean).map((line) => JSON.parse(line));
-}
+const commandsIn = (text) => text.split("\n").filter(Boolean).map((line) => JSON.parse(line));
 
 // What was answered, as what is drawn: commands, or a word why there are none.
-function wayIn({ kind, status, body, why }) {
+async function wayIn({ kind, status, body, why }) {
   if (kind === "answered" && status === 200 && typeof body === "string") return { commands: commandsIn(body) };
   if (kind === "lost") return { word: `No answer: ${why}. It is asked for again.` };
-  return { word: WORDS[body?.fault] ?? `The register does not answer it: status ${status}.` };
+  return { word: (await faultWords(status, body)).means };
 }
 
 function shown(id, { commands, word }) {
@@ -43,7 +37,7 @@ export function wayBackOf(id) {
   const look = async () => {
     if (!node.open || asked === room.turns) return;
     asked = room.turns;
-    const found = wayIn(await getWayBack(id));
+    const found = await wayIn(await getWayBack(id));
     panel(place, found, () => shown(id, found));
   };
   node.addEventListener("toggle", () => {

@@ -1,32 +1,56 @@
 // Work under a granted clearance: tests, grounds and crews, by its holder.
 
+import { has as isThere } from "../replies/effects.js";
 import { drafted, draftName } from "../shared/drafts.js";
-import { el, button, field, table } from "../shared/elements.js";
+import { el, button, field, form, table } from "../shared/elements.js";
 import { liveIn, untested } from "../shared/live-alarms.js";
-import { ask } from "../shared/question.js";
+import { wholeTime } from "../shared/moments.js";
+import { agreed, ask } from "../shared/question.js";
+import { room } from "../shared/watch.js";
 
-function isThere(view, kind, place) {
-  return view.holds.some((hold) => hold.kind === kind && hold.place === place && hold.by === view.card.clearance);
+// The other clearances under which a crew of this name is on.
+function elsewhere(crew, { card }) {
+  return [...room.views].filter(([id, { crews }]) => id !== card.clearance && crews.includes(crew)).map(([id]) => id);
 }
 
-function crewWords(view) {
-  return view.crews.length ? `On now: ${view.crews.join(", ")}. Call them off the section first.` : "No crew is on.";
+// The crews that are on, each with the other clearances that it is on under.
+export function crewsOn(view) {
+  return view.crews.map((crew) => {
+    const others = elsewhere(crew, view);
+    return others.length ? `${crew} (also under ${others.join(", ")})` : crew;
+  });
 }
 
-async function testedLive(view, section, give) {
-  const { clearance } = view.card;
-  const answer = await ask(`${section}: tested live?`, [
-    `It was found live: its test, if it has one, is taken away. Each desk with a log shows an alarm until it is tested dead or ${clearance} is released; another may show none, so say it on the line too.`,
-    crewWords(view),
-  ], [["yes", `${section} is live`], [null, "Do not send it"]]);
-  if (answer === "yes") await give({ do: "test", dead: false });
+const crewWords = (view, todo) => view.crews.length ? `On now: ${crewsOn(view).join(", ")}. ${todo}` : "No crew is on.";
+
+function foundWords({ id, section, by, at }) {
+  return `${section} was found live under ${id}${by ? ` by ${by}, ${wholeTime(at)}` : "; who said so, and when, is not known here"}.`;
 }
 
+// What ends an alarm is asked about; what is given again is always.
+export async function testedDead(view, section, give, again = false) {
+  const live = liveIn([section]), ends = `Under ${view.card.clearance} that ends the alarm at each desk.`;
+  const lines = [...live.map(foundWords), `Was it tested since then, and found dead? ${live.length ? ends : ""}`];
+  const isMeant = !(live.length || again) || await agreed(`${section}: tested dead?`, lines, `${section} is dead`, "Do not send it");
+  if (isMeant) await give({ do: "test", dead: true });
+}
+
+export async function testedLive(view, section, give) {
+  const lines = ["It was found live: its test, if it has one, is taken away. Each desk with a log shows an alarm until it is tested dead or "
+    + `${view.card.clearance} is released; another may show none, so say it on the line too.`, crewWords(view, "Call them off the section first.")];
+  if (await agreed(`${section}: tested live?`, lines, `${section} is live`, "Do not send it")) await give({ do: "test", dead: false });
+}
+
+// With a crew on, the ground of the work section has to stay, or to go back: nothing is to be stated then.
 export async function groundOff(view, section, give) {
-  const answer = await ask(`Ground off ${section}?`, [
-    `The ground is off in the field: ${section} is no longer grounded under ${view.card.clearance}, and its test is gone too.`,
-  ], [["yes", `The ground of ${section} is off`], [null, "Do not send it"]]);
-  if (answer === "yes") await give({ do: "unground" });
+  if (section === view.work && view.crews.length) {
+    const stays = crewWords(view, "The ground stays, or goes back on, until each of them has left and is signed off.");
+    await ask(`Ground off ${section}: not yet`, [`It would be refused (CREWS_ON). ${stays}`], [[null, "Go back"]]);
+    return;
+  }
+  const lines = [`The ground is off in the field: ${section} is no longer grounded under ${view.card.clearance}, and its test is gone too.`,
+    crewWords(view, `Do they all know that ${section} is no longer grounded?`)];
+  if (await agreed(`Ground off ${section}?`, lines, `The ground of ${section} is off`, "Do not send it")) await give({ do: "unground" });
 }
 
 // What is known of a section: its test and its ground, an alarm, and a test that is missing while work goes on.
@@ -51,41 +75,42 @@ function sectionRow(view, section, act) {
     el("th", { scope: "row" }, section, section === view.work ? [" ", el("span", { class: "chip" }, "work section")] : null),
     el("td", {}, sectionState(view, section)),
     el("td", { class: "say" },
-      button("Tested dead", () => give({ do: "test", dead: true }), { "data-name": `dead ${section}`, "aria-label": `${section} tested dead` }),
-      button("Tested live", () => testedLive(view, section, give), { "data-name": `live ${section}`, "aria-label": `${section} tested live` }),
+      button("Tested dead", () => testedDead(view, section, give), { "data-name": `dead ${section}`, "aria-label": `${section} tested dead` }),
       isThere(view, "Ground", section)
         ? button("Ground is off", () => groundOff(view, section, give), { "data-name": `ground ${section}`, "aria-label": `${section}: ground is off` })
         : button("Ground is on", () => give({ do: "ground" }), { "data-name": `ground ${section}`, "aria-label": `${section}: ground is on` })));
 }
 
-// Where a section of the fence was tested live, under another clearance too, a crew is signed on only after a question.
-export async function signOn(view, crew, act) {
-  const { clearance } = view.card, live = liveIn(view.fence);
-  if (live.length) {
-    const answer = await ask(`Sign ${crew} on beside an alarm?`, [
-      ...live.map(({ id, section }) => `Tested live under ${id}: ${section}.`), `A crew that is signed on works under ${clearance}.`,
-    ], [["yes", `Sign ${crew} on all the same`], [null, "Do not sign it on"]]);
-    if (answer !== "yes") return;
-  }
+// Away from "Tested dead", and of another look.
+function dangerControl(view, sections, act) {
+  const give = (section) => (parts) => act({ clearance: view.card.clearance, section, ...parts });
+  return el("div", { class: "danger" }, el("span", { class: "hint" }, "Found live by a test:"), sections.map((section) =>
+    button(`⚠ ${section} tested live`, () => testedLive(view, section, give(section)), { "data-name": `live ${section}` })));
+}
+
+// Where a section of the fence was tested live, under another clearance too, or the crew is on under another, it is signed
+// on only after a question; and always where that is given again.
+export async function signOn(view, crew, act, again = false) {
+  const { clearance } = view.card, others = elsewhere(crew, view);
+  const lines = [...liveIn(view.fence).map(({ id, section }) => `Tested live under ${id}: ${section}.`),
+    ...(others.length ? [`${crew} is on under ${others.join(", ")}.`] : [])];
+  const means = `A crew that is signed on works under ${clearance}. Has it come, and not left again?`, yes = `Sign ${crew} on all the same`;
+  const isAsked = lines.length > 0 || again;
+  if (isAsked && !(await agreed(`Sign ${crew} on to ${clearance}?`, [...lines, means], yes, "Do not sign it on"))) return;
   await act({ do: "sign_on", clearance, crew });
 }
 
 export async function signOff(view, crew, act) {
-  const answer = await ask(`Sign ${crew} off?`, [
-    `All of ${crew} have left the work, and the line may be given back without them.`,
-  ], [["yes", `${crew} is off`], [null, "Leave it on"]]);
-  if (answer === "yes") await act({ do: "sign_off", clearance: view.card.clearance, crew });
+  const means = `All of ${crew} have left the work, and the line may be given back without them.`, { clearance } = view.card;
+  if (await agreed(`Sign ${crew} off?`, [means], `${crew} is off`, "Leave it on")) await act({ do: "sign_off", clearance, crew });
 }
 
 function crewsControl(view, act) {
   const crew = drafted(el("input", { type: "text", size: 12, maxlength: 24, autocomplete: "off", "data-name": "crew" }), draftName("sign_on", view.card.clearance));
-  const send = (event) => {
-    event.preventDefault();
-    signOn(view, crew.value.trim().toUpperCase(), act);
-  };
+  const send = () => signOn(view, crew.value.trim().toUpperCase(), act);
   return el("div", {},
-    el("form", { class: "line", onsubmit: send }, field("Crew", crew), el("button", { "data-name": "sign-on" }, "Sign on")),
-    view.crews.length ? el("ul", { class: "crews" }, view.crews.map((name) => el("li", {}, `${name} is on `,
+    form(send, { class: "line" }, field("Crew", crew), el("button", { "data-name": "sign-on" }, "Sign on")),
+    view.crews.length ? el("ul", { class: "crews" }, view.crews.map((name, place) => el("li", {}, `${crewsOn(view)[place]} is on `,
       button(`Sign ${name} off`, () => signOff(view, name, act), { "data-name": `off ${name}` }))))
       : el("p", {}, "No crew is on."));
 }
@@ -94,5 +119,5 @@ export function workControl({ view, act }) {
   const sections = [...view.fence].sort((a, b) => (b === view.work) - (a === view.work));
   return el("div", { class: "offer" },
     table(["Section", "Now", "Say"], sections.map((section) => sectionRow(view, section, act)), { class: "work" }),
-    crewsControl(view, act));
+    crewsControl(view, act), dangerControl(view, sections, act));
 }

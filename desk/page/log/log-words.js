@@ -122,7 +122,7 @@ export function movedBefore(clearance, point) {
 const keyOf = ({ id, section }) => `${id} ${section}`;
 let alarmed = { rows: null, found: [] };
 
-// The sections that were found live, { id, section }, and neither tested dead since nor given back.
+// The sections that were found live, { id, section, by, at }, and neither tested dead since nor given back.
 export function liveByLog() {
   const rows = logRows();
   if (alarmed.rows !== rows) alarmed = { rows, found: foundLive(rows) };
@@ -131,8 +131,8 @@ export function liveByLog() {
 
 function foundLive(rows) {
   const live = new Map();
-  for (const { id, entry: { command }, done } of rows) {
-    const alarm = { id, section: command.section };
+  for (const { id, by, at, entry: { command }, done } of rows) {
+    const alarm = { id, section: command.section, by, at };
     if (done && command.do === "test") (command.dead ? live.delete(keyOf(alarm)) : live.set(keyOf(alarm), alarm));
     if (done && command.do === "release") for (const [key, one] of [...live]) if (one.id === id) live.delete(key);
   }

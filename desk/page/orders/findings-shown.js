@@ -7,10 +7,17 @@ import { findingsAt, findingsOfSteps, sectionWords, turnedBySteps } from "./find
 const MOST_ASKED = 10;
 const OWN = "This is the page's own reckoning, by what the register last answered. The register decides.";
 
+// A text, and where it leaves names out, the one with all of them on demand.
+export function unfolding(text, all = text) {
+  return all === text ? unbroken(text) : el("details", { class: "more" }, el("summary", {}, unbroken(text)), el("p", {}, unbroken(all)));
+}
+
 // A list of findings; nothing where there are none.
 export function findingsList(found) {
   if (!found.length) return null;
-  return el("ul", { class: "findings" }, found.map(({ text, asks }) => el("li", { class: asks ? "asks" : null }, unbroken(asks ? `⚠ ${text}` : text))));
+  const mark = (asks, text) => text && `${asks ? "⚠ " : ""}${text}`;
+  return el("ul", { class: "findings" }, found.map(({ text, asked, asks }) =>
+    el("li", { class: asks ? "asks" : null }, unfolding(mark(asks, text), mark(asks, asked)))));
 }
 
 // A part of the page that is looked at again whenever the page learns something.
@@ -61,9 +68,9 @@ export function turnNotes(desk, steps) {
   const node = el("div", { class: "turn-notes", role: "status" });
   return living(node, () => {
     const { live, dead } = turnedBySteps(desk, steps());
-    panel(node, [live, dead, steps().length > 0], () => (steps().length ? el("p", {}, "Once all these steps are done, by this page's reckoning: ",
-      live.length || dead.length ? unbroken([live.length ? `live will be ${sectionWords(live)}` : "", dead.length ? `dead will be ${sectionWords(dead)}` : ""].filter(Boolean).join("; "))
-        : "no section turns live or dead", ".") : []));
+    const line = (word, names) => (names.length ? el("div", {}, unfolding(`${word} will be ${sectionWords(names)}`, `${word} will be ${sectionWords(names, names.length)}`)) : null);
+    panel(node, [live, dead, steps().length > 0], () => (steps().length ? [el("p", {}, "Once all these steps are done, by this page's reckoning:"),
+      live.length || dead.length ? [line("live", live), line("dead", dead)] : el("p", {}, "no section turns live or dead.")].flat() : []));
   });
 }
 

@@ -1,19 +1,19 @@
 // What is in the way of a step, and what it would do, by this page's reckoning: a position that it has already, a hold, a
 // hand, another's fence, a position that is not normal, what a CLOSE would join, and what becomes live or dead. A finding
 // is { text, asks, turns, asked }; `asks`: it is asked about before anything is sent, by the text `asked` where that is
-// another; `turns`: it says what becomes live or dead; `loops`: it closes a loop.
+// another; `turns`: it says what becomes live or dead; `joins`: it joins two sources; `loops`: it closes a loop; `refused`:
+// for it the register would refuse the step.
 
 import { holdWord } from "../replies/words.js";
 import { Reckoning } from "../shared/feeding.js";
+import { network as register } from "../shared/network.js";
 import { isOffNormal } from "../shared/point-states.js";
 import { room } from "../shared/watch.js";
 import { closingOf, wayWords } from "../shared/ways.js";
 
-const MOST_NAMED = 6, OWN = "this page's reckoning";
+const MOST_NAMED = 6, MEETS = 4, OWN = "this page's reckoning"; // MEETS: points at a section that is no mere part of a line
 
-function crewWords(crews) {
-  return crews.length ? `, ${crews.length === 1 ? "crew" : "crews"} ${crews.join(", ")} on` : "";
-}
+const crewWords = (crews) => crews.length ? `, ${crews.length === 1 ? "crew" : "crews"} ${crews.join(", ")} on` : "";
 
 // A clearance with its phase and its crews, as OWENS/1 (Granted, crew C7 on).
 function nameWords(id) {
@@ -21,20 +21,19 @@ function nameWords(id) {
   return view ? `${id} (${view.card.phase}${crewWords(view.crews)})` : id;
 }
 
-// Sections by their names, or how many more there are.
+// Sections by their names, sources and busbars first, or how many more there are.
 export function sectionWords(names, most = MOST_NAMED) {
-  const more = names.length - most;
-  return `${names.slice(0, most).join(", ")}${more > 0 ? ` and ${more} more` : ""}`;
+  const isMain = (name) => register.sections.get(name)?.source || register.ways.get(name)?.length >= MEETS;
+  const all = [...names.filter(isMain), ...names.filter((name) => !isMain(name))], more = all.length - most;
+  return `${all.slice(0, most).join(", ")}${more > 0 ? ` and ${more} more` : ""}`;
 }
 
-function holdersOf(state, own) {
-  return [...new Set(state.holds.map((hold) => hold.by))].filter((by) => by !== own);
-}
+const holdersOf = (state, own) => [...new Set(state.holds.map((hold) => hold.by))].filter((by) => by !== own);
 
 function holdFindings(state, action, own) {
   return holdersOf(state, own).map((by) => {
     const kinds = state.holds.filter((hold) => hold.by === by).map((hold) => holdWord(hold.kind)).join(", ");
-    if (action === "CLOSE") return { text: `would be refused (HELD) for ${nameWords(by)}, which has it ${kinds}`, asks: true };
+    if (action === "CLOSE") return { text: `would be refused (HELD) for ${nameWords(by)}, which has it ${kinds}`, asks: true, refused: true };
     return { text: `${nameWords(by)} has it ${kinds}${action ? "" : "; a CLOSE would be refused for it"}`, asks: false };
   });
 }
@@ -49,7 +48,7 @@ function sameFindings(reckoning, name, action) {
 function handFindings(state, own, now) {
   if (!state.hand || state.hand === own) return [];
   const text = `in hand of ${state.hand}, whose step there is given out`;
-  return [now ? { text: `would be refused (IN_HAND): ${text}`, asks: true } : { text, asks: false }];
+  return [now ? { text: `would be refused (IN_HAND): ${text}`, asks: true, refused: true } : { text, asks: false }];
 }
 
 // Whose fence it lies in. At its border it is not said again of one that has a hold there.
@@ -74,7 +73,7 @@ function closingFindings(network, reckoning, point, own) {
   if (positionOf(point.name) === "closed") return [];
   const found = closingOf(network, positionOf, point);
   if (!found) return [];
-  if (!found.loop) return [{ text: `joins the sources ${found.joins.join(" and ")}: ${wayWords(found.way)}`, asks: true }];
+  if (!found.loop) return [{ text: `joins the sources ${found.joins.join(" and ")}: ${wayWords(found.way)}`, asks: true, joins: true }];
   const people = peopleOn(network, found.loop, own);
   return [{ text: `closes a loop${whereWords(people)}: ${wayWords(found.loop)}`, asks: people.length > 0, loops: true }];
 }
@@ -87,14 +86,12 @@ function peopleOn(network, names, own) {
   return [...new Set([...crews, ...hands])];
 }
 
-function whereWords(people) {
-  return people.length ? `, where people are under ${people.map(nameWords).join(" and ")}` : "";
-}
+const whereWords = (people) => people.length ? `, where people are under ${people.map(nameWords).join(" and ")}` : "";
 
 // Asked about with all names where people are on one of the sections, or where not all are named beside the button.
 function deadFinding(network, dead, own) {
   const people = peopleOn(network, dead, own), words = (names) => `makes ${names} dead${whereWords(people)} (${OWN})`;
-  return { text: words(sectionWords(dead)), asked: words(dead.join(", ")), asks: people.length > 0 || dead.length > MOST_NAMED, turns: true };
+  return { text: words(sectionWords(dead)), asked: words(sectionWords(dead, dead.length)), asks: people.length > 0 || dead.length > MOST_NAMED, turns: true };
 }
 
 // Those who have tested or grounded one of these sections.
@@ -105,20 +102,21 @@ function trustedIn(network, names, own) {
 
 function turnFindings(network, reckoning, point, position, own) {
   const { live, dead } = reckoning.turnedBy(point, position), others = trustedIn(network, live, own);
-  const trust = others.length ? `, which ${others.map(nameWords).join(" and ")} found dead or grounded` : "";
+  const trust = others.length ? `, which ${others.map(nameWords).join(" and ")} found dead or grounded` : "", words = (names) => `makes ${names} live${trust} (${OWN})`;
   return [
-    ...(live.length ? [{ text: `makes ${sectionWords(live)} live${trust} (${OWN})`, asks: others.length > 0, turns: true }] : []),
+    ...(live.length ? [{ text: words(sectionWords(live)), asked: words(sectionWords(live, live.length)), asks: others.length > 0, turns: true }] : []),
     ...(dead.length ? [deadFinding(network, dead, own)] : []),
   ];
 }
 
+export const GONE = "not in the network, as this page last read it";
 const MADE = { OPEN: "open", LEAVE: "open", CLOSE: "closed" };
 
 // At a point: `action` is that of the step, null while none is chosen; `own` the clearance that it belongs to, if any;
 // `now`: it is to go out now; `reckoning` has the positions that earlier steps of the same order will have made.
 export function findingsAt({ network, states }, name, { action = null, own = null, now = false, known = states(), reckoning = new Reckoning(network, known) } = {}) {
   const state = known.get(name);
-  if (!state) return [{ text: "not in the network, as this page last read it", asks: action === "CLOSE" }];
+  if (!state) return [{ text: GONE, asks: true }];
   return [
     ...sameFindings(reckoning, name, action),
     ...holdFindings(state, action, own),

@@ -12,14 +12,13 @@ import { StandardOrders } from "./standard-orders.js";
 
 const ACTIONS = ["OPEN", "BLOCK", "CONTROL", "TAG"];
 
-function neededAt(point) {
-  return ACTIONS.filter((action) => (action !== "BLOCK" || point.lockable) && (action !== "CONTROL" || point.remote))
-    .map((action) => `${action} ${point.name}`);
+// At a point that is no longer in the network one step is left, which is asked about.
+function neededAt({ name, lockable, remote, isGone }) {
+  return (isGone ? ["OPEN"] : ACTIONS.filter((action) => (action !== "BLOCK" || lockable) && (action !== "CONTROL" || remote)))
+    .map((action) => `${action} ${name}`);
 }
 
-function byPoint(points) {
-  return points.flatMap(neededAt);
-}
+const byPoint = (points) => points.flatMap(neededAt);
 
 // All the OPENs first, then the BLOCKs, and so on.
 function byAction(points) {
@@ -45,9 +44,7 @@ export class OrderEditor {
     desk.pick(this.#picker);
   }
 
-  #draftName() {
-    return draftName("order", this.#view.card.clearance);
-  }
+  #draftName() { return draftName("order", this.#view.card.clearance); }
 
   #keep() {
     learn();
@@ -72,7 +69,7 @@ export class OrderEditor {
   }
 
   #neededSteps() {
-    return this.#arrange([...this.#picker.picked].map((name) => this.#network.points.get(name)));
+    return this.#arrange([...this.#picker.picked].map((name) => this.#network.points.get(name) ?? { name, isGone: true }));
   }
 
   // Worked out once for what is picked.

@@ -2,15 +2,15 @@
 // taken off by a switch order, which the form offers to write.
 
 import { drafted, draftName } from "../shared/drafts.js";
-import { el, button, field, panel, table } from "../shared/elements.js";
-import { ask } from "../shared/question.js";
+import { el, button, field, form, panel, table } from "../shared/elements.js";
+import { agreed } from "../shared/question.js";
 import { findingsList, learn, living } from "./findings-shown.js";
 import { jumperFindings } from "./findings.js";
 import { offerStep } from "./switch-order.js";
 
 const PARTS = { point: "Name", from: "From section", to: "To section" };
 const NO_SOURCE = "A jumper makes no source: orders take what is beyond it for dead. What may feed its far end, as a generator, "
-  + "needs a source in the sections file before the register is made; without one, name the jumper in each order near it.";
+  + "needs a source in the sections file, which an update of the register brings; without one, name the jumper in each order near it.";
 
 // An input in capitals that keeps what is typed.
 function nameInput(part, sections) {
@@ -34,13 +34,9 @@ export class JumperForm {
     desk.pick(this);
   }
 
-  get picked() {
-    return new Set([this.#name("from"), this.#name("to")].filter(Boolean));
-  }
+  get picked() { return new Set([this.#name("from"), this.#name("to")].filter(Boolean)); }
 
-  #name(part) {
-    return this.#inputs[part].value.trim().toUpperCase();
-  }
+  #name(part) { return this.#inputs[part].value.trim().toUpperCase(); }
 
   // A section that is pressed on the diagram becomes the end that is missing, or no longer is one.
   toggle(name) {
@@ -57,12 +53,8 @@ export class JumperForm {
   }
 
   #form() {
-    const send = (event) => {
-      event.preventDefault();
-      this.#send();
-    };
     const mark = (box, text) => el("label", { class: "radio" }, box, text);
-    return el("form", { class: "offer", onsubmit: send },
+    return form(() => this.#send(), { class: "offer" },
       el("p", { class: "elsewhere" }, NO_SOURCE),
       el("p", {}, "Add a jumper here before it is laid. Press its two ends on the diagram, or name them; the second may be a new section."),
       this.#ends, Object.entries(PARTS).map(([part, text]) => field(text, this.#inputs[part])),
@@ -101,12 +93,12 @@ export class JumperForm {
   async #send() {
     const [point, from, to] = Object.keys(PARTS).map((part) => this.#name(part)), { sections } = this.#desk.network;
     const marks = [this.#lockable.checked ? "lockable" : "not lockable", this.#remote.checked ? "remote" : "not remote"].join(", ");
-    const answer = await ask(`Add jumper ${point} between ${from} and ${to}?`, [
+    const isMeant = await agreed(`Add jumper ${point} between ${from} and ${to}?`, [
       `It is ${marks}.${sections.has(to) ? "" : ` ${to} is a new section, and no source.`}`,
       ...this.#findings().map(({ text }) => `${text}.`),
-      "Nobody can take it out of the register again, and even open it is a way in. Read its name and both ends twice.",
-    ], [["yes", `Add ${point}`], [null, "Do not add it"]]);
-    if (answer !== "yes") return;
+      "No command takes it out of the register again, only an update does; even open it is a way in. Read its name and both ends twice.",
+    ], `Add ${point}`, "Do not add it");
+    if (!isMeant) return;
     const { accepted } = await this.#desk.act({ do: "jumper", point, from, to, lockable: this.#lockable.checked, remote: this.#remote.checked });
     if (!accepted) return;
     for (const input of Object.values(this.#inputs)) input.value = "";

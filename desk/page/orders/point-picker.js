@@ -3,7 +3,7 @@
 import { el, button, panel } from "../shared/elements.js";
 import { marksOf } from "../shared/network.js";
 import { living } from "./findings-shown.js";
-import { flagOf } from "./findings.js";
+import { flagOf, GONE } from "./findings.js";
 
 const MOST_LISTED = 150;
 
@@ -35,10 +35,10 @@ export class PointPicker {
     this.#changed(name, this.picked.has(name));
   }
 
-  // What was picked before a look elsewhere, or by a standard order; points that are not in the network are left out.
+  // What was picked before a look elsewhere, or by a standard order.
   put(names) {
     this.picked.clear();
-    for (const name of names) if (this.#network.points.has(name)) this.picked.add(name);
+    for (const name of names) this.picked.add(name);
     this.#draw();
   }
 
@@ -48,20 +48,28 @@ export class PointPicker {
       !text || point.name.includes(text) || point.from.includes(text) || point.to.includes(text));
   }
 
+  // First what is picked, of that first what an update has taken out of the network.
   #draw() {
-    const found = this.#found();
+    const found = this.#found(), gone = [...this.picked].filter((name) => !this.#network.points.has(name));
     const first = found.filter((point) => this.picked.has(point.name));
     const shown = [...first, ...found.filter((point) => !this.picked.has(point.name))].slice(0, MOST_LISTED);
     this.#count.textContent = shown.length < found.length ? `the first ${shown.length} of ${found.length}` : `${found.length} ${found.length === 1 ? "point" : "points"}`;
     const known = this.#desk.states();
     const rows = shown.map((point) => [point, this.picked.has(point.name), known.get(point.name).position, flagOf(this.#desk, point.name, this.#own, known)]);
-    panel(this.#list, rows, () => rows.map((row) => this.#row(...row)));
+    panel(this.#list, [gone, rows], () => [...gone.map((name) => this.#gone(name)), ...rows.map((row) => this.#row(...row))]);
+  }
+
+  #box(name, picked) {
+    return el("input", { type: "checkbox", checked: picked, "data-name": `pick ${name}`, onchange: () => this.toggle(name) });
+  }
+
+  #gone(name) {
+    return el("li", {}, el("label", {}, this.#box(name, true), el("strong", {}, name), " ", el("span", { class: "flag" }, GONE)));
   }
 
   #row(point, picked, position, flag) {
     const { name } = point;
-    const box = el("input", { type: "checkbox", checked: picked, "data-name": `pick ${name}`, onchange: () => this.toggle(name) });
-    return el("li", {}, el("label", {}, box, el("strong", {}, name), ` ${point.from} – ${point.to} `, el("strong", { class: "position" }, position), " ",
+    return el("li", {}, el("label", {}, this.#box(name, picked), el("strong", {}, name), ` ${point.from} – ${point.to} `, el("strong", { class: "position" }, position), " ",
       el("span", { class: "hint" }, `marks: ${marksOf(point)}`), " ", flag ? el("span", { class: "flag" }, flag) : null));
   }
 }

@@ -37,9 +37,7 @@ export class RestoreEditor {
     newest().then(learn);
   }
 
-  #draftName() {
-    return draftName("restore", this.#view.card.clearance);
-  }
+  #draftName() { return draftName("restore", this.#view.card.clearance); }
 
   #changed() {
     keepDraft(this.#draftName(), { ends: [...this.#ends], steps: this.#list.steps });
@@ -82,7 +80,7 @@ export class RestoreEditor {
         livingFindings(() => findingsAt(this.#desk, held.place, { own: clearance }))),
       el("td", { "data-name": "normal", "data-head": normal ? "Normally" : null }, normal ? el("strong", {}, state.point.normal) : "–"),
       this.#before(held.place),
-      el("td", { class: "choices" }, (normal === "LEAVE" ? ["LEAVE", "CLOSE"] : ["CLOSE", "LEAVE"]).map(end)));
+      el("td", { class: "choices" }, ["CLOSE", "LEAVE"].map(end)));
   }
 
   // What is known of it may come later than the form.

@@ -2,7 +2,7 @@
 // looked at and changed, and never sent from here.
 
 import { el, button, choice, field, panel } from "../shared/elements.js";
-import { ask } from "../shared/question.js";
+import { agreed } from "../shared/question.js";
 import { keepIn, readKept } from "../shared/storage.js";
 
 const KEPT = "gridclear-standard", FILE = "standard-orders.json";
@@ -10,13 +10,9 @@ const KEPT = "gridclear-standard", FILE = "standard-orders.json";
 const isTexts = (list) => Array.isArray(list) && list.every((one) => typeof one === "string");
 const isOrder = (one) => one && ["switch", "order"].includes(one.kind) && isTexts(one.steps) && isTexts(one.points) && typeof one.work === "string";
 
-function allKept() {
-  return readKept("localStorage", KEPT) ?? {};
-}
+const allKept = () => readKept("localStorage", KEPT) ?? {};
 
-function keepAll(orders) {
-  keepIn("localStorage", KEPT, orders);
-}
+const keepAll = (orders) => { keepIn("localStorage", KEPT, orders); };
 
 // The orders of a file, { name: order }; null where it is another file.
 function ordersIn(text) {
@@ -76,18 +72,15 @@ export class StandardOrders {
 
   #keep() {
     const name = this.#name.value.trim(), { points, steps } = this.#current();
-    if (!name || !steps.length) {
-      this.#said.textContent = steps.length ? "Give it a name." : "Nothing is written yet.";
-      return;
-    }
-    keepAll({ ...allKept(), [name]: { kind: this.#kind, work: this.#work, points, steps } });
+    const isWritten = name && steps.length > 0;
+    if (isWritten) keepAll({ ...allKept(), [name]: { kind: this.#kind, work: this.#work, points, steps } });
     this.#draw();
-    this.#said.textContent = `${name} is kept in this browser.`;
+    this.#said.textContent = isWritten ? `${name} is kept in this browser.` : steps.length ? "Give it a name." : "Nothing is written yet.";
   }
 
   async #forget() {
     const name = this.#pick.value, { [name]: gone, ...rest } = allKept();
-    if (!gone || (await ask(`Forget ${name}?`, [`${gone.steps.length} steps: ${gone.steps.join(", ")}.`], [["yes", "Forget it"], [null, "Keep it"]])) !== "yes") return;
+    if (!gone || !(await agreed(`Forget ${name}?`, [`${gone.steps.length} steps: ${gone.steps.join(", ")}.`], "Forget it", "Keep it"))) return;
     keepAll(rest);
     this.#draw();
   }

@@ -3,7 +3,7 @@
 import { draft, draftName, keepDraft } from "../shared/drafts.js";
 import { el, button, panel } from "../shared/elements.js";
 import { learn, living, mayGo, orderNotes, pickedNotes, turnNotes } from "./findings-shown.js";
-import { findingsOfSteps, turnedBySteps } from "./findings.js";
+import { findingsOfSteps, GONE, turnedBySteps } from "./findings.js";
 import { PointPicker, StepList } from "./point-picker.js";
 import { StandardOrders } from "./standard-orders.js";
 
@@ -33,14 +33,7 @@ export class SwitchEditor {
       button("Give the switch order", () => this.#send(), { class: "main", "data-name": "switch" }));
     desk.pick(this.#picker);
     living(this.#chosen, () => this.#drawChosen());
-    this.#recall();
-  }
-
-  // What was half written before a look elsewhere.
-  #recall() {
-    const kept = draft(DRAFT);
-    if (!kept) return;
-    this.#take(kept);
+    if (draft(DRAFT)) this.#take(draft(DRAFT)); // what was half written before a look elsewhere
   }
 
   // A standard order in place of what is written.
@@ -65,9 +58,9 @@ export class SwitchEditor {
 
   // Each picked point with its position, and what may be done there.
   #drawChosen() {
-    const known = this.#desk.states(), rows = [...this.#picker.picked].map((name) => [name, known.get(name)?.position]);
+    const known = this.#desk.states(), rows = [...this.#picker.picked].map((name) => [name, known.get(name)?.position ?? GONE]);
     panel(this.#chosen, rows, () => rows.map(([name, position]) => el("p", { class: "chosen" }, el("span", {}, el("strong", {}, name), ` is ${position}`),
-      MADE.flatMap(([action, made]) => this.#chooser(`${action} ${name}`, position === made ? `is ${made} already` : null)))));
+      (position === GONE ? [] : MADE).flatMap(([action, made]) => this.#chooser(`${action} ${name}`, position === made ? `is ${made} already` : null)))));
   }
 
   #chooser(text, already) {

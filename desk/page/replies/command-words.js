@@ -18,78 +18,58 @@ export const COMMANDS = {
   request: { said: (c) => `request section ${c.section}`, logged: (c) => `request ${c.section}` },
   order: {
     said: (c) => `order ${c.clearance}: points ${c.points.join(", ")}, ${c.steps.length} steps`,
-    logged: (c) => `order${points(c)}${steps(c)}`,
-    effect: ordered("Requested", 1),
+    logged: (c) => `order${points(c)}${steps(c)}`, effect: ordered("Requested", 1),
   },
   instruct: {
-    said: (c) => `instruct step ${c.step} of ${c.clearance}`,
-    logged: (c, text) => `instruct ${numbered(c, text)}`,
-    effect: stepIs((step) => step.state !== "Waiting", "given out"),
-    undone: "reported as not done",
+    said: (c) => `instruct step ${c.step} of ${c.clearance}`, logged: (c, text) => `instruct ${numbered(c, text)}`,
+    effect: stepIs((step) => step.state !== "Waiting", "given out"), undone: "reported as not done",
   },
   repeat: {
     said: (c) => `repeat step ${c.step} of ${c.clearance}: “${c.text}”`,
     logged: (c, text) => `repeat ${numbered(c, text)} ${JSON.stringify(c.text)}`,
-    effect: stepIs((step, { by }) => step.reader === by, "repeated by the same"),
-    undone: "repeated by another",
+    effect: stepIs((step, { by }) => step.reader === by, "repeated by the same"), undone: "repeated by another",
   },
   report: {
     said: (c) => `report step ${c.step} of ${c.clearance} ${c.done ? "done" : "not done"}`,
     logged: (c, text) => `report ${numbered(c, text)} ${c.done ? "done" : "not done"}`,
-    effect: stepIs((step, { done }) => step.state === (done ? "Done" : "Waiting"), "so"),
-    undone: "given out again",
+    effect: stepIs((step, { done }) => step.state === (done ? "Done" : "Waiting"), "so"), undone: "given out again",
   },
   grant: { said: (c) => `grant ${c.clearance}`, logged: () => "grant", effect: granted },
   cancel: { said: (c) => `cancel ${c.clearance}`, logged: () => "cancel", effect: cancelled },
   test: {
     said: (c) => `test ${c.section} under ${c.clearance}: ${c.dead ? "dead" : "live"}`,
-    logged: (c) => `test ${c.section} ${c.dead ? "dead" : "not dead"}`,
-    effect: tested,
-    undone: "tested again",
+    logged: (c) => `test ${c.section} ${c.dead ? "dead" : "not dead"}`, effect: tested, undone: "tested again",
   },
   ground: {
-    said: (c) => `ground ${c.section} under ${c.clearance}`,
-    logged: (c) => `ground ${c.section}`,
-    effect: placed("Ground", "grounded"),
-    undone: "taken off",
+    said: (c) => `ground ${c.section} under ${c.clearance}`, logged: (c) => `ground ${c.section}`,
+    effect: placed("Ground", "grounded"), undone: "taken off",
   },
   unground: {
-    said: (c) => `take the ground off ${c.section} under ${c.clearance}`,
-    logged: (c) => `unground ${c.section}`,
-    effect: taken("Ground", "grounded"),
-    undone: "put on",
+    said: (c) => `take the ground off ${c.section} under ${c.clearance}`, logged: (c) => `unground ${c.section}`,
+    effect: taken("Ground", "grounded"), undone: "put on",
   },
   sign_on: {
-    said: (c) => `sign crew ${c.crew} on to ${c.clearance}`,
-    logged: (c) => `sign on ${c.crew}`,
-    effect: crewIs(true),
-    undone: "signed off",
+    said: (c) => `sign crew ${c.crew} on to ${c.clearance}`, logged: (c) => `sign on ${c.crew}`,
+    effect: crewIs(true), undone: "signed off",
   },
   sign_off: {
-    said: (c) => `sign crew ${c.crew} off from ${c.clearance}`,
-    logged: (c) => `sign off ${c.crew}`,
-    effect: crewIs(false),
-    undone: "signed on",
+    said: (c) => `sign crew ${c.crew} off from ${c.clearance}`, logged: (c) => `sign off ${c.crew}`,
+    effect: crewIs(false), undone: "signed on",
   },
   transfer: {
     said: (c) => `transfer ${c.clearance} to ${c.to}${c.emergency ? ", emergency" : ""}`,
-    logged: (c) => `${c.emergency ? "emergency transfer" : "transfer"} to ${c.to}`,
-    effect: transferred,
-    undone: "handed on",
+    logged: (c) => `${c.emergency ? "emergency transfer" : "transfer"} to ${c.to}`, effect: transferred, undone: "handed on",
   },
   release: {
-    said: (c) => `release ${c.clearance}`,
+    said: (c) => `release ${c.clearance}`, effect: released,
     logged: (c) => `release, ${c.notified ? "notified" : "not notified"}, ${c.clear ? "clear" : "not clear"}`,
-    effect: released,
   },
   restore: {
-    said: (c) => `restore ${c.clearance}: ${c.steps.length} steps`,
-    logged: (c) => `restore${steps(c)}`,
+    said: (c) => `restore ${c.clearance}: ${c.steps.length} steps`, logged: (c) => `restore${steps(c)}`,
     effect: ordered("Released", 2),
   },
   amend: {
-    said: (c) => `amend step ${c.step} of ${c.clearance} to LEAVE`,
-    logged: (c, text) => `amend ${numbered(c, text)}`,
+    said: (c) => `amend step ${c.step} of ${c.clearance} to LEAVE`, logged: (c, text) => `amend ${numbered(c, text)}`,
     effect: stepIs((step) => step.text.startsWith("LEAVE "), "a LEAVE"),
   },
   jumper: {
@@ -99,6 +79,4 @@ export const COMMANDS = {
   switch: { said: (c) => `switch order: ${c.steps.join(", ")}`, logged: (c) => `switch${steps(c)}` },
 };
 
-export function saidOf(command) {
-  return `${command.by}: ${COMMANDS[command.do].said(command)}`;
-}
+export const saidOf = (command) => `${command.by}: ${COMMANDS[command.do].said(command)}`;

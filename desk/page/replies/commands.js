@@ -6,14 +6,14 @@ import { clockIsMeant, isNear, meantNow } from "../shared/clocks.js";
 import { dropDraftOf } from "../shared/drafts.js";
 import { noteTest } from "../shared/live-alarms.js";
 import { secondsOfField, shortTime, span, wholeTime } from "../shared/moments.js";
-import { ask } from "../shared/question.js";
+import { agreed, ask } from "../shared/question.js";
 import { isFresh, postCommand } from "../shared/register.js";
 import { keepIn, readKept } from "../shared/storage.js";
 import { asOwn } from "../shared/waiting-lists.js";
 import { boardLine, isOldView, lookAt, lookNow, putView, room, viewOf } from "../shared/watch.js";
 import { saidOf } from "./command-words.js";
 import { giveAgain } from "./give-again.js";
-import { addLost, addRefused, knownBefore, lookUp } from "./not-known.js";
+import { addLost, addRefused, dropAnswered, knownBefore, lookUp } from "./not-known.js";
 import { addReply, changeReply, onReplyAct, plainLines, repliesOf, replyOf } from "./replies.js";
 import { isStillMeant } from "./still-meant.js";
 
@@ -29,22 +29,14 @@ let sending = false;
 let since = 0; // when what is being sent was begun
 const listeners = [];
 
-export function setCaller(name) {
-  caller = name;
-}
+export const setCaller = (name) => { caller = name; };
 
-export function setMomentField(input) {
-  momentField = input;
-}
+export const setMomentField = (input) => { momentField = input; };
 
 // Listeners are called when a command goes out and when it is over.
-export function onSending(listener) {
-  listeners.push(listener);
-}
+export const onSending = (listener) => { listeners.push(listener); };
 
-export function isSending() {
-  return sending;
-}
+export const isSending = () => sending;
 
 function noteSending(value) {
   sending = value;
@@ -79,12 +71,11 @@ async function notBeforeLast(command, at) {
 async function nearTheClock(at) {
   const off = at - meantNow();
   if (isNear(at)) return true;
-  const answer = await ask("The moment is far from the clock", [
+  return agreed("The moment is far from the clock", [
     `The moment of this command is ${wholeTime(at)}.`,
     `That is ${span(off)} ${off < 0 ? "before" : "after"} this desk's clock, ${wholeTime(meantNow())}.`,
     "The register takes it as it is, and takes nothing earlier for this clearance afterwards.",
-  ], [["yes", "Give it with this moment"], [null, "Do not give it"]]);
-  return answer === "yes";
+  ], "Give it with this moment", "Do not give it");
 }
 
 async function momentFor(command) {
@@ -147,9 +138,7 @@ onReplyAct("again", "Give it again", (reply) => {
 });
 
 // The command that is under way is kept in the tab's storage, so that a page that is loaded again meanwhile knows of it.
-function keepPending(pending) {
-  keepIn("sessionStorage", PENDING, pending);
-}
+const keepPending = (pending) => { keepIn("sessionStorage", PENDING, pending); };
 
 // What was under way when the page was loaded again: its reply is lost, or was lost before that.
 export async function takeUpPending() {
@@ -169,8 +158,10 @@ async function send(command) {
   const known = knownBefore(command);
   keepPending({ command, known });
   const answer = await postCommand(command), isKnown = answer.kind !== "lost" && answer.status !== 503;
+  if (answer.body?.reply === "refused" && command.clearance) await asOwn(() => lookAt(command.clearance)); // its sentence says what is there
   const reply = isKnown ? addReply(await replyOf(command, answer)) : noteUnknown(command, answer, known);
   keepPending(null);
+  dropAnswered();
   if (isKnown) return noteKnown(command, answer.body ?? {});
   await lookUp(reply);
   return { accepted: false };
@@ -186,7 +177,7 @@ async function noteKnown(command, body) {
   const accepted = ["accepted", "added"].includes(body.reply);
   if (accepted) noteAccepted(command, body.card);
   const id = body.card?.clearance ?? command.clearance, isShown = accepted && showAccepted(command, body.card);
-  const look = id ? asOwn(() => lookAt(id)) : null;
+  const look = id && accepted ? asOwn(() => lookAt(id)) : null;
   if (!isShown) await look;
   asOwn(lookNow);
   return { accepted, id };

@@ -9,7 +9,7 @@ export const no = (text) => ({ found: "no", text });
 export const either = (text) => ({ found: "either", text });
 export const unknown = (text) => ({ found: "unknown", text });
 
-function has(view, kind, place) {
+export function has(view, kind, place) {
   return view.holds.some((hold) => hold.kind === kind && hold.place === place && hold.by === view.card.clearance);
 }
 
@@ -46,9 +46,7 @@ export function stepIs(reached, what) {
   };
 }
 
-function phaseOf(command, view) {
-  return `${command.clearance} is ${view.card.phase}.`;
-}
+const phaseOf = (command, view) => `${command.clearance} is ${view.card.phase}.`;
 
 // A record that is Released or further on may have been granted, or cancelled before a grant.
 export function granted(command, before, after) {

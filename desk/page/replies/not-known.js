@@ -14,7 +14,7 @@ import { contact, noteRefused } from "../shared/register.js";
 import { asOwn } from "../shared/waiting-lists.js";
 import { boardLine, lookAt, lookNow, room, viewOf } from "../shared/watch.js";
 import { saidOf } from "./command-words.js";
-import { judgeJumper, judgeLogged, judgeNew, judgeRecord } from "./outcome.js";
+import { isAccepted, judgeJumper, judgeLogged, judgeNew, judgeRecord } from "./outcome.js";
 import { addReply, changeReply, line, onReplyAct, plainLines, repliesOf } from "./replies.js";
 
 const WAIT = 3000; // between two looks
@@ -71,9 +71,7 @@ async function judged(asked) {
   return !logged || isOther ? { ...seen, by: isRefused ? "The board" : `The board at ${shortTime(room.read)}` } : { ...logged, by: "The log", isLogged: true };
 }
 
-function pause(milliseconds) {
-  return new Promise((settle) => setTimeout(settle, milliseconds));
-}
+const pause = (milliseconds) => new Promise((settle) => setTimeout(settle, milliseconds));
 
 async function untilAnswered() {
   while (!(await lookNow())) await pause(WAIT);
@@ -111,7 +109,7 @@ const FOUND = {
   waits: "It is carried out when the register is started again.",
   unknown: "Whether this command was carried out cannot be known from that.",
 };
-const OVER = ["yes", "either", "refused"];
+const OVER = ["yes", "either", "refused"], ANSWERED = ["accepted", "refused"];
 const ACTS = { waits: ["look"], no: ["look", "again", "leave"], unknown: ["look", "again", "leave"] };
 const MAY_STILL = "What waits before the register may still be carried out: look once more before you give the command again.";
 const MAY_RESTART = "While the register answers commands with 503 it may still be carried out, by a restart.";
@@ -135,6 +133,25 @@ async function sayFound(reply) {
   const answer = await asOwn(() => judged(reply.asked)), stays = staysOpen(reply, answer);
   if (answer.found === "yes" || answer.found === "either") noteCarriedOut(reply.asked, answer.sure === true);
   changeReply(reply, { kind: stays ? "open" : "found", lines: foundLines(reply, answer, stays), actions: ACTS[answer.found] ?? [] });
+  dropAnswered();
+}
+
+// What a command is about: of commands about the same the later one counts.
+const aboutOf = ({ clearance, section, crew, step, steps, do: what }) => JSON.stringify([clearance, section ?? crew ?? step ?? steps ?? what]);
+
+// Whether one about the same was answered since: here, or by the log at another desk.
+function isAnswered({ number, asked: { command, known } }) {
+  const isSuch = (one) => one && aboutOf(one) === aboutOf(command), logged = (known.number && entriesSince(known.number)) || [];
+  return ANSWERED.flatMap(repliesOf).some((reply) => reply.number > number && isSuch(reply.command))
+    || logged.some((entry) => isAccepted(entry) && isSuch(entry.command));
+}
+
+// What was answered since is not offered again.
+export function dropAnswered() {
+  for (const reply of ["open", "found"].flatMap(repliesOf)) {
+    const left = reply.actions?.filter((name) => name !== "again");
+    if (left && left.length < reply.actions.length && isAnswered(reply)) changeReply(reply, { actions: left });
+  }
 }
 
 // `sure`: the log says that it was this desk's.
@@ -164,6 +181,7 @@ function noteTaken() {
 
 // With each board those are looked up that are still open, in the order in which they were given.
 export async function lookUpOpen() {
+  dropAnswered();
   const open = repliesOf("open").reverse();
   if (busy || turn === room.turns || (!open.length && contact.refused === null)) return;
   busy = true;

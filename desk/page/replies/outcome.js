@@ -42,7 +42,7 @@ export function judgeNew(command, made) {
 }
 
 const sortedText = (command) => JSON.stringify(Object.entries(command).filter(([, value]) => value !== undefined).sort(([one], [other]) => (one < other ? -1 : 1)));
-const isAccepted = ({ reply, withdrawn }) => !withdrawn && reply.reply !== "refused";
+export const isAccepted = ({ reply, withdrawn }) => !withdrawn && reply.reply !== "refused";
 
 function entryWords({ number, reply, withdrawn }) {
   return `Number ${number} ${withdrawn ? "was withdrawn" : reply.reply === "refused" ? `was refused (${reply.refusal})` : "was accepted"}.`;

@@ -5,7 +5,7 @@ import { el, button, panel } from "../shared/elements.js";
 import { now, shortTime, wholeTime } from "../shared/moments.js";
 import { keepIn, readKept } from "../shared/storage.js";
 import { saidOf } from "./command-words.js";
-import { cardWords, faultWords, refusalWords, statusWords } from "./words.js";
+import { cardWords, faultWords, refusalWords } from "./words.js";
 
 const STORED = "gridclear-replies", MOST = 20;
 const replies = readKept("sessionStorage", STORED) ?? [];
@@ -19,9 +19,7 @@ export function showReplies(where) {
 }
 
 // What is done about a reply: `does` gets it.
-export function onReplyAct(name, text, does) {
-  acts.set(name, { text, does });
-}
+export const onReplyAct = (name, text, does) => { acts.set(name, { text, does }); };
 
 // What a reply is called, beside its colour and its sign.
 const HEADS = {
@@ -34,24 +32,14 @@ const HEADS = {
   unsent: ["–", "Not sent"],
 };
 
-function linkTo(id) {
-  return el("a", { href: `#/clearance/${id}` }, id);
-}
+const linkTo = (id) => el("a", { href: `#/clearance/${id}` }, id);
 
-export function line(...parts) {
-  return { parts };
-}
+export const line = (...parts) => ({ parts });
 
-export function plainLines(...texts) {
-  return texts.map((text) => line(text));
-}
+export const plainLines = (...texts) => texts.map((text) => line(text));
 
-function refusedLines({ name, named, means, todo }) {
-  return [
-    { class: "refusal", parts: [{ strong: name }, named ? ` — ${named}` : ""] },
-    line(means),
-    line({ strong: "What to do: " }, todo),
-  ];
+function refusedLines({ name, means, todo }) {
+  return [{ class: "refusal", parts: [{ strong: means }] }, line({ strong: "What to do: " }, todo), { class: "hint", parts: [name] }];
 }
 
 function drawnLine({ class: kind, parts }) {
@@ -112,20 +100,18 @@ export function changeReply(reply, changes) {
   keep();
 }
 
-export function repliesOf(kind) {
-  return replies.filter((reply) => reply.kind === kind);
-}
+export const repliesOf = (kind) => replies.filter((reply) => reply.kind === kind);
 
 // What the register answered to a command, or the proxy in its place.
 export async function replyOf(command, answer) {
   const clearance = answer.body?.card?.clearance ?? command.clearance;
-  return { said: saidOf(command), clearance, ...await answered(answer) };
+  return { said: saidOf(command), clearance, command, ...await answered(command, answer) };
 }
 
-async function answered({ kind, status, body }) {
-  if (kind === "barred") return { kind: "fault", lines: refusedLines(statusWords(status)) };
+async function answered(command, { kind, status, body }) {
+  if (kind === "barred") return { kind: "fault", lines: refusedLines(await faultWords(status)) };
   if (body.reply === "accepted") return { kind: "accepted", lines: plainLines(cardWords(body.card)) };
   if (body.reply === "added") return { kind: "accepted", lines: plainLines(`Jumper ${body.point} is in the register, open.`) };
-  if (body.reply === "refused") return { kind: "refused", lines: refusedLines(await refusalWords(body)) };
-  return { kind: "fault", lines: refusedLines(faultWords(status, body)) };
+  if (body.reply === "refused") return { kind: "refused", lines: refusedLines(await refusalWords(command, body)) };
+  return { kind: "fault", lines: refusedLines(await faultWords(status, body)) };
 }

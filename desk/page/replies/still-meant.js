@@ -11,6 +11,4 @@ const SAME = {
 };
 
 // `seen` is the view that the control was made from, `now` that of the register.
-export function isStillMeant(command, seen, now) {
-  return SAME[command.do]?.(command, seen, now) ?? true;
-}
+export const isStillMeant = (command, seen, now) => SAME[command.do]?.(command, seen, now) ?? true;

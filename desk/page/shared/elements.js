@@ -33,6 +33,11 @@ export function button(text, does, attributes = {}) {
   return el("button", { type: "button", onclick: does, ...attributes }, text);
 }
 
+// A form that does this when it is sent, and is not sent.
+export function form(does, attributes, ...children) {
+  return el("form", { ...attributes, onsubmit: (event) => { event.preventDefault(); does(); } }, ...children);
+}
+
 // A label with its control.
 export function field(text, control, hint) {
   return el("label", { class: "field" }, el("span", { class: "name" }, text), control,

@@ -32,7 +32,7 @@ export function onAlarmElsewhere(listener) {
 }
 
 // A test that this page has given: accepted, or without a reply. The views that came before its reply say nothing of it.
-export function noteTest({ do: what, clearance: id, section, dead }, accepted, room) {
+export function noteTest({ do: what, by, clearance: id, section, dead }, accepted, room) {
   if (what !== "test" || (dead && !accepted)) return;
   noteRoom(room);
   const key = `${id} ${section}`;
@@ -40,7 +40,7 @@ export function noteTest({ do: what, clearance: id, section, dead }, accepted, r
     own.delete(key);
     seen.delete(key);
   } else {
-    own.set(key, { id, section, at: now(), taken: accepted });
+    own.set(key, { id, section, by, at: now(), taken: accepted });
   }
   keep();
 }
@@ -85,10 +85,11 @@ export function noteRoom(room) {
   if (JSON.stringify([...own.values()]) !== kept) keep();
 }
 
-// All alarms, as { id, section }.
+// All alarms, as { id, section, by, at }: who said so, and when, where this desk said it or has a log.
 export function alarms() {
-  const logged = liveByLog().map((alarm) => [`${alarm.id} ${alarm.section}`, alarm]);
-  return [...new Map([...logged, ...seen, ...own]).values()].sort((a, b) => (`${a.id} ${a.section}` < `${b.id} ${b.section}` ? -1 : 1));
+  const all = new Map([...seen, ...own]);
+  for (const alarm of liveByLog()) all.set(`${alarm.id} ${alarm.section}`, alarm);
+  return [...all.values()].sort((a, b) => (`${a.id} ${a.section}` < `${b.id} ${b.section}` ? -1 : 1));
 }
 
 export function liveUnder(id) {
@@ -97,7 +98,7 @@ export function liveUnder(id) {
 
 // The alarms of these sections, under whichever clearance.
 export function liveIn(sections) {
-  return alarms().filter(({ section }) => sections.includes(section)).map(({ id, section }) => ({ id, section }));
+  return alarms().filter(({ section }) => sections.includes(section)).map(({ id, section, by, at }) => ({ id, section, by, at }));
 }
 
 // The sections of a clearance without a test while work goes on there: a crew or a ground is on.

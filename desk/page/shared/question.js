@@ -2,6 +2,11 @@
 
 import { el, button, unbroken } from "./elements.js";
 
+// Whether the operator says yes to this; `no` is what the other button says.
+export async function agreed(title, lines, yes, no) {
+  return (await ask(title, lines, [["yes", yes], [null, no]])) === "yes";
+}
+
 // Shows the lines and a button for each answer, as [value, text]; gives the value of the one that was taken, null where
 // the question was left by Escape. The last answer, which does nothing, has the focus.
 export function ask(title, lines, answers) {

@@ -23,12 +23,13 @@ function wayTo(found, end) {
 
 const sourcesOf = ({ sections }, found) => [...found.keys()].filter((name) => sections.get(name)?.source);
 
-// The fence of these points, whatever their positions: its sections, and each source in it with the way there. A way
-// that leads through another source is left out.
+// The fence of these points, whatever their positions: its sections, and each source in it with the way there, first the
+// least by name, as the register names it. Of the others a way that leads through another source is left out.
 export function fenceOf(network, work, cut) {
   const found = reached(network, work, (point) => !cut.has(point.name));
-  const sources = sourcesOf(network, found).map((source) => ({ source, way: wayTo(found, source) }))
-    .filter(({ way }) => way.filter((name, place) => place % 2 === 0 && network.sections.get(name)?.source).length === 1);
+  const isDirect = (way) => way.filter((name, place) => place % 2 === 0 && network.sections.get(name)?.source).length === 1;
+  const sources = sourcesOf(network, found).sort().map((source) => ({ source, way: wayTo(found, source) }))
+    .filter(({ way }, place) => place === 0 || isDirect(way));
   return { sections: new Set(found.keys()), sources };
 }
 
