@@ -7,17 +7,13 @@ function withStep(view, number, changes) {
 
 const asWritten = (texts) => ({ steps: texts.map((text) => ({ text, state: "Waiting", reader: null })) });
 
-function amended(view, number) {
-  return withStep(view, number, { text: view.steps[number - 1].text.replace(/^CLOSE /, "LEAVE ") });
-}
-
 const CHANGES = {
   order: (view, { steps }) => asWritten(steps),
   restore: (view, { steps }) => asWritten(steps),
   instruct: (view, { step }) => withStep(view, step, { state: "Instructed", reader: null }),
   repeat: (view, { step, by }) => withStep(view, step, { state: "Repeated", reader: by }),
   report: (view, { step, done }) => withStep(view, step, done ? { state: "Done" } : { state: "Waiting", reader: null }),
-  amend: (view, { step }) => amended(view, step),
+  amend: (view, { step }) => withStep(view, step, { text: view.steps[step - 1].text.replace(/^CLOSE /, "LEAVE ") }),
   sign_on: (view, { crew }) => ({ crews: [...view.crews, crew].sort() }),
   sign_off: (view, { crew }) => ({ crews: view.crews.filter((one) => one !== crew) }),
   grant: () => ({}), release: () => ({}), cancel: () => ({}), transfer: () => ({}),

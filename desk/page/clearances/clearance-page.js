@@ -105,7 +105,8 @@ function momentCell(id) {
 function stepsWords({ clearance, phase, done, steps, round }) {
   if (steps) return `${done} of ${steps} done, round ${round}`;
   if (phase !== "Closed") return "none";
-  return storyOf(clearance).steps.length ? "archived: the log below has them" : isBegun(clearance) ? "none" : "none, or archived";
+  if (storyOf(clearance).steps.length) return "archived: the log below has them";
+  return isBegun(clearance) ? "none" : "none, or archived";
 }
 
 function card(view, staff) {
@@ -166,13 +167,15 @@ export class ClearancePage {
     askLastMoment(view, () => this.update());
     const { staff } = this.#desk.network, { holder } = view.card;
     this.#holder.textContent = this.#id.startsWith(`${holder}/`) ? "" : ` held by ${holder}`;
-    panel(this.#card, [view.card, view.work, crewsOn(view), stepsWords(view.card), lastMoment(this.#id), staff.get(holder)?.supervisor], () => card(view, staff));
+    const shown = [view.card, view.work, crewsOn(view), stepsWords(view.card), lastMoment(this.#id), staff.get(holder)?.supervisor];
+    panel(this.#card, shown, () => card(view, staff));
     this.#drawNext(view);
     const found = stepsFindings(view, this.#desk);
     panel(this.#steps, [view.steps, found, isUnderWay(view)], () => (view.steps.length ? [el("h3", {}, `Steps of round ${view.card.round}`), stepsTable(view, found)] : []));
     panel(this.#way, view.card.phase === "Closed", () => (view.card.phase === "Closed" ? [] : [wayBackOf(this.#id)]));
     this.#story.draw();
-    panel(this.#facts, [view.points, view.holds, view.fence, crewsOn(view), view.card, liveIn(view.fence), reasonsOf(this.#id)], () => facts(view).flat());
+    const known = [view.points, view.holds, view.fence, crewsOn(view), view.card, liveIn(view.fence), reasonsOf(this.#id)];
+    panel(this.#facts, known, () => facts(view).flat());
   }
 
   // Without a view nothing of an older one is left.

@@ -9,8 +9,8 @@ import { crewsOn } from "./work.js";
 
 export async function grant(view, act) {
   const { clearance, holder } = view.card;
-  const what = `From now on ${holder} may test, ground and sign crews on; nobody takes a grant back, but the holder releases it.`;
-  const grants = `Grant ${clearance} to ${holder}`;
+  const grants = `Grant ${clearance} to ${holder}`, what = `From now on ${holder} may test, ground and sign crews on; `
+    + "nobody takes a grant back, but the holder releases it.";
   if (await agreed(`${grants}?`, [what], grants, "Do not grant it")) await act({ do: "grant", clearance });
 }
 
@@ -40,16 +40,13 @@ function notYet(clearance, obstacles) {
 
 export async function release(view, act) {
   const { clearance } = view.card, obstacles = releaseObstacles(view);
-  if (obstacles.length) {
-    await notYet(clearance, obstacles);
-    return;
-  }
+  if (obstacles.length) return notYet(clearance, obstacles);
   const notified = ["Releasing gives the line back: from then on it may be switched in.",
     `Are all employees who work under ${clearance} notified that it is released?`];
-  if (!(await agreed(`Release ${clearance}: first of two`, notified, "Yes, all are notified", NO))) return;
+  if (!(await agreed(`Release ${clearance}: first of two`, notified, "Yes, all are notified", NO))) return null;
   const clear = `Are all employees clear of ${view.fence.join(", ")}?`;
-  if (!(await agreed(`Release ${clearance}: second of two`, [clear], "Yes, all are clear", NO))) return;
-  await act({ do: "release", clearance, notified: true, clear: true });
+  if (!(await agreed(`Release ${clearance}: second of two`, [clear], "Yes, all are clear", NO))) return null;
+  return act({ do: "release", clearance, notified: true, clear: true });
 }
 
 export function releaseControl({ view, act }) {
@@ -71,25 +68,29 @@ export function cancelControl({ view, act }) {
 }
 
 // Who has to be informed of it.
-const informedWords = (view) => (view.crews.length ? `Crews on: ${crewsOn(view).join(", ")}. Each has to be informed who is in charge now, and so have the operators.`
-  : "No crew is on. The operators have to be informed.");
+function informedWords(view) {
+  if (!view.crews.length) return "No crew is on. The operators have to be informed.";
+  return `Crews on: ${crewsOn(view).join(", ")}. Each has to be informed who is in charge now, and so have the operators.`;
+}
+
+function reasonInput(clearance) {
+  const attributes = { size: 30, maxlength: 200, autocomplete: "off", required: true, "data-name": "reason" };
+  return drafted(el("input", { type: "text", ...attributes }), draftName("transfer for a reason", clearance));
+}
 
 function handOver({ view, act, staff, caller }, emergency) {
-  const { clearance, holder } = view.card;
+  const { clearance, holder } = view.card, reason = emergency ? reasonInput(clearance) : null;
   const names = namesOfRole(staff, "charge").filter((name) => name !== holder);
   const pick = choice([["", "choose"], ...names.map((name) => [name, name])], { "data-name": `to ${emergency}`, required: true });
   const to = drafted(pick, draftName(emergency ? "transfer in an emergency" : "transfer", clearance));
-  const why = el("input", { type: "text", size: 30, maxlength: 200, autocomplete: "off", required: true, "data-name": "reason" });
-  const reason = emergency ? drafted(why, draftName("transfer for a reason", clearance)) : null;
   const send = async () => {
     const text = reason?.value.trim();
     if (!to.value || text === "") return;
-    const first = emergency
-      ? [`You take ${clearance} from ${holder} in an emergency, as the holder's supervisor, and give it to ${to.value}.`, `The reason: ${text}. ${NOT_KEPT}`]
-      : [`${to.value} becomes the holder of ${clearance}; you no longer are.`];
-    const lines = [...first, informedWords(view)];
-    if (!(await agreed(`Transfer ${clearance}`, lines, `Transfer to ${to.value}`, "Do not transfer"))) return;
-    const { accepted } = await act({ do: "transfer", clearance, to: to.value, emergency });
+    const taken = `You take ${clearance} from ${holder} in an emergency, as the holder's supervisor, and give it to ${to.value}.`;
+    const lines = [...(emergency ? [taken, `The reason: ${text}. ${NOT_KEPT}`]
+      : [`${to.value} becomes the holder of ${clearance}; you no longer are.`]), informedWords(view)];
+    const isMeant = await agreed(`Transfer ${clearance}`, lines, `Transfer to ${to.value}`, "Do not transfer");
+    const { accepted } = isMeant ? await act({ do: "transfer", clearance, to: to.value, emergency }) : {};
     if (accepted && emergency) noteReason({ clearance, by: caller.name, to: to.value, text });
   };
   return form(send, { class: "offer line" },

@@ -37,12 +37,6 @@ export function instructControl({ view, act, desk }) {
     instructButton(desk, view, step, () => instruct(desk, view, step, act)));
 }
 
-// An operator says that no other desk gave it.
-function claim(step, changed) {
-  noteGiven({ ...step, at: boardLine(step.clearance)?.last ?? 0 });
-  changed();
-}
-
 // What is above the controls while a step is given out. Where it was given, the text; at other desks a word of that. Where
 // another desk's instruct may have been the one, people have to agree before one of them speaks.
 export function readingOf(view, changed) {
@@ -54,8 +48,9 @@ export function readingOf(view, changed) {
       el("p", {}, `Read this out: step ${step.number} of ${clearance}`), el("strong", {}, step.text));
   }
   if (here === "perhaps") {
+    const claim = () => { noteGiven({ clearance, round, step: step.number, at: boardLine(clearance)?.last ?? 0 }); changed(); };
     return el("div", { class: "elsewhere" }, el("p", {}, `${name} is given out. This desk gave it, and another may have: a reply or a look was missed, or the moments do not show it. Ask the other desks whether one of them gave it.`),
-      button("No other desk gave it: show the text", () => claim({ clearance, round, step: step.number }, changed), { "data-name": "mine" }));
+      button("No other desk gave it: show the text", claim, { "data-name": "mine" }));
   }
   return el("p", { class: "elsewhere" }, `${name} was given out at another desk, which says it on the line. `
     + "If none did, have it repeated and reported as not done.");

@@ -33,11 +33,6 @@ export const isStepOut = (view) => ["Instructed", "Repeated"].includes(presentSt
 // While a step is out a cancel would be refused.
 const cancelOffers = (view, says) => isStepOut(view) ? [] : [{ does: "cancel", says, names: [view.card.holder] }];
 
-// A grant is offered when all steps are done, not before.
-function grantOffers(view, operators) {
-  return presentStep(view) ? [] : [{ does: "grant", says: "grant the clearance", names: operators }];
-}
-
 function handing(view, staff) {
   const { holder } = view.card, supervisor = staff.get(holder)?.supervisor;
   return [{ does: "transfer", says: "transfer the clearance", names: [holder] },
@@ -48,7 +43,8 @@ const OFFERS = {
   Requested: (view, staff, operators) => [
     { does: "order", says: "write the isolating order", names: operators }, ...cancelOffers(view, "cancel the request"), ...handing(view, staff)],
   Ordered: (view, staff, operators) => [
-    ...stepOffers(view, staff), ...grantOffers(view, operators), ...cancelOffers(view, "cancel the order"), ...handing(view, staff)],
+    ...stepOffers(view, staff), ...(presentStep(view) ? [] : [{ does: "grant", says: "grant the clearance", names: operators }]),
+    ...cancelOffers(view, "cancel the order"), ...handing(view, staff)],
   Granted: (view, staff) => [
     { does: "work", says: WORK, names: [view.card.holder] },
     { does: "release", says: "release the clearance", names: [view.card.holder] }, ...handing(view, staff)],

@@ -11,7 +11,7 @@ import { now, secondsOfPrinted, wholeTime } from "../shared/moments.js";
 import { getOrder } from "../shared/register.js";
 import { reasonLines } from "./reasons.js";
 
-const SIGNED = ["Given by", "Repeated by", "Holder"].map((who) => `${who}: ____________________  Date, time: ______________`);
+const SIGNED = ["Given by", "Repeated by", "Holder"].map((who) => `${who}: _________________  Date, time: ____________`);
 
 // A button for each round that there may be, and the place where the order comes.
 export function printedOrders(clearance, rounds) {
@@ -25,7 +25,8 @@ const inLocalTime = (text) => text.replace(/^LAST (.*)$/m, (_, moment) => `LAST 
 
 // What was found live under it, by the log, and what is an alarm now.
 function liveLines(clearance) {
-  const found = storyOf(clearance).others.filter(({ entry: { command } }) => command.do === "test" && !command.dead), live = liveUnder(clearance);
+  const isLive = ({ entry: { command } }) => command.do === "test" && !command.dead;
+  const found = storyOf(clearance).others.filter(isLive), live = liveUnder(clearance);
   return [
     ...found.map(({ by, at, entry }) => el("p", {}, `${entry.command.section} was TESTED LIVE by ${by}, ${wholeTime(at)}.`)),
     live.length ? el("p", {}, el("strong", {}, `TESTED LIVE, and not tested dead since: ${live.join(", ")}.`)) : null];
@@ -46,8 +47,8 @@ async function show(clearance, round, place) {
   await readBackTo([clearance]);
   place.replaceChildren(
     el("div", { class: "paper" }, el("p", { class: "each-page" }, `Order of ${clearance}, round ${round}, printed ${wholeTime(now())}`),
-      el("div", { class: "whole" }, el("pre", {}, inLocalTime(answer.body)), liveLines(clearance), reasonLines(clearance), new Story(clearance).node,
-        SIGNED.map((line) => el("p", { class: "signed" }, line)))),
+      el("div", { class: "whole" }, el("pre", {}, inLocalTime(answer.body)), liveLines(clearance), reasonLines(clearance),
+        new Story(clearance).node, SIGNED.map((line) => el("p", { class: "signed" }, line)))),
     button("Print", () => window.print(), { "data-name": "print" }),
     button("Put it away", () => place.replaceChildren()));
 }

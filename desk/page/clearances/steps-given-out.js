@@ -22,12 +22,6 @@ export function noteGiven({ clearance, round, step, at }, sure = true) {
   keep();
 }
 
-function see(own) {
-  if (own.seen) return;
-  own.seen = true;
-  keep();
-}
-
 // After a gap between two looks it is no longer sure.
 function noteGap(own) {
   if (room.read === null || room.read === own.looked) return;
@@ -45,7 +39,8 @@ export function gaveHere(view) {
   noteGap(own);
   const same = own.round === round && own.step === present?.number;
   if (same && present.state === "Instructed") {
-    see(own);
+    own.seen = true;
+    keep();
     return own.sure && (boardLine(clearance)?.last ?? 0) <= own.at ? "yes" : "perhaps";
   }
   if (!same || present.state !== "Waiting" || own.seen) {

@@ -71,11 +71,10 @@ export function repeatControl({ view, act, network }) {
 // sources, is asked about.
 export async function reportAs(desk, view, step, done, act, by = {}) {
   const { clearance } = view.card, [action, name] = step.text.split(" ");
-  const found = done ? findingsAt(desk, name, { action, own: clearance }).filter(({ turns, joins }) => turns || joins) : [];
-  if (found.length) {
-    const lines = [...found.map(({ text, asked }) => `It ${asked ?? text}.`), "Nobody takes a report back: from then on all rely on it."];
-    if (!(await agreed(`Is ${step.text} done in the field?`, lines, `${step.text} is done`, "Do not report it"))) return null;
-  }
+  const found = findingsAt(desk, name, { action, own: clearance }).filter(({ turns, joins }) => done && (turns || joins));
+  const lines = [...found.map(({ text, asked }) => `It ${asked ?? text}.`), "No report is taken back: all rely on it then."];
+  const ask = () => agreed(`Is ${step.text} done in the field?`, lines, `${step.text} is done`, "Do not report it");
+  if (found.length && !(await ask())) return null;
   return act({ do: "report", clearance, step: step.number, done, ...by });
 }
 
@@ -91,7 +90,7 @@ export function reportControl({ view, act, desk }) {
 async function amendStep(view, step, act) {
   const point = step.text.split(" ")[1], { clearance } = view.card;
   const what = `${step.text} becomes LEAVE ${point}: the point stays open, and the step's hold is taken off.`;
-  const isMeant = await agreed(`Amend step ${step.number} of ${clearance}`, [what], `Amend to LEAVE ${point}`, "Leave it as it is");
+  const isMeant = await agreed(`Amend step ${step.number} of ${clearance}`, [what], `Amend to LEAVE ${point}`, "Do not amend it");
   if (isMeant) await act({ do: "amend", clearance, step: step.number });
 }
 

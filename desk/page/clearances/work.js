@@ -29,28 +29,31 @@ function foundWords({ id, section, by, at }) {
 
 // What ends an alarm is asked about; what is given again is always.
 export async function testedDead(view, section, give, again = false) {
-  const live = liveIn([section]), ends = `Under ${view.card.clearance} that ends the alarm at each desk.`;
+  const live = liveIn([section]), isAsked = live.length > 0 || again;
+  const ends = `Under ${view.card.clearance} that ends the alarm at each desk.`;
   const lines = [...live.map(foundWords), `Was it tested since then, and found dead? ${live.length ? ends : ""}`];
-  const isMeant = !(live.length || again) || await agreed(`${section}: tested dead?`, lines, `${section} is dead`, "Do not send it");
-  if (isMeant) await give({ do: "test", dead: true });
+  if (isAsked && !(await agreed(`${section}: tested dead?`, lines, `${section} is dead`, "Do not send it"))) return;
+  await give({ do: "test", dead: true });
 }
 
 export async function testedLive(view, section, give) {
-  const lines = ["It was found live: its test, if it has one, is taken away. Each desk with a log shows an alarm until it is tested dead or "
-    + `${view.card.clearance} is released; another may show none, so say it on the line too.`, crewWords(view, "Call them off the section first.")];
-  if (await agreed(`${section}: tested live?`, lines, `${section} is live`, "Do not send it")) await give({ do: "test", dead: false });
+  const lines = ["It was found live: its test, if it has one, is taken away. Each desk with a log shows an alarm until it is "
+    + `tested dead or ${view.card.clearance} is released; another may show none, so say it on the line too.`,
+  crewWords(view, "Call them off the section first.")];
+  const isMeant = await agreed(`${section}: tested live?`, lines, `${section} is live`, "Do not send it");
+  if (isMeant) await give({ do: "test", dead: false });
 }
 
 // With a crew on, the ground of the work section has to stay, or to go back: nothing is to be stated then.
 export async function groundOff(view, section, give) {
   if (section === view.work && view.crews.length) {
     const stays = crewWords(view, "The ground stays, or goes back on, until each of them has left and is signed off.");
-    await ask(`Ground off ${section}: not yet`, [`It would be refused (CREWS_ON). ${stays}`], [[null, "Go back"]]);
-    return;
+    return ask(`Ground off ${section}: not yet`, [`It would be refused (CREWS_ON). ${stays}`], [[null, "Go back"]]);
   }
-  const lines = [`The ground is off in the field: ${section} is no longer grounded under ${view.card.clearance}, and its test is gone too.`,
-    crewWords(view, `Do they all know that ${section} is no longer grounded?`)];
-  if (await agreed(`Ground off ${section}?`, lines, `The ground of ${section} is off`, "Do not send it")) await give({ do: "unground" });
+  const what = `${section} is no longer grounded under ${view.card.clearance}`, yes = `The ground of ${section} is off`;
+  const lines = [`The ground is off in the field: ${what}, and its test is gone too.`,
+    crewWords(view, `Do they all know that ${what}?`)];
+  return await agreed(`Ground off ${section}?`, lines, yes, "Do not send it") ? give({ do: "unground" }) : null;
 }
 
 // What is known of a section: its test and its ground, an alarm, and a test that is missing while work goes on.
@@ -94,8 +97,8 @@ export async function signOn(view, crew, act, again = false) {
   const { clearance } = view.card, others = elsewhere(crew, view);
   const lines = [...liveIn(view.fence).map(({ id, section }) => `Tested live under ${id}: ${section}.`),
     ...(others.length ? [`${crew} is on under ${others.join(", ")}.`] : [])];
-  const means = `A crew that is signed on works under ${clearance}. Has it come, and not left again?`, yes = `Sign ${crew} on all the same`;
-  const isAsked = lines.length > 0 || again;
+  const means = `A crew that is signed on works under ${clearance}. Has it come, and not left again?`;
+  const isAsked = lines.length > 0 || again, yes = `Sign ${crew} on all the same`;
   if (isAsked && !(await agreed(`Sign ${crew} on to ${clearance}?`, [...lines, means], yes, "Do not sign it on"))) return;
   await act({ do: "sign_on", clearance, crew });
 }

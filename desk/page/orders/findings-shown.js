@@ -9,7 +9,8 @@ const OWN = "This is the page's own reckoning, by what the register last answere
 
 // A text, and where it leaves names out, the one with all of them on demand.
 export function unfolding(text, all = text) {
-  return all === text ? unbroken(text) : el("details", { class: "more" }, el("summary", {}, unbroken(text)), el("p", {}, unbroken(all)));
+  if (all === text) return unbroken(text);
+  return el("details", { class: "more" }, el("summary", {}, unbroken(text)), el("p", {}, unbroken(all)));
 }
 
 // A list of findings; nothing where there are none.
@@ -68,9 +69,12 @@ export function turnNotes(desk, steps) {
   const node = el("div", { class: "turn-notes", role: "status" });
   return living(node, () => {
     const { live, dead } = turnedBySteps(desk, steps());
-    const line = (word, names) => (names.length ? el("div", {}, unfolding(`${word} will be ${sectionWords(names)}`, `${word} will be ${sectionWords(names, names.length)}`)) : null);
-    panel(node, [live, dead, steps().length > 0], () => (steps().length ? [el("p", {}, "Once all these steps are done, by this page's reckoning:"),
-      live.length || dead.length ? [line("live", live), line("dead", dead)] : el("p", {}, "no section turns live or dead.")].flat() : []));
+    const said = (word, names, most) => `${word} will be ${sectionWords(names, most)}`;
+    const turned = [["live", live], ["dead", dead]].filter(([, names]) => names.length);
+    panel(node, [turned, steps().length > 0], () => (steps().length ? [
+      el("p", {}, `Once all these steps are done, by this page's reckoning${turned.length ? ":" : ", no section turns live or dead."}`),
+      ...turned.map(([word, names]) => el("div", {}, unfolding(said(word, names), said(word, names, names.length)))),
+    ] : []));
   });
 }
 

@@ -33,7 +33,8 @@ const holdersOf = (state, own) => [...new Set(state.holds.map((hold) => hold.by)
 function holdFindings(state, action, own) {
   return holdersOf(state, own).map((by) => {
     const kinds = state.holds.filter((hold) => hold.by === by).map((hold) => holdWord(hold.kind)).join(", ");
-    if (action === "CLOSE") return { text: `would be refused (HELD) for ${nameWords(by)}, which has it ${kinds}`, asks: true, refused: true };
+    const refusal = { text: `would be refused (HELD) for ${nameWords(by)}, which has it ${kinds}`, asks: true, refused: true };
+    if (action === "CLOSE") return refusal;
     return { text: `${nameWords(by)} has it ${kinds}${action ? "" : "; a CLOSE would be refused for it"}`, asks: false };
   });
 }
@@ -73,7 +74,8 @@ function closingFindings(network, reckoning, point, own) {
   if (positionOf(point.name) === "closed") return [];
   const found = closingOf(network, positionOf, point);
   if (!found) return [];
-  if (!found.loop) return [{ text: `joins the sources ${found.joins.join(" and ")}: ${wayWords(found.way)}`, asks: true, joins: true }];
+  const joined = () => `joins the sources ${found.joins.join(" and ")}: ${wayWords(found.way)}`;
+  if (!found.loop) return [{ text: joined(), asks: true, joins: true }];
   const people = peopleOn(network, found.loop, own);
   return [{ text: `closes a loop${whereWords(people)}: ${wayWords(found.loop)}`, asks: people.length > 0, loops: true }];
 }
@@ -91,7 +93,8 @@ const whereWords = (people) => people.length ? `, where people are under ${peopl
 // Asked about with all names where people are on one of the sections, or where not all are named beside the button.
 function deadFinding(network, dead, own) {
   const people = peopleOn(network, dead, own), words = (names) => `makes ${names} dead${whereWords(people)} (${OWN})`;
-  return { text: words(sectionWords(dead)), asked: words(sectionWords(dead, dead.length)), asks: people.length > 0 || dead.length > MOST_NAMED, turns: true };
+  const asks = people.length > 0 || dead.length > MOST_NAMED;
+  return { text: words(sectionWords(dead)), asked: words(sectionWords(dead, dead.length)), asks, turns: true };
 }
 
 // Those who have tested or grounded one of these sections.
@@ -102,9 +105,10 @@ function trustedIn(network, names, own) {
 
 function turnFindings(network, reckoning, point, position, own) {
   const { live, dead } = reckoning.turnedBy(point, position), others = trustedIn(network, live, own);
-  const trust = others.length ? `, which ${others.map(nameWords).join(" and ")} found dead or grounded` : "", words = (names) => `makes ${names} live${trust} (${OWN})`;
+  const trust = others.length ? `, which ${others.map(nameWords).join(" and ")} found dead or grounded` : "", asks = others.length > 0;
+  const words = (most) => `makes ${sectionWords(live, most)} live${trust} (${OWN})`;
   return [
-    ...(live.length ? [{ text: words(sectionWords(live)), asked: words(sectionWords(live, live.length)), asks: others.length > 0, turns: true }] : []),
+    ...(live.length ? [{ text: words(), asked: words(live.length), asks, turns: true }] : []),
     ...(dead.length ? [deadFinding(network, dead, own)] : []),
   ];
 }

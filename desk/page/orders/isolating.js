@@ -14,8 +14,8 @@ const ACTIONS = ["OPEN", "BLOCK", "CONTROL", "TAG"];
 
 // At a point that is no longer in the network one step is left, which is asked about.
 function neededAt({ name, lockable, remote, isGone }) {
-  return (isGone ? ["OPEN"] : ACTIONS.filter((action) => (action !== "BLOCK" || lockable) && (action !== "CONTROL" || remote)))
-    .map((action) => `${action} ${name}`);
+  const isNeeded = (action) => (action !== "BLOCK" || lockable) && (action !== "CONTROL" || remote);
+  return (isGone ? ["OPEN"] : ACTIONS.filter(isNeeded)).map((action) => `${action} ${name}`);
 }
 
 const byPoint = (points) => points.flatMap(neededAt);

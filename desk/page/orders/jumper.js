@@ -10,7 +10,8 @@ import { offerStep } from "./switch-order.js";
 
 const PARTS = { point: "Name", from: "From section", to: "To section" };
 const NO_SOURCE = "A jumper makes no source: orders take what is beyond it for dead. What may feed its far end, as a generator, "
-  + "needs a source in the sections file, which an update of the register brings; without one, name the jumper in each order near it.";
+  + "needs a source in the sections file, which an update of the register brings; without one, name the jumper in each order "
+  + "near it.";
 
 // An input in capitals that keeps what is typed.
 function nameInput(part, sections) {
@@ -96,7 +97,8 @@ export class JumperForm {
     const isMeant = await agreed(`Add jumper ${point} between ${from} and ${to}?`, [
       `It is ${marks}.${sections.has(to) ? "" : ` ${to} is a new section, and no source.`}`,
       ...this.#findings().map(({ text }) => `${text}.`),
-      "No command takes it out of the register again, only an update does; even open it is a way in. Read its name and both ends twice.",
+      "No command takes it out of the register again, only an update does; even open it is a way in.",
+      "Read its name and both ends twice.",
     ], `Add ${point}`, "Do not add it");
     if (!isMeant) return;
     const { accepted } = await this.#desk.act({ do: "jumper", point, from, to, lockable: this.#lockable.checked, remote: this.#remote.checked });

@@ -56,21 +56,16 @@ export class PointPicker {
     this.#count.textContent = shown.length < found.length ? `the first ${shown.length} of ${found.length}` : `${found.length} ${found.length === 1 ? "point" : "points"}`;
     const known = this.#desk.states();
     const rows = shown.map((point) => [point, this.picked.has(point.name), known.get(point.name).position, flagOf(this.#desk, point.name, this.#own, known)]);
-    panel(this.#list, [gone, rows], () => [...gone.map((name) => this.#gone(name)), ...rows.map((row) => this.#row(...row))]);
-  }
-
-  #box(name, picked) {
-    return el("input", { type: "checkbox", checked: picked, "data-name": `pick ${name}`, onchange: () => this.toggle(name) });
-  }
-
-  #gone(name) {
-    return el("li", {}, el("label", {}, this.#box(name, true), el("strong", {}, name), " ", el("span", { class: "flag" }, GONE)));
+    const all = [...gone.map((name) => [{ name }, true, "", GONE]), ...rows];
+    panel(this.#list, all, () => all.map((row) => this.#row(...row)));
   }
 
   #row(point, picked, position, flag) {
     const { name } = point;
-    return el("li", {}, el("label", {}, this.#box(name, picked), el("strong", {}, name), ` ${point.from} – ${point.to} `, el("strong", { class: "position" }, position), " ",
-      el("span", { class: "hint" }, `marks: ${marksOf(point)}`), " ", flag ? el("span", { class: "flag" }, flag) : null));
+    const box = el("input", { type: "checkbox", checked: picked, "data-name": `pick ${name}`, onchange: () => this.toggle(name) });
+    const known = position ? [` ${point.from} – ${point.to} `, el("strong", { class: "position" }, position), " ",
+      el("span", { class: "hint" }, `marks: ${marksOf(point)}`)] : [];
+    return el("li", {}, el("label", {}, box, el("strong", {}, name), known, " ", flag ? el("span", { class: "flag" }, flag) : null));
   }
 }
 

@@ -89,6 +89,7 @@ async function momentFor(command) {
 
 function noteUnsent(command, text) {
   addReply({ kind: "unsent", said: saidOf(command), clearance: command.clearance, lines: plainLines(text) });
+  return { accepted: false };
 }
 
 // Why it is not to be sent: its moment is none yet, or the record is another one than its control was made from. Where it was
@@ -116,15 +117,9 @@ export async function give(parts, seen = null) {
   noteSending(true);
   try {
     const why = await whyNot(command, seen);
-    if (why) {
-      noteUnsent(command, why);
-      return { accepted: false };
-    }
+    if (why) return noteUnsent(command, why);
     const at = TIMELESS.has(command.do) ? undefined : await momentFor(command);
-    if (at === null) {
-      noteUnsent(command, "You did not let it be sent. The register is as it was.");
-      return { accepted: false };
-    }
+    if (at === null) return noteUnsent(command, "You did not let it be sent. The register is as it was.");
     return await send({ ...command, at });
   } finally {
     noteSending(false);
@@ -158,7 +153,8 @@ async function send(command) {
   const known = knownBefore(command);
   keepPending({ command, known });
   const answer = await postCommand(command), isKnown = answer.kind !== "lost" && answer.status !== 503;
-  if (answer.body?.reply === "refused" && command.clearance) await asOwn(() => lookAt(command.clearance)); // its sentence says what is there
+  const isRefused = answer.body?.reply === "refused" && command.clearance;
+  if (isRefused) await asOwn(() => lookAt(command.clearance)); // the sentence says what is there now
   const reply = isKnown ? addReply(await replyOf(command, answer)) : noteUnknown(command, answer, known);
   keepPending(null);
   dropAnswered();

@@ -13,7 +13,8 @@ const ASKED = {
   sign_off: (view, { crew }, act) => signOff(view, crew, act),
   sign_on: (view, { crew }, act) => signOn(view, crew, act, true),
   unground: (view, { section }, act) => groundOff(view, section, (parts) => act({ section, ...parts })),
-  test: (view, { section, dead }, act) => (dead ? testedDead : testedLive)(view, section, (parts) => act({ section, ...parts }), true),
+  test: (view, { section, dead }, act) =>
+    (dead ? testedDead : testedLive)(view, section, (parts) => act({ section, ...parts }), true),
 };
 
 // Gives it in the name that it had, with the moment at which it is given again.

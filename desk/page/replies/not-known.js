@@ -137,11 +137,14 @@ async function sayFound(reply) {
 }
 
 // What a command is about: of commands about the same the later one counts.
-const aboutOf = ({ clearance, section, crew, step, steps, do: what }) => JSON.stringify([clearance, section ?? crew ?? step ?? steps ?? what]);
+function aboutOf({ clearance, section, crew, step, steps, do: what }) {
+  return JSON.stringify([clearance, section ?? crew ?? step ?? steps ?? what]);
+}
 
 // Whether one about the same was answered since: here, or by the log at another desk.
 function isAnswered({ number, asked: { command, known } }) {
-  const isSuch = (one) => one && aboutOf(one) === aboutOf(command), logged = (known.number && entriesSince(known.number)) || [];
+  const isSuch = (one) => one && aboutOf(one) === aboutOf(command);
+  const logged = (known.number && entriesSince(known.number)) || [];
   return ANSWERED.flatMap(repliesOf).some((reply) => reply.number > number && isSuch(reply.command))
     || logged.some((entry) => isAccepted(entry) && isSuch(entry.command));
 }

@@ -11,8 +11,8 @@ const plain = (text) => text.replace(/\[([^\]]*)\]\([^)]*\)/g, "$1").replaceAll(
 
 // The texts of such a table by name and what they are for: "HELD todo"; " ground" has what was refused.
 export function textsOf(table) {
-  const rows = [...table.matchAll(ROW)].flatMap(([, name, uses, text]) => uses.split(" ").map((use) => [`${name} ${use}`, plain(text)]));
-  return new Map(rows);
+  return new Map([...table.matchAll(ROW)].flatMap(([, name, uses, text]) =>
+    uses.split(" ").map((use) => [`${name} ${use}`, plain(text)])));
 }
 
 async function read(file) {
@@ -35,5 +35,6 @@ export async function readRefusals() {
 // One sentence of what was refused, and why; `places` are what it may name.
 export function sentenceOf(texts, refusal, command, places) {
   const begin = texts.get(` ${command.do}`), why = texts.get(`${refusal} ${command.do}`) ?? texts.get(`${refusal} all`);
-  return begin && why ? `${begin}: ${why}.`.replace(/\{(\w+)\}/g, (_, place) => places[place] ?? "?") : "The register refused it.";
+  if (!begin || !why) return "The register refused it.";
+  return `${begin}: ${why}.`.replace(/\{(\w+)\}/g, (_, place) => places[place] ?? "?");
 }
