@@ -3,6 +3,7 @@ a harmless loop is said, and asks nothing. The most important are named first, a
 
 from desk_looks import two_substations
 from desk_looks.network import ordered, step, switch
+from desk_looks.two_substations import steps
 
 STATION = [f"N11-F{feeder}{place}" for feeder in (1, 2, 3) for place in (1, 2, 3)]
 FEEDER = "N14-F21, N14-F22, N14-F23"
@@ -33,6 +34,14 @@ def busbar(stage):
     """A busbar and a source are named, whatever they are called."""
     hand = stage.network([switch(["OPEN NOR-LV1"], by="BERT")], "clearance/BERT/1", speaker="BERT", net=two_substations)
     hand.shows("makes NOR-BB1, LINE-14, LINE-15, NOR-1A, NOR-1B, NOR-1C and 9 more dead", "main .step-place")
+    for command in steps("BERT/1", ["OPEN NOR-LV1"]):
+        hand.post(command)
+    hand.turn("diagram")
+    line = "main .diagram [data-name=dead]"
+    hand.shows("15 of 60 sections are dead by the register's positions: NOR-BB1, LINE-14", line)
+    hand.lacks("NOR-3D", line)
+    hand.browser.click(f"{line} summary")
+    hand.shows("NOR-3D", line)
 
 
 def few(stage):

@@ -1,8 +1,9 @@
 // The one-line diagram: sections, the points between them, and what the register says of both.
 
+import { unfolding } from "../orders/findings-shown.js";
 import { sectionWords } from "../orders/findings.js";
 import { holdWord } from "../replies/words.js";
-import { el, svg, button, unbroken } from "../shared/elements.js";
+import { el, svg, button, panel } from "../shared/elements.js";
 import { isOffNormal } from "../shared/point-states.js";
 import { Roving } from "./arrow-keys.js";
 import { BOX } from "./boxes.js";
@@ -84,7 +85,7 @@ function pressable(group, does, moves) {
 export class Diagram {
   #network; #plan; #zoom; #frame; #writing; #groups = { section: new Map(), point: new Map() }; #keys = new Map(); #roving;
   #picking = null; #press; #shown = new Set(); #found = new Set(); #finding = el("span", { class: "hint", role: "status" }); #last = null;
-  #dead = el("p", { class: "hint", "data-name": "dead" }); #byKeys = el("p", { class: "hint by-keys" }); #inFull = el("p", { class: "in-full", role: "status" });
+  #dead = el("div", { class: "hint", "data-name": "dead" }); #byKeys = el("p", { class: "hint by-keys" }); #inFull = el("p", { class: "in-full", role: "status" });
   node;
 
   // `press(kind, name)` is called where nothing is being picked.
@@ -229,8 +230,8 @@ export class Diagram {
 
   #sayDead() {
     const all = [...this.#network.sections.values()], dead = all.filter(({ live }) => !live).map(({ name }) => name);
-    const text = dead.length ? `${dead.length} of ${all.length} sections ${dead.length === 1 ? "is" : "are"} dead by the register's positions: ${sectionWords(dead)}` : `all ${all.length} sections are live by the register's positions`;
-    if (this.#dead.textContent !== text) this.#dead.replaceChildren(...unbroken(text));
+    const said = (most) => `${dead.length} of ${all.length} sections ${dead.length === 1 ? "is" : "are"} dead by the register's positions: ${sectionWords(dead, most)}`;
+    panel(this.#dead, [all.length, dead], () => (dead.length ? unfolding(said(), said(dead.length)) : `all ${all.length} sections are live by the register's positions`));
   }
 
   // The way to a source that the picked points leave open: section, point, section and so on.
