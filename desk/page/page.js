@@ -14,6 +14,7 @@ import { dueOn, noteLacking } from "./log/board-lacks.js";
 import { journal, newest } from "./log/journal.js";
 import { LogPage } from "./log/log-page.js";
 import { readBackTo } from "./log/reading-back.js";
+import { announceUpdates } from "./log/updates.js";
 import { learn } from "./orders/findings-shown.js";
 import { turnedBySteps } from "./orders/findings.js";
 import { JumperForm } from "./orders/jumper.js";
@@ -28,14 +29,11 @@ import { drawNameless, keptName, listCallers, mayUse, readLogin, showCaller } fr
 import { tidyDrafts } from "./shared/drafts.js";
 import { choice, el, field, panel } from "./shared/elements.js";
 import { startKeys } from "./shared/keys.js";
-import { noteRoom, onAlarmElsewhere, recallAlarms } from "./shared/live-alarms.js";
-import { startMoment } from "./shared/moment-field.js";
+import { noteRoom, recallAlarms } from "./shared/live-alarms.js";
 import { namesOfRole, network } from "./shared/network.js";
 import { pointStates } from "./shared/point-states.js";
 import { guardPresses } from "./shared/press-guard.js";
-import { onContact } from "./shared/register.js";
-import { namePage } from "./shared/tab-title.js";
-import { drawAlarms, drawContact, noteDrawn, startTop } from "./shared/top.js";
+import { drawAlarms, drawTab, noteDrawn, startTop } from "./shared/top.js";
 import { fromAfar, keepStill } from "./shared/waiting-lists.js";
 import { onRoom, room, startWatch, viewOf, watchAs } from "./shared/watch.js";
 
@@ -102,10 +100,9 @@ function turn(focus = true) {
   }
   at("main").replaceChildren(page.node);
   placeDiagram();
-  namePage(page.title);
+  drawTab("page", page.title);
   for (const link of document.querySelectorAll("nav a")) {
-    if (link.hash === (location.hash || "#/board")) link.setAttribute("aria-current", "page");
-    else link.removeAttribute("aria-current");
+    link.setAttribute("aria-current", link.hash === (location.hash || "#/board") ? "page" : "false");
   }
   update();
   if (focus) page.node.querySelector("h2").focus();
@@ -130,19 +127,11 @@ function followNetwork() {
     if (before) desk.diagram.viewAs(before);
     placeDiagram();
   }
-  if (listedStaff !== staff) {
-    listedStaff = staff;
-    listCallers(network.staff);
-    followCaller();
-  }
-}
-
-// Who speaks, as an update has made the row.
-function followCaller() {
-  const row = network.staff.get(desk.caller?.name);
-  if (!row) return;
-  desk.caller = row;
-  showCaller(row);
+  if (listedStaff === staff) return;
+  listedStaff = staff;
+  listCallers(network.staff);
+  desk.caller = network.staff.get(desk.caller?.name) ?? desk.caller; // as an update has made the row
+  if (desk.caller) showCaller(desk.caller);
 }
 
 // The sections of a clearance; of a switch order those at its first point.
@@ -221,6 +210,7 @@ async function followLog() {
   logged = room.turns;
   const due = dueOn(room);
   await updatedBy(async () => { noteLacking(await newest() ? due : null); });
+  announceUpdates();
   lookUpOpen();
   const granted = room.board.filter(({ phase }) => phase === "Granted").map(({ id }) => id);
   await updatedBy(() => readBackTo(granted)); // for what was found live there
@@ -236,9 +226,7 @@ async function updatedBy(read) {
 async function firstNetwork() {
   await startWatch();
   if (room.network !== null) return;
-  panel(at("main"), "none", () => [el("h2", {}, "The network is not known yet"),
-    el("p", {}, "The page asks the register for it every few seconds, and goes on by itself once it has answered. "
-      + "One that was started without --desk, or is older than this page, does not.")]);
+  at("unknown").hidden = false;
   await new Promise((settle) => { onRoom(() => { if (room.network !== null) settle(); }); });
 }
 
@@ -248,9 +236,7 @@ async function start() {
   recallAlarms();
   showReplies(at("replies"));
   recallRefused();
-  onContact(drawContact);
   startTop();
-  startMoment();
   await Promise.all([firstNetwork(), readLogin()]);
   performance.mark("network-read");
   desk = makeDesk();
@@ -264,7 +250,10 @@ async function start() {
     followLog();
     fromAfar(update);
   });
-  onAlarmElsewhere(update);
+  addEventListener("storage", () => {
+    recallAlarms();
+    update();
+  });
   onSending(() => document.body.classList.toggle("sending", isSending()));
   addEventListener("hashchange", () => turn());
   turn(false);

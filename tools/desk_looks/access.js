@@ -63,7 +63,6 @@ function ground(node) {
     const colour = colourIn(getComputedStyle(up).backgroundColor);
     if (colour && colour[3] > 0) layers.push(colour);
     if (colour && colour[3] === 1) break;
-    if (up.tagName === "DIALOG" && !colour?.[3]) layers.push([255, 255, 255, 1]);
   }
   return layers.reverse().reduce((under, layer) => over(layer, under), [255, 255, 255, 1]);
 }
@@ -97,9 +96,10 @@ function contrastOf(node, style, text) {
   if (found < wanted) fault("contrast", node, `${found.toFixed(2)} to 1 of ${style.color} on ${under.slice(0, 3).map(Math.round)}: ${text.slice(0, 30)}`);
 }
 
-// Texts of the drawing, on their white edge and on the box that they lie in; its lines and signs.
+// Texts of the drawing, on their edge, which has the colour of its ground, and on the box that they lie in; its lines and
+// signs.
 function drawingHasContrast() {
-  const white = [255, 255, 255, 1];
+  const paper = ground(document.querySelector(".net:not(.sample)") ?? document.body);
   const judge = (node, colour, under, wanted, what) => {
     if (!colour || colour[3] === 0) return;
     const found = ratio(over(colour, under), under);
@@ -107,16 +107,16 @@ function drawingHasContrast() {
   };
   for (const node of all(".net text").filter(isSeen)) {
     const colour = colourIn(getComputedStyle(node).fill), box = all(`.net [data-name="${CSS.escape(node.dataset.of ?? "")}"] .box`)[0];
-    judge(node, colour, white, TEXT, node.textContent);
+    judge(node, colour, paper, TEXT, node.textContent);
     const fill = box && colourIn(getComputedStyle(box).fill);
     if (fill && fill[3] === 1 && node.classList.contains("name")) judge(node, colour, fill, TEXT, node.textContent);
   }
   for (const node of all(".net .line, .net .box, .net .gap, .net .ring, .net .found, .net .hatch, .net .feed path").filter(isSeen)) {
-    judge(node, colourIn(getComputedStyle(node).stroke), white, SIGN, "a line");
+    judge(node, colourIn(getComputedStyle(node).stroke), paper, SIGN, "a line");
   }
-  for (const node of all(".net .stroke")) judge(node, colourIn(getComputedStyle(node).stroke), white, SIGN, "the hatch");
+  for (const node of all(".net .stroke")) judge(node, colourIn(getComputedStyle(node).stroke), paper, SIGN, "the hatch");
   for (const node of all(".net .flash").filter(isSeen)) {
-    judge(node, colourIn(getComputedStyle(node).fill), colourIn(getComputedStyle(node.parentElement.querySelector(".box")).fill) ?? white, SIGN, "the flash");
+    judge(node, colourIn(getComputedStyle(node).fill), colourIn(getComputedStyle(node.parentElement.querySelector(".box")).fill) ?? paper, SIGN, "the flash");
   }
 }
 
@@ -211,7 +211,7 @@ function tablesAndLists() {
   for (const list of all("ul, ol")) for (const one of list.children) if (one.tagName !== "LI") fault("list", list, `${one.tagName} in a list`);
   for (const one of all("li")) if (!one.parentElement.matches("ul, ol")) fault("list", one, "outside a list");
   for (const image of all("img, svg[role=img]")) if (!nameOf(image) && !image.alt) fault("name", image, "a picture without a text");
-  for (const link of all("main a, aside a, #alarms a").filter(isSeen)) {
+  for (const link of all("main a, aside a, #alarms a, #state a").filter(isSeen)) {
     if (!getComputedStyle(link).textDecorationLine.includes("underline")) fault("link", link, "known by its colour alone");
   }
 }
@@ -277,7 +277,7 @@ function nothingLiesOnTexts() {
   const boxes = [], walker = document.createTreeWalker(top, NodeFilter.SHOW_TEXT);
   for (let text = walker.nextNode(); text; text = walker.nextNode()) {
     const node = text.parentElement;
-    if (!squeezed(text.data) || node.closest("svg, option, noscript, script, #alarms, aside") || !isSeen(node) || isUnseen(node)) continue;
+    if (!squeezed(text.data) || node.closest("svg, option, noscript, script, #alarms, #state, aside") || !isSeen(node) || isUnseen(node)) continue;
     const range = document.createRange();
     range.selectNodeContents(text);
     for (const box of range.getClientRects()) if (box.width > 1 && box.height > 1) boxes.push({ node, box, text });

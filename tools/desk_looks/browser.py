@@ -175,6 +175,11 @@ class Browser:
         pairs = [("keyDown", held), ("keyDown", sign), ("keyUp", sign), ("keyUp", held)]
         self.own("POST", "/actions", {"actions": [{"type": "key", "id": "keys", "actions": [{"type": kind, "value": key} for kind, key in pairs]}]})
 
+    def system_is(self, look):
+        """The system asks for a look, light or dark."""
+        words = {"features": [{"name": "prefers-color-scheme", "value": look}]}
+        self.own("POST", "/goog/cdp/execute", {"cmd": "Emulation.setEmulatedMedia", "params": words})
+
     def picture(self, path):
         with open(path, "wb") as file:
             file.write(base64.b64decode(self.own("GET", "/screenshot")))

@@ -3,7 +3,7 @@
 import time
 
 from desk_looks.access import Access
-from desk_looks.browser import free_ports
+from desk_looks.browser import Differs, free_ports
 from desk_looks.desk import Desk
 from desk_looks.look_life import hanging
 from desk_looks.network import granted, needed, ordered, released, step, steps, switch, undoing, write_files
@@ -50,7 +50,39 @@ def each_page(stage):
     hand = stage.network(life())
     access = Access(hand)
     access.look("no name")
-    for wide in (*WIDTHS, NARROWEST):
+    look_at_pages(hand, access, (*WIDTHS, NARROWEST))
+    access.verdict()
+
+
+def in_the_dark(stage):
+    """The same in the dark look, which the system asks for, or the switch at the top."""
+    hand = stage.network(life())
+    access = Access(hand)
+    hand.browser.system_is("dark")
+    try:
+        look_at_pages(hand, access, WIDTHS[:1])
+        hand.browser.system_is("light")
+        is_dark(hand, False)
+        hand.browser.click('#look option[value="dark"]')
+        hand.reload()
+        is_dark(hand, True)
+        access.look("dark by the switch")
+        questions(hand, access)
+        replies(hand, access)
+    finally:
+        hand.browser.script("localStorage.clear()")
+        hand.browser.system_is("light")
+    access.verdict()
+
+
+def is_dark(hand, dark):
+    red = hand.browser.script("return Number(/[0-9]+/.exec(getComputedStyle(document.querySelector('main')).backgroundColor)[0])")
+    if (red < 128) != dark:
+        raise Differs(f"the page has a ground of {red} in a {'dark' if dark else 'light'} look")
+
+
+def look_at_pages(hand, access, widths):
+    for wide in widths:
         hand.browser.size(wide, 900)
         for name, page in PAGES:
             hand.speak(name)
@@ -59,7 +91,8 @@ def each_page(stage):
             access.look(f"{page} at {wide}", hovered=wide == WIDTHS[0])
             if wide == WIDTHS[1]:
                 access.spaced(f"{page} at {wide}")
-    access.verdict()
+            if widths == WIDTHS[:1] and page in ("diagram", "board", "clearance/JONES/1"):
+                hand.picture(f"dark-{page.split('/')[0]}")
 
 
 def unfold(hand):
@@ -136,4 +169,4 @@ def replies(hand, access):
     access.look("a reply that was lost, and found", hovered=True)
 
 
-LOOKS = {"access": each_page, "access by tab": by_tab, "access in between": in_between}
+LOOKS = {"access": each_page, "access dark": in_the_dark, "access by tab": by_tab, "access in between": in_between}

@@ -3,8 +3,9 @@
 import json
 import time
 
-from desk_looks.browser import ALL, free_ports, wait_until
+from desk_looks.browser import ALL, Differs, free_ports, wait_until
 from desk_looks.desk import Desk, gridclear
+from desk_looks.look_log import journaled
 from desk_looks.network import granted, ordered, step, switch, write_files
 
 NAMES = "return [...document.querySelectorAll('main table.wide tbody tr[data-id]')].map((row) => row.dataset.id)"
@@ -96,4 +97,39 @@ def waits(stage):
     hand.shows("Nothing waits for WEBER", "main .waiting")
 
 
-LOOKS = {"board": board, "waits for": waits}
+def people(stage):
+    """A crew that is on under two clearances is marked at both, a holder is named beside a name that is another's, and the log
+    says how long a crew and a ground are on; a closed record has its last moment."""
+    hand = journaled(stage, "board")
+    kim, jones = ["N13-Q11", "N13-B1", "N13-Q13"], ["N15-Q21", "N15-B2", "N15-Q23"]
+    commands = [*granted("KIM", "N13-F12", kim, ["C3"]), *granted("JONES", "N15-F22", jones, ["C3", "C4"]),
+                {"by": "JONES", "do": "transfer", "clearance": "JONES/1", "to": "OWENS", "emergency": False},
+                {"by": "LEE", "do": "request", "section": "N11-F33"}, {"by": "LEE", "do": "cancel", "clearance": "LEE/1"}]
+    for command in commands:
+        hand.post(command)
+    hand.speak("DISP1")
+    for name, texts in (("KIM/1", ("crews C3 (0 min)", "N13-F12 grounded (0 min)", "crew C3 is on under JONES/1 too")),
+                        ("JONES/1", ("held by OWENS", "crews C3 (0 min), C4 (0 min)", "crew C3 is on under KIM/1 too"))):
+        for text in texts:
+            hand.shows(text, f'main tr[data-id="{name}"]')
+    hand.lacks("held by", 'main tr[data-id="KIM/1"]')
+    hand.picture("board-people")
+    hand.turn("mine")
+    hand.browser.click('main [data-name="whose"] option[value="LEE"]')
+    hand.shows("Closed", 'main tr[data-id="LEE/1"]')
+    wait_until(lambda: ":" in hand.text('main tr[data-id="LEE/1"] td[data-head="last moment"]'), "the last moment of a closed record", 15)
+
+
+def calm(stage):
+    """Without a name there is one line that says so, and it is not red: red is kept for alarms."""
+    hand = stage.network(granted("KIM", "N13-F12", ["N13-Q11", "N13-B1", "N13-Q13"]))
+    hand.shows("KIM/1")
+    hand.shows("No name is chosen", "#nameless")
+    if hand.there("main .warning") or hand.there(".warning:not([hidden])"):
+        raise Differs("that no name is chosen is said as an alarm is")
+    red, green, _ = hand.browser.script("return getComputedStyle(document.getElementById('nameless')).backgroundColor.match(/[0-9]+/g).map(Number)")
+    if red - green > 20:
+        raise Differs("that no name is chosen is said in red")
+
+
+LOOKS = {"board": board, "board people": people, "board calm": calm, "waits for": waits}

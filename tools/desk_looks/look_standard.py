@@ -3,7 +3,9 @@
 import json
 import os
 
+from desk_looks import pdf
 from desk_looks.browser import Differs, wait_until
+from desk_looks.look_log import journaled
 from desk_looks.network import granted, ordered, switch
 
 JONES = granted("JONES", "N13-F12", ["N13-Q11", "N13-B1", "TIE1-N12-N13", "TIE1-N13-N14"], ["C1"])
@@ -78,10 +80,35 @@ def hand_over(stage):
     hand.browser.click('main [data-name="leaves"] option[value="DISP1"]')
     hand.browser.click('main [data-name="comes"] option[value="DISP3"]')
     hand.write("notes", "the key of N11 is at the gate")
-    for text in ("Leaves: DISP1. Comes: DISP3.", "Open: 3 records", "crews C1", "N13-Q11, open, normally closed; held by JONES/1", "the key of N11 is at the gate", "N13-F11, N13-F12, N13-F13"):
+    for text in ("Leaves: DISP1. Comes: DISP3.", "Open: 3 records", "crews C1", "N13-Q11, open, normally closed; held by JONES/1 O B C T", "the key of N11 is at the gate", "N13-F11, N13-F12, N13-F13"):
         hand.shows(text, "main .paper")
     hand.browser.on_paper(hand.path("shift-paper"))
     hand.nothing_sent(0)
 
 
-LOOKS = {"standard": standard, "hand over": hand_over}
+def sheet(stage):
+    """A sheet without both names is printed only after a question; its pages have numbers; it says how long a hold is there,
+    and compares the sheet before with the log."""
+    hand = journaled(stage, "shift")
+    for command in [*JONES, *ordered("KIM", "N11-F12", ["N11-Q12", "TIE1-N11-N12"])]:
+        hand.post(command)
+    hand.speak("DISP1")
+    hand.browser.script("window.printed = 0; window.print = () => { window.printed += 1; }")
+    hand.browser.click('main [data-name="leaves"] option[value="DISP1"]')
+    hand.lacks("not chosen", "main .paper")
+    hand.press("print-shift")
+    hand.shows("not both chosen", "dialog")
+    hand.answer("null")
+    hand.browser.click('main [data-name="comes"] option[value="DISP3"]')
+    hand.press("print-shift")
+    wait_until(lambda: hand.browser.script("return window.printed") == 1, "one sheet that is printed")
+    for text in ("crews C1 (0 min)", "held by JONES/1 O B C T (0 min)", "O held open, B blocked", "Compare with the sheet before: its number was not given"):
+        hand.shows(text, "main .paper")
+    hand.write("before", "3")
+    hand.shows("Compare with the sheet before: number 3 now has the sum ", "main .paper")
+    pages = pdf.pages(hand.browser.printed(hand.path("sheet").replace(".png", ".pdf")))
+    if len(pages) < 2 or any(f"page {number} of {len(pages)}" not in page for number, page in enumerate(pages, 1)):
+        raise Differs(f"the pages end with {[page[-60:] for page in pages]}")
+
+
+LOOKS = {"standard": standard, "hand over": hand_over, "hand over sheet": sheet}

@@ -11,7 +11,6 @@ import { giverUnder, keepGiver } from "../../desk/page/clearances/several-names.
 import { offersOf, presentStep } from "../../desk/page/clearances/offers.js";
 import { isLacking } from "../../desk/page/log/board-lacks.js";
 import { COMMANDS } from "../../desk/page/replies/command-words.js";
-import { titleOf } from "../../desk/page/shared/tab-title.js";
 
 const STAFF = new Map([["NG", { name: "NG", role: "operator" }], ["KIM", { name: "KIM", role: "charge" }], ["REED", { name: "REED", role: "field" }]]);
 const card = (phase) => ({ clearance: "KIM/1", phase, holder: "KIM", round: 1, done: 0, steps: 2 });
@@ -60,11 +59,6 @@ test("what the board lacks of the newest accepted entry", () => {
   const closing = { ...entry, reply: { card: card("Closed") } };
   assert.deepEqual([lacks([row], closing), lacks([], closing)], [true, false]);
   assert.equal(isLacking({ command: { do: "jumper", point: "J1" }, reply: {} }, { board: [], jumpers: [{ point: "J1" }] }), false);
-});
-
-test("the title of the tab", () => {
-  assert.equal(titleOf("Board", { live: "", contact: "" }), "Board · gridclear desk");
-  assert.equal(titleOf("Board", { live: "TESTED LIVE A", contact: "NO ANSWER" }), "⚠ TESTED LIVE A; NO ANSWER · Board · gridclear desk");
 });
 
 test("the last moment of a printed order", () => {

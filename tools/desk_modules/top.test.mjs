@@ -8,9 +8,14 @@ globalThis.document = { hidden: true }; // which may have its last answer from e
 const wait = globalThis.setTimeout;
 globalThis.setTimeout = (...parts) => wait(...parts).unref(); // the watch goes on for ever
 
-const { noteDrawn, troubleWords } = await import("../../desk/page/shared/top.js");
+const { noteDrawn, titleOf, troubleWords } = await import("../../desk/page/shared/top.js");
 const { getBoard } = await import("../../desk/page/shared/register.js");
 const { lookNow } = await import("../../desk/page/shared/watch.js");
+
+test("the title of the tab", () => {
+  assert.equal(titleOf({ page: "Board", live: "", contact: "" }), "Board · gridclear desk");
+  assert.equal(titleOf({ page: "Board", live: "TESTED LIVE A", contact: "NO ANSWER" }), "⚠ TESTED LIVE A; NO ANSWER · Board · gridclear desk");
+});
 
 test("what a fault of the page has left undrawn is not green", () => {
   assert.equal(troubleWords(), null);

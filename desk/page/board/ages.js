@@ -1,37 +1,43 @@
-// How long ago the last moment of a record was, since when its step is out, and from when on that is too long: a time that
-// the desk sets.
+// How long ago the last moment of a record was; by the log, since when its step is out, a crew is on and a hold is there; and
+// from when on a step is out too long: a time that the desk sets.
 
 import { presentStep } from "../clearances/offers.js";
-import { journal } from "../log/journal.js";
+import { byEntries } from "../log/journal.js";
+import { logRows } from "../log/log-words.js";
 import { serverNow } from "../shared/clocks.js";
 import { keepIn, readKept } from "../shared/storage.js";
 
 const KEPT = "gridclear-too-long", USUAL = 10; // minutes
+const PUT_BY = { HeldOpen: "OPEN", Block: "BLOCK", Control: "CONTROL", Tag: "TAG" }; // the step that puts a hold there
 
-let given = { entries: null, times: new Map() };
+// What a command began, of a record: a step that is out, a crew that is on, a hold.
+const BEGUN = {
+  instruct: ({ step }, { round }) => `${round}.${step}`,
+  sign_on: ({ crew }) => `Crew ${crew}`,
+  test: ({ section }) => `Tested ${section}`,
+  ground: ({ section }) => `Ground ${section}`,
+  report: ({ done }, { text }) => done && text,
+};
 
-// When each step was last given out, by the log: "JONES/1 1.3" and the machine's moment.
-function timesGiven() {
-  if (given.entries === journal.entries) return given.times;
-  const times = new Map();
-  for (const { command, reply, received } of journal.entries) {
-    if (command.do === "instruct" && reply.reply === "accepted") times.set(`${command.clearance} ${reply.card.round}.${command.step}`, received);
-  }
-  given = { entries: journal.entries, times };
-  return times;
-}
+// When each of them last began, by the machine's moment: "JONES/1 1.3", "JONES/1 Crew C1", "JONES/1 TAG S2".
+const begun = byEntries(() => new Map(logRows().filter(({ done, entry }) => done && BEGUN[entry.command.do])
+  .map((row) => [`${row.id} ${BEGUN[row.entry.command.do](row.entry.command, row)}`, row.entry.received])));
 
 // The seconds that the present step is out; null where none is. Without a log they count from the record's last moment.
 export function outFor(view, line) {
   const step = view && presentStep(view);
   if (!step || step.state === "Waiting") return null;
-  const since = timesGiven().get(`${view.card.clearance} ${view.card.round}.${step.number}`) ?? line?.last;
+  const since = begun().get(`${view.card.clearance} ${view.card.round}.${step.number}`) ?? line?.last;
   return since === undefined ? null : Math.max(0, serverNow() - since);
 }
 
-export function ageOf({ last }) {
-  return Math.max(0, serverNow() - last);
+// How long a crew is on, or a hold is there, as a blank and the time in brackets; "" where the log does not say.
+export function heldWords(id, kind, place) {
+  const since = begun().get(`${id} ${PUT_BY[kind] ?? kind} ${place}`);
+  return since === undefined ? "" : ` (${ageWords(Math.max(0, serverNow() - since))})`;
 }
+
+export const ageOf = ({ last }) => Math.max(0, serverNow() - last);
 
 // In minutes, hours or days: what is shorter than a minute is 0 min.
 export function ageWords(seconds) {
@@ -41,14 +47,10 @@ export function ageWords(seconds) {
 }
 
 // The minutes after which a step is out too long.
-export function mostMinutes() {
-  return readKept("localStorage", KEPT) ?? USUAL;
-}
+export const mostMinutes = () => readKept("localStorage", KEPT) ?? USUAL;
 
 export function setMostMinutes(minutes) {
   keepIn("localStorage", KEPT, Number.isInteger(minutes) && minutes > 0 ? minutes : null);
 }
 
-export function isTooLong(seconds) {
-  return seconds !== null && seconds >= mostMinutes() * 60;
-}
+export const isTooLong = (seconds) => seconds !== null && seconds >= mostMinutes() * 60;

@@ -1,70 +1,64 @@
 // What the board shows, and in which order: a search, a kind of records, and what they are sorted by. The tab keeps it.
 
 import { presentStep } from "../clearances/offers.js";
-import { drafted, draftName } from "../shared/drafts.js";
-import { button, choice, el, field } from "../shared/elements.js";
+import { formOf } from "../shared/drafts.js";
 import { viewOf } from "../shared/watch.js";
 import { isTooLong, mostMinutes, outFor, setMostMinutes } from "./ages.js";
 
-const isOut = (row) => outFor(viewOf(row.id), row) !== null;
+const outOf = (row) => outFor(viewOf(row.id), row);
+const isLong = (row) => isTooLong(outOf(row));
 const KINDS = {
-  all: ["all", () => true],
-  clearances: ["clearances", (row) => row.work !== "-"],
-  switches: ["switch orders", (row) => row.work === "-"],
-  out: ["a step is out", isOut],
-  long: ["a step is out too long", (row) => isTooLong(outFor(viewOf(row.id), row))],
-  ...Object.fromEntries(["Requested", "Ordered", "Granted", "Released", "Restoring", "Switching"].map((phase) => [phase, [phase, (row) => row.phase === phase]])),
+  all: () => true,
+  clearances: (row) => row.work !== "-",
+  switches: (row) => row.work === "-",
+  out: (row) => outOf(row) !== null,
+  long: isLong,
 };
 const byText = (part) => (a, b) => (a[part] < b[part] ? -1 : a[part] > b[part] ? 1 : 0);
 const SORTS = {
-  name: ["name", () => 0], // as the board has them
-  newest: ["last moment, the newest first", (a, b) => b.last - a.last],
-  oldest: ["last moment, the oldest first", (a, b) => a.last - b.last],
-  out: ["step out, the longest first", (a, b) => (outFor(viewOf(b.id), b) ?? -1) - (outFor(viewOf(a.id), a) ?? -1)],
-  phase: ["phase", byText("phase")], section: ["section", byText("work")], holder: ["holder", byText("holder")],
+  name: () => 0, // as the board has them
+  newest: (a, b) => b.last - a.last,
+  oldest: (a, b) => a.last - b.last,
+  out: (a, b) => (outOf(b) ?? -1) - (outOf(a) ?? -1),
+  phase: byText("phase"), section: byText("work"), holder: byText("holder"),
 };
 
 // All that a record may be found by: its name, section and holder, its present step, its fence and crews.
 function wordsOf({ id, work, holder }) {
-  const view = viewOf(id), step = view && presentStep(view);
-  return [id, work, holder, ...(step ? [step.text] : []), ...(view ? [...view.fence, ...view.crews, ...view.points.map(({ point }) => point)] : [])];
+  const view = viewOf(id), step = view && presentStep(view), points = view?.points.map(({ point }) => point) ?? [];
+  return [id, work, holder, ...(step ? [step.text] : []), ...(view ? [...view.fence, ...view.crews, ...points] : [])];
 }
 
 export class BoardChoice {
-  #search; #kind; #sort; #minutes; #all; #count = el("p", { class: "hint", "data-name": "count" });
+  #form;
   node;
 
   constructor(changed) {
-    const kept = (input, part) => drafted(input, draftName(`board ${part}`));
-    const pick = (part, from) => kept(choice(Object.entries(from).map(([name, [text]]) => [name, text]), { "data-name": part, oninput: changed }, Object.keys(from)[0]), part);
-    this.#search = kept(el("input", { type: "search", size: 14, "data-name": "search", oninput: changed }), "search");
-    this.#kind = pick("kind", KINDS);
-    this.#sort = pick("sort", SORTS);
-    this.#minutes = el("input", { type: "number", min: 1, max: 999, value: mostMinutes(), "data-name": "too-long", oninput: () => {
-      setMostMinutes(Number(this.#minutes.value));
+    this.#form = formOf("board", changed);
+    this.node = this.#form.form;
+    const { search, kind, "too-long": minutes, "show-all": all } = this.#form;
+    minutes.value = mostMinutes();
+    minutes.addEventListener("input", () => {
+      setMostMinutes(Number(minutes.value));
       changed();
-    } });
-    this.#all = button("Show all", () => this.#showAll(changed), { class: "quiet", "data-name": "show-all" });
-    this.node = el("div", {}, el("div", { class: "line board-choice" }, field("Search", this.#search), field("Show", this.#kind), field("Sort by", this.#sort),
-      field("Minutes after which a step is out too long", this.#minutes)), el("div", { class: "answers" }, this.#count, this.#all));
-  }
-
-  #showAll(changed) {
-    for (const [input, value] of [[this.#search, ""], [this.#kind, "all"]]) {
-      input.value = value;
-      input.dispatchEvent(new Event("input"));
-    }
-    changed();
+    });
+    all.addEventListener("click", () => {
+      for (const [field, value] of [[search, ""], [kind, "all"]]) {
+        field.value = value;
+        field.dispatchEvent(new Event("input"));
+      }
+    });
   }
 
   // These rows of the board as they are to be listed.
   rows(board) {
-    const text = this.#search.value.trim().toUpperCase(), [, fits] = KINDS[this.#kind.value] ?? KINDS.all, [, order] = SORTS[this.#sort.value] ?? SORTS.name;
-    const found = board.filter((row) => fits(row) && (!text || wordsOf(row).some((word) => word.includes(text)))).sort(order);
-    const long = board.filter(KINDS.long[1]).length;
-    const said = `${found.length} of ${board.length} ${board.length === 1 ? "record" : "records"}${long ? `; ${long} with a step that is out too long` : ""}`;
-    if (this.#count.textContent !== said) this.#count.textContent = said;
-    this.#all.hidden = found.length === board.length;
-    return found;
+    const { search, kind, sort, count, "show-all": all } = this.#form, text = search.value.trim().toUpperCase();
+    const fits = KINDS[kind.value] ?? ((row) => row.phase === kind.value), order = SORTS[sort.value];
+    const found = board.filter((row) => fits(row) && (!text || wordsOf(row).some((word) => word.includes(text))));
+    const long = board.filter(isLong).length, records = board.length === 1 ? "record" : "records";
+    const said = `${found.length} of ${board.length} ${records}${long ? `; ${long} with a step that is out too long` : ""}`;
+    if (count.textContent !== said) count.textContent = said;
+    all.hidden = found.length === board.length;
+    return found.sort(order);
   }
 }

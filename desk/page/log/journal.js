@@ -1,30 +1,55 @@
-// The register's journal, as the proxy serves it where this desk has one: read from its end backwards, a piece at a time, and
-// on through its parts. Each entry is a line of it: { command, login, number, received, reply, sum }, and `withdrawn` where a
-// later line says so. An update and an archive are entries too, as commands of nobody that were accepted. The first line of
-// each part has the number and the sum of the line before it, and is no entry.
+// The register's journal, as the proxy serves it where this desk has one: read by ranges of bytes, from its end backwards, a
+// piece at a time, and on through the parts that were put aside when it was rotated. Each entry is a line of it: { command,
+// login, number, received, reply, sum }, and `withdrawn` where a later line says so. An update and an archive are entries
+// too, as commands of nobody that were accepted. The first line of each part has the number and the sum of the line before
+// it, and is no entry.
 
-import { bytesOf, NEWEST, partFiles } from "./journal-files.js";
+import { parsed } from "../shared/storage.js";
 
+const NEWEST = "journal";
+const PARTS = "journals/", PART = /^journal-2[0-9T:-]+Z$/;
 const PIECE = 1 << 20; // bytes
 const LINE_FEED = 10;
-const AGAIN = 30000; // milliseconds after which a journal that was not there is asked for again
+const PATIENCE = 60000; // milliseconds: what became of a command waits for it
+const AGAIN = 30000;    // milliseconds after which a journal that was not there is asked for again
 
 // `state`: "new" until it was asked for, "read", "none" where there is no journal, or "failed". `end` is where the newest file
 // ends; `file` is the one that is being read backwards, as far as `begin`; `older` are the parts before that one, null while
 // they are not known. `last` is the last line, null while none was read.
 export const journal = { state: "new", entries: [], begin: 0, end: 0, file: NEWEST, older: null, last: null };
 
+// { bytes, from, size } of a range: its bytes, where they begin, and the size of the whole; `from` is null where there are no
+// more. { status } where the file cannot be read: 0 without an answer.
+async function bytesOf(file, range) {
+  const answer = await fetch(file, { headers: { Range: `bytes=${range}` }, cache: "no-store", signal: AbortSignal.timeout(PATIENCE) }).catch(() => null);
+  if (answer?.status === 416) return { bytes: new Uint8Array(), from: null, size: Number(/\/(\d+)$/.exec(answer.headers.get("Content-Range") ?? "")?.[1] ?? 0) };
+  const body = answer?.ok ? await answer.arrayBuffer().catch(() => null) : null;
+  if (!body) return { status: answer?.status ?? 0 };
+  const bytes = new Uint8Array(body);
+  const [, from = 0, size = bytes.length] = /^bytes (\d+)-\d+\/(\d+)$/.exec(answer.headers.get("Content-Range") ?? "") ?? [];
+  return { bytes, from: Number(from), size: Number(size) };
+}
+
+// The parts, the oldest first; none where no list of them is served, null where no answer came.
+async function partFiles() {
+  const answer = await fetch(PARTS, { cache: "no-store", signal: AbortSignal.timeout(PATIENCE) }).catch(() => null);
+  if (answer && !answer.ok) return answer.status < 500 ? [] : null;
+  const found = await answer?.json().catch(() => null);
+  return Array.isArray(found) ? found.map(({ name }) => name).filter((name) => PART.test(name)).sort().map((name) => PARTS + name) : null;
+}
+
+// Something that is worked out of the entries, again only where others were read.
+export function byEntries(work) {
+  let entries = null, found = null;
+  return () => {
+    if (entries !== journal.entries) [entries, found] = [journal.entries, work(journal.entries)];
+    return found;
+  };
+}
+
 let withdrawn = new Set();
 let turn = Promise.resolve();
 let missed = -AGAIN; // when it was not there
-
-function lineIn(text) {
-  try {
-    return JSON.parse(text);
-  } catch {
-    return null; // a line that no register wrote
-  }
-}
 
 // The entry that a line is, if it is one.
 function entryOf(line) {
@@ -37,7 +62,7 @@ function entryOf(line) {
 // What whole lines say: their entries, the first line of a part where that is among them, the last of them, and whether one
 // does not read. A withdrawal is put to what it withdraws.
 function saidBy(bytes) {
-  const texts = new TextDecoder().decode(bytes).split("\n").filter(Boolean), lines = texts.map(lineIn).filter(Boolean);
+  const texts = new TextDecoder().decode(bytes).split("\n").filter(Boolean), lines = texts.map((line) => parsed(() => line)).filter(Boolean);
   for (const { number } of lines.filter((one) => one.withdrawn)) withdrawn.add(number);
   return { found: lines.map(entryOf).filter(Boolean), head: lines.find((one) => one.journal) ?? null, last: lines.at(-1) ?? null, isTorn: lines.length < texts.length };
 }
@@ -148,11 +173,7 @@ export function isWhole() {
 }
 
 // Whether all that is served was read.
-function isAtEnd() {
-  return journal.begin === 0 && journal.older?.length === 0;
-}
+const isAtEnd = () => journal.begin === 0 && journal.older?.length === 0;
 
 // Whether more can be read.
-export function hasEarlier() {
-  return journal.state === "read" && !isWhole() && !isAtEnd();
-}
+export const hasEarlier = () => journal.state === "read" && !isWhole() && !isAtEnd();

@@ -1,6 +1,6 @@
 // The log of the whole register: searched, and printed as it is shown.
 
-import { el, button, panel, table } from "../shared/elements.js";
+import { el, panel, table } from "../shared/elements.js";
 import { wholeTime } from "../shared/moments.js";
 import { isLackedByBoard } from "./board-lacks.js";
 import { earlier, hasEarlier, isWhole, journal, newest } from "./journal.js";
@@ -27,14 +27,14 @@ function logRow(row) {
 
 export class LogPage {
   #search = new LogSearch(() => this.update()); #count = el("p", { class: "hint", role: "status" }); #rows = el("div", { class: "sheet" });
-  #more = button("Read earlier entries", () => this.#read(earlier), { "data-name": "earlier" });
   title = "Log";
   node;
 
   constructor() {
-    this.node = el("section", { class: "log-page" }, el("h2", { tabindex: -1 }, "Log"),
-      el("div", { class: "line" }, this.#search.fields,
-        this.#more, button("Print", () => window.print(), { "data-name": "print-log" })), this.#count, this.#rows);
+    const { form, earlier: more, "print-log": print } = this.#search.form;
+    more.addEventListener("click", () => this.#read(earlier));
+    print.addEventListener("click", () => window.print());
+    this.node = el("section", { class: "log-page" }, el("h2", { tabindex: -1 }, "Log"), form, this.#count, this.#rows);
     this.update();
   }
 
@@ -62,7 +62,7 @@ export class LogPage {
   }
 
   #draw() {
-    this.#more.hidden = !hasEarlier();
+    this.#search.form.earlier.hidden = !hasEarlier();
     if (journal.state !== "read") {
       panel(this.#rows, journal.state, () => [el("p", {}, STATES[journal.state])]);
       return;

@@ -3,14 +3,14 @@
 import { COMMANDS } from "../replies/command-words.js";
 import { shortTime, span, wholeTime } from "../shared/moments.js";
 import { isLackedByBoard } from "./board-lacks.js";
-import { journal } from "./journal.js";
+import { byEntries, journal } from "./journal.js";
 
 const LATE = 60; // seconds from the stated moment to that of the machine that are said
 
 const KINDS = { sections: "section", points: "point", staff: "employee" };
 
 // The rows that an update changed, by name.
-function changedWords(changes) {
+export function changedWords(changes) {
   return Object.entries(KINDS).flatMap(([key, kind]) => {
     const [come, go] = [changes[key].come, changes[key].go].map((rows) => rows.map(({ name }) => name));
     return [...go.map((name) => `${kind} ${name} ${come.includes(name) ? "changes" : "goes"}`), ...come.filter((name) => !go.includes(name)).map((name) => `${kind} ${name} comes`)];
@@ -28,13 +28,8 @@ function wordsOf(command, text) {
   return logged ? logged(command, text) : command.do;
 }
 
-export function recordOf({ command, reply }) {
-  return command.clearance ?? reply.card?.clearance ?? null;
-}
-
-function isDone({ reply, withdrawn }) {
-  return !withdrawn && (reply.reply === "accepted" || reply.reply === "added");
-}
+export const recordOf = ({ command, reply }) => command.clearance ?? reply.card?.clearance ?? null;
+const isDone = ({ reply, withdrawn }) => !withdrawn && (reply.reply === "accepted" || reply.reply === "added");
 
 // The texts of steps that were repeated: "JONES/1 1.3" and so on.
 function repeatedTexts() {
@@ -42,16 +37,9 @@ function repeatedTexts() {
   return new Map(repeats.map(({ command, reply }) => [`${command.clearance} ${reply.card.round}.${command.step}`, command.text]));
 }
 
-let made = { entries: null, rows: [] };
-
 // Each entry as { entry, id, at, by, text, what, done }: `text` is that of its step, by its order; or, where that is not in
 // the part that was read, by its repeat.
-export function logRows() {
-  if (made.entries !== journal.entries) made = { entries: journal.entries, rows: rowsOf(journal.entries) };
-  return made.rows;
-}
-
-function rowsOf(entries) {
+export const logRows = byEntries((entries) => {
   const orders = new Map(), repeated = repeatedTexts(); // record and round: the texts of its steps
   return entries.map((entry) => {
     const { command, reply } = entry, id = recordOf(entry), done = isDone(entry), round = reply.card?.round ?? 0;
@@ -61,7 +49,7 @@ function rowsOf(entries) {
     if (done && command.do === "amend" && text) texts[command.step - 1] = text.replace(/^CLOSE/, "LEAVE");
     return { entry, id, round, at: command.at ?? entry.received, by: command.by, text, done, what: wordsOf(command, text) };
   });
-}
+});
 
 // Who gave it, with the login where that is another.
 export function whoWords({ command, login }) {
@@ -119,30 +107,19 @@ export function movedBefore(clearance, point) {
   return null;
 }
 
-const keyOf = ({ id, section }) => `${id} ${section}`;
-let alarmed = { rows: null, found: [] };
-
 // The sections that were found live, { id, section, by, at }, and neither tested dead since nor given back.
-export function liveByLog() {
-  const rows = logRows();
-  if (alarmed.rows !== rows) alarmed = { rows, found: foundLive(rows) };
-  return alarmed.found;
-}
-
-function foundLive(rows) {
+export const liveByLog = byEntries(() => {
   const live = new Map();
-  for (const { id, by, at, entry: { command }, done } of rows) {
-    const alarm = { id, section: command.section, by, at };
-    if (done && command.do === "test") (command.dead ? live.delete(keyOf(alarm)) : live.set(keyOf(alarm), alarm));
-    if (done && command.do === "release") for (const [key, one] of [...live]) if (one.id === id) live.delete(key);
+  for (const { id, by, at, entry: { command }, done } of logRows()) {
+    const { section } = command, name = `${id} ${section}`;
+    if (done && command.do === "test") (command.dead ? live.delete(name) : live.set(name, { id, section, by, at }));
+    if (done && command.do === "release") for (const [key, one] of live) if (one.id === id) live.delete(key);
   }
   return [...live.values()];
-}
+});
 
 // The names of the rows of one kind that an update changed.
-export function changedNames(changes) {
-  return [...changes.go, ...changes.come].map(({ name }) => name);
-}
+export const changedNames = (changes) => [...changes.go, ...changes.come].map(({ name }) => name);
 
 // The points that an entry is about. Those of an update are rows, not names.
 export function pointsIn({ entry, text }) {

@@ -14,8 +14,8 @@ function furtherWords({ entry }) {
 }
 
 function cell(row, head) {
-  if (!row) return el("td", { "data-head": head }, "–");
-  return el("td", { "data-head": head }, whoWords(row.entry), el("p", { class: "hint" }, wholeTime(row.at)), furtherWords(row));
+  const words = row && [whoWords(row.entry), el("p", { class: "hint" }, wholeTime(row.at)), furtherWords(row)];
+  return el("td", { "data-head": head }, ...(words ?? ["–"]));
 }
 
 function stepRow({ round, number, text, given, repeated, reported }) {

@@ -15,21 +15,25 @@ let own = { login: null, names: null };
 
 export async function readLogin() {
   own = await ownLogin();
-  at("believed").textContent = own.names ? `${own.login || "Without a login nobody"} may use these names.` : "The register believes this name.";
+  const login = own.login ? `Login ${own.login}. ` : "";
+  at("believed").textContent = own.names ? `${own.login || "Without a login nobody"} may use these names.` : `${login}The register believes this name.`;
+  at("log-off").hidden = !own.login;
+  at("log-off").addEventListener("click", logOff);
+}
+
+// The browser drops its login for a name that no login has, which the proxy takes for this address alone.
+function logOff() {
+  const request = new XMLHttpRequest();
+  keepIn("sessionStorage", KEPT, null);
+  request.open("GET", "log-off", true, "logged-off", "logged-off");
+  request.addEventListener("loadend", () => location.replace(`logged-off.html?login=${own.login}`));
+  request.send();
 }
 
 // "" without one, null where it is not known.
-export function loginUsed() {
-  return own.login;
-}
-
-export function keptName() {
-  return readKept("sessionStorage", KEPT) ?? "";
-}
-
-export function mayUse(name) {
-  return own.names === null || own.names.has(name);
-}
+export const loginUsed = () => own.login;
+export const keptName = () => readKept("sessionStorage", KEPT) ?? "";
+export const mayUse = (name) => own.names === null || own.names.has(name);
 
 // The names to choose from; one that is chosen stays.
 export function listCallers(staff) {
@@ -42,14 +46,11 @@ export function listCallers(staff) {
   at("caller").value = staff.has(chosen) && mayUse(chosen) ? chosen : "";
 }
 
-function roleWords({ role, supervisor }) {
-  return `${role === "charge" ? "may be in charge" : role}${supervisor ? `, supervisor ${supervisor}` : ""}`;
-}
-
 // Shows who speaks now, or that nobody does.
 export function showCaller(row) {
+  const role = row?.role === "charge" ? "may be in charge" : row?.role, boss = row?.supervisor;
   at("caller").value = row?.name ?? "";
-  at("role").textContent = row ? roleWords(row) : "";
+  at("role").textContent = row ? `${row.name}: ${role}${boss ? `, supervisor ${boss}` : ""}` : "";
   keepIn("sessionStorage", KEPT, row?.name ?? null);
   drawNameless(row);
 }
@@ -59,5 +60,6 @@ export function drawNameless(row) {
   const node = at("nameless");
   node.hidden = Boolean(row) && room.barred !== row.name;
   const alarms = journal.state === "read" ? "the alarms of the log, and its own" : "no alarms but its own";
-  node.textContent = row ? `⚠ The register shows no clearance to ${row.name}: choose another name. What is shown of clearances is old.` : `⚠ No name is chosen: this desk shows ${alarms}.`;
+  node.textContent = row ? `The register shows no clearance to ${row.name}: choose another name. What is shown of clearances is old.`
+    : `No name is chosen: this desk shows ${alarms}, and no steps and no work.`;
 }

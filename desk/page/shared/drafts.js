@@ -2,23 +2,16 @@
 // fields, by the clearance and the command that they are for.
 
 import { presentStep } from "../clearances/offers.js";
+import { el } from "./elements.js";
 import { keepIn, keptKeys, readKept } from "./storage.js";
 import { room } from "./watch.js";
 
 const PREFIX = "gridclear-draft ";
 
 // The draft of a command: `request` and `switch` have no clearance.
-export function draftName(what, clearance = "") {
-  return `${clearance} ${what}`;
-}
-
-export function draft(name) {
-  return readKept("sessionStorage", PREFIX + name);
-}
-
-export function keepDraft(name, value) {
-  keepIn("sessionStorage", PREFIX + name, value);
-}
+export const draftName = (what, clearance = "") => `${clearance} ${what}`;
+export const draft = (name) => readKept("sessionStorage", PREFIX + name);
+export const keepDraft = (name, value) => { keepIn("sessionStorage", PREFIX + name, value); };
 
 function dropDraft(name) {
   keepIn("sessionStorage", PREFIX + name, null);
@@ -27,11 +20,6 @@ function dropDraft(name) {
 
 function draftNames() {
   return keptKeys("sessionStorage").filter((name) => name.startsWith(PREFIX)).map((name) => name.slice(PREFIX.length));
-}
-
-// All drafts of a clearance whose name begins so.
-function dropAll(begin) {
-  for (const name of draftNames()) if (name.startsWith(begin)) dropDraft(name);
 }
 
 // What was written for a clearance that is no longer on the board is dropped; and what was typed of a step once that
@@ -54,7 +42,21 @@ export function drafted(input, name) {
   return input;
 }
 
+// A form of index.html, and its controls by their names: each field begins with what was last in it, and keeps it; `changed`
+// is called after that. `names` are the further choices of a field.
+export function formOf(id, changed, names = {}) {
+  const form = document.getElementById(`form-${id}`).content.firstElementChild.cloneNode(true), controls = { form };
+  for (const control of form.querySelectorAll("[data-name]")) {
+    const { name } = control.dataset;
+    controls[name] = control;
+    if (!control.matches("input, select, textarea")) continue;
+    control.append(...(names[name] ?? []).map((one) => el("option", { value: one }, one)));
+    drafted(control, draftName(`${id} ${name}`)).addEventListener("input", changed);
+  }
+  return controls;
+}
+
 // A command was carried out: what was written for it, or for the steps before it, is no longer wanted.
 export function dropDraftOf({ do: what, clearance }) {
-  dropAll(draftName(what, clearance));
+  draftNames().filter((name) => name.startsWith(draftName(what, clearance))).forEach(dropDraft);
 }

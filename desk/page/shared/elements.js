@@ -1,6 +1,6 @@
 // Small makers of page elements, and panels that are drawn again only when what they show has changed.
 
-import { isCurrent, waits } from "./waiting-lists.js";
+import { letGo, waits } from "./waiting-lists.js";
 
 const SVG = "http://www.w3.org/2000/svg";
 
@@ -14,9 +14,7 @@ function dress(node, attributes, children) {
   return node;
 }
 
-export function el(tag, attributes = {}, ...children) {
-  return dress(document.createElement(tag), attributes, children);
-}
+export const el = (tag, attributes = {}, ...children) => dress(document.createElement(tag), attributes, children);
 
 export function svg(tag, attributes = {}, ...children) {
   return dress(document.createElementNS(SVG, tag), attributes, children);
@@ -44,16 +42,12 @@ export function field(text, control, hint) {
     hint ? el("span", { class: "hint" }, hint) : null);
 }
 
-export function choice(names, attributes = {}, chosen = "") {
-  return el("select", attributes,
-    names.map(([value, text]) => el("option", { value, selected: value === chosen }, text)));
-}
+export const choice = (names, attributes = {}, chosen = "") => el("select", attributes,
+  names.map(([value, text]) => el("option", { value, selected: value === chosen }, text)));
 
-export function table(heads, rows, attributes = {}) {
-  return el("table", attributes,
-    el("thead", {}, el("tr", {}, heads.map((head) => el("th", { scope: "col" }, head)))),
-    el("tbody", {}, rows));
-}
+export const table = (heads, rows, attributes = {}) => el("table", attributes,
+  el("thead", {}, el("tr", {}, heads.map((head) => el("th", { scope: "col" }, head)))),
+  el("tbody", {}, rows));
 
 const drawn = new WeakMap();
 
@@ -71,7 +65,7 @@ function focusIn(node) {
 export function panel(node, key, draw) {
   const text = JSON.stringify(key);
   if (drawn.get(node) === text) {
-    isCurrent(node);
+    letGo(node);
     return false;
   }
   if (drawn.has(node) && waits(node, () => panel(node, key, draw))) return false;

@@ -1,5 +1,5 @@
-// Alt with C goes to the name, with B to the board, with N to the next act, with T to the repeat. The focus moves there,
-// and nothing is done yet. The access keys of the page do the same, where a browser has other keys for them.
+// Alt with the access key of something on the page goes there, in each browser: with C to the name, with B to the board, with
+// N to the next act, with T to the repeat. The focus moves, and nothing is done yet.
 
 const ACTS = ["[data-goes]", ".main:not(:disabled)", "input:not(:disabled)", "button:not(:disabled)"];
 const GIVING_UP = "[data-does=cancel], [data-does=transfer], [data-does=emergency]"; // none of these is the next act
@@ -18,24 +18,21 @@ function nextAct() {
   return document.querySelector("main h2");
 }
 
-const GOES = {
-  c: () => document.getElementById("caller").focus(),
-  b: () => { location.hash = "#/board"; },
-  n: () => goTo(nextAct()),
-  t: () => goTo(document.querySelector('main [data-name="repeat-text"]:not(:disabled)') ?? nextAct()),
-};
+function onKey(event) {
+  if (!event.altKey || event.ctrlKey || event.metaKey || document.querySelector("dialog")) return;
+  const node = document.querySelector(`[accesskey="${CSS.escape(event.key.toLowerCase())}"]`);
+  if (!node) return;
+  event.preventDefault();
+  if (node.matches("select")) node.focus();
+  else node.click();
+}
 
 export function startKeys(skip, next, repeat) {
   skip.addEventListener("click", (event) => {
     event.preventDefault();
     goTo(document.querySelector("main h2"));
   });
-  next.addEventListener("click", GOES.n);
-  repeat.addEventListener("click", GOES.t);
-  addEventListener("keydown", (event) => {
-    const goes = GOES[event.key.toLowerCase()];
-    if (!goes || !event.altKey || event.ctrlKey || event.metaKey || document.querySelector("dialog")) return;
-    event.preventDefault();
-    goes();
-  });
+  next.addEventListener("click", () => goTo(nextAct()));
+  repeat.addEventListener("click", () => goTo(document.querySelector('main [data-name="repeat-text"]:not(:disabled)') ?? nextAct()));
+  addEventListener("keydown", onKey);
 }

@@ -13,22 +13,12 @@ const own = new Map();    // "JONES/1 L2": { id, section, at, taken }: said here
 const seen = new Map();   // the same, seen here
 const before = new Map(); // clearance: what was tested and grounded there when it was last looked at
 
-function keep() {
-  keepIn("localStorage", KEPT, [...own.values()]);
-}
+const keep = () => { keepIn("localStorage", KEPT, [...own.values()]); };
 
+// Also where another window of this browser has said one.
 export function recallAlarms() {
+  own.clear();
   for (const alarm of readKept("localStorage", KEPT) ?? []) own.set(`${alarm.id} ${alarm.section}`, alarm);
-}
-
-// Another window of this browser has said it.
-export function onAlarmElsewhere(listener) {
-  addEventListener("storage", (event) => {
-    if (event.key !== KEPT) return;
-    own.clear();
-    recallAlarms();
-    listener();
-  });
 }
 
 // A test that this page has given: accepted, or without a reply. The views that came before its reply say nothing of it.
@@ -45,13 +35,13 @@ export function noteTest({ do: what, by, clearance: id, section, dead }, accepte
   keep();
 }
 
-function placesOf(view, kind) {
-  return new Set(view.holds.filter((hold) => hold.kind === kind && hold.by === view.card.clearance).map((hold) => hold.place));
-}
+const placesOf = (view, kind) => new Set(view.holds
+  .filter((hold) => hold.kind === kind && hold.by === view.card.clearance).map((hold) => hold.place));
 
 function drop(id, isOver) {
-  for (const [key, alarm] of [...seen]) if (alarm.id === id && isOver(alarm)) seen.delete(key);
-  for (const [key, alarm] of [...own]) if (alarm.id === id && isOver(alarm)) own.delete(key);
+  for (const kept of [seen, own]) {
+    for (const [key, alarm] of kept) if (alarm.id === id && isOver(alarm)) kept.delete(key);
+  }
 }
 
 // What a view shows beside the one before it.
@@ -92,14 +82,10 @@ export function alarms() {
   return [...all.values()].sort((a, b) => (`${a.id} ${a.section}` < `${b.id} ${b.section}` ? -1 : 1));
 }
 
-export function liveUnder(id) {
-  return alarms().filter((alarm) => alarm.id === id).map(({ section }) => section);
-}
+export const liveUnder = (id) => alarms().filter((alarm) => alarm.id === id).map(({ section }) => section);
 
 // The alarms of these sections, under whichever clearance.
-export function liveIn(sections) {
-  return alarms().filter(({ section }) => sections.includes(section)).map(({ id, section, by, at }) => ({ id, section, by, at }));
-}
+export const liveIn = (sections) => alarms().filter(({ section }) => sections.includes(section));
 
 // The sections of a clearance without a test while work goes on there: a crew or a ground is on.
 export function untested(view) {

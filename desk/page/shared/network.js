@@ -19,13 +19,8 @@ function refill(map, rows) {
 
 const KINDS = ["HeldOpen", "Block", "Control", "Tag"]; // of holds at a point, as they are put there
 
-function inOrder(holds) {
-  return [...holds].sort((a, b) => KINDS.indexOf(a.kind) - KINDS.indexOf(b.kind));
-}
-
-function sectionOf({ section: name, source, live, holds }) {
-  return { name, source, live, holds };
-}
+const inOrder = (holds) => [...holds].sort((a, b) => KINDS.indexOf(a.kind) - KINDS.indexOf(b.kind));
+const sectionOf = ({ section: name, source, live, holds }) => ({ name, source, live, holds });
 
 // Normal positions come from the points file that the register was made from, where that is served. A jumper has none.
 function pointOf({ point: name, from, to, lockable, remote, jumper, position, hand, holds }, normal) {

@@ -18,11 +18,7 @@ export function pointStates(room) {
 }
 
 // Whether the normal position of any point is known.
-export function knowsNormal() {
-  return [...network.points.values()].some(({ normal }) => normal !== null);
-}
+export const knowsNormal = () => [...network.points.values()].some(({ normal }) => normal !== null);
 
 // Where the normal position is known, and is not the present one.
-export function isOffNormal({ position, point }) {
-  return point.normal !== null && position !== point.normal;
-}
+export const isOffNormal = ({ position, point }) => point.normal !== null && position !== point.normal;

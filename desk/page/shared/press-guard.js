@@ -6,18 +6,17 @@ const DEAD = 700;      // milliseconds
 const SCROLLED = 500;  // the same, in which what a wheel moves under the pointer was meant
 const BY_HAND = 150;   // the same, after a key or a press, in which it has moved the focus
 const BUTTONS = "main button:not(.steplist button), aside button, dialog button";
+const NOWHERE = { x: -1, y: -1, name: "" };
 const CONTROLS = "button, summary, input[type=checkbox], input[type=radio]";
 
 const arrived = new WeakMap(); // control: when it came
 const focused = new WeakMap(); // field or control: when the page moved the focus there
 let places = new Map();        // a button's name: where it lies on the page
-let last = { x: -1, y: -1, name: "" }; // where the pointer was last moved to, and the control that was there
+let last = NOWHERE; // where the pointer was last moved to, and the control that was there
 let trapped = "";                      // the control that came under it
 let wheel = -SCROLLED, moved = -BY_HAND, touched = -DEAD;
 
-function controlOf(node) {
-  return node instanceof Element ? node.closest("label")?.control ?? node.closest(CONTROLS) : null;
-}
+const controlOf = (node) => (node instanceof Element ? node.closest("label")?.control ?? node.closest(CONTROLS) : null);
 
 // What a control is to its reader: the same after it was drawn again. One that was disabled is another.
 function nameOf(control) {
@@ -42,15 +41,10 @@ function notePointer({ clientX: x, clientY: y, target }) {
 function onDown(event) {
   moved = performance.now();
   if (event.pointerType !== "mouse") {
-    if (moved - touched > DEAD) forgetPointer();
+    if (moved - touched > DEAD) [last, trapped] = [NOWHERE, ""];
     touched = moved;
   }
   notePointer(event);
-}
-
-function forgetPointer() {
-  last = { x: -1, y: -1, name: "" };
-  trapped = "";
 }
 
 const isRecent = (times, node) => performance.now() - (times.get(node) ?? -DEAD) < DEAD;
@@ -97,10 +91,8 @@ function onKey(event) {
   if (event.repeat && event.key === "Enter") event.preventDefault();
 }
 
-function controlsIn(nodes) {
-  return [...nodes].filter((node) => node instanceof HTMLElement)
-    .flatMap((node) => [...(node.matches(CONTROLS) ? [node] : []), ...node.querySelectorAll(CONTROLS)]);
-}
+const controlsIn = (nodes) => [...nodes].filter((node) => node instanceof HTMLElement)
+  .flatMap((node) => [...(node.matches(CONTROLS) ? [node] : []), ...node.querySelectorAll(CONTROLS)]);
 
 // What comes is new, but for a control that was only drawn again.
 function noteChanges(records) {
@@ -140,7 +132,7 @@ function notePlaces(byChange) {
 function onScroll() {
   notePlaces(false);
   if (performance.now() - wheel > SCROLLED) return;
-  last.name = nameOf(controlOf(document.elementFromPoint(last.x, last.y)));
+  last = { ...last, name: nameOf(controlOf(document.elementFromPoint(last.x, last.y))) };
   trapped = "";
 }
 

@@ -5,6 +5,7 @@
 
 import { noteDate } from "./clocks.js";
 import { now, shortTime } from "./moments.js";
+import { parsed } from "./storage.js";
 
 const FRESH = 6000;     // milliseconds for which an answer shows that the register answers
 const NONE = 502;       // the proxy's status where no register is there
@@ -20,11 +21,6 @@ globalThis.addEventListener?.("beforeunload", () => { leaving = true; });
 
 let last = Promise.resolve();
 let begun = moments(); // when it last answered, or when the page began, by two clocks
-const listeners = [];
-
-export function onContact(listener) {
-  listeners.push(listener);
-}
 
 // One clock may stop while the machine sleeps, and the other may be set.
 export function moments() {
@@ -32,18 +28,10 @@ export function moments() {
 }
 
 // Whether it was less than this many milliseconds ago, by both clocks: by one that was set back it is not known.
-export function isWithin(since, time) {
-  return moments().every((moment, clock) => Math.abs(moment - since[clock]) < time);
-}
+export const isWithin = (since, time) => moments().every((moment, clock) => Math.abs(moment - since[clock]) < time);
 
 // Whether an answer came just now; a page that nobody sees asks less often.
-export function isFresh() {
-  return document.hidden || isWithin(begun, FRESH);
-}
-
-function report() {
-  for (const listener of listeners) listener();
-}
+export const isFresh = () => document.hidden || isWithin(begun, FRESH);
 
 function noteAnswer(answer) {
   if (answer.kind === "lost") {
@@ -55,7 +43,6 @@ function noteAnswer(answer) {
     contact.silentSince = null;
     contact.trouble = troubleIn(answer);
   }
-  report();
 }
 
 // One that had ended was started again, and has decided what it could not carry out. An answer that was lost shows no end.
@@ -67,10 +54,7 @@ function noteContact() {
 }
 
 // Since when it takes no command; null where it does.
-export function noteRefused(moment) {
-  contact.refused = moment;
-  report();
-}
+export const noteRefused = (moment) => { contact.refused = moment; };
 
 function troubleIn(answer) {
   const last = contact.answered ? ` Its last answer came at ${shortTime(contact.answered)}.` : "";
@@ -80,18 +64,9 @@ function troubleIn(answer) {
   return "";
 }
 
-function parsed(text, type) {
-  if (!type.includes("json")) return text;
-  try {
-    return JSON.parse(text);
-  } catch {
-    return undefined;
-  }
-}
-
 // Where the body is none of the register's, the proxy has answered in its place.
 function judged(status, type, text) {
-  const body = parsed(text, type);
+  const body = type.includes("json") ? parsed(() => text) : text;
   const printed = status === 200 && type.includes("text/plain");
   if (printed || body?.reply || body?.fault || body?.sections) return { kind: "answered", status, body };
   if (status >= 400 && status < 500) return { kind: "barred", status };
@@ -99,13 +74,7 @@ function judged(status, type, text) {
   return { kind: "lost", status, why: `the proxy said ${status}${text.includes("<title>") ? titleOf(text) : ""}` };
 }
 
-function titleOf(text) {
-  return `, ${/<title>\d* ?([^<]*)<\/title>/.exec(text)?.[1] ?? ""}`;
-}
-
-function whyLost({ name }) {
-  return name === "TimeoutError" ? `no answer within ${PATIENCE / 1000} seconds` : "nothing answers at this address";
-}
+const titleOf = (text) => `, ${/<title>\d* ?([^<]*)<\/title>/.exec(text)?.[1] ?? ""}`;
 
 async function once(method, path, body) {
   const signal = AbortSignal.timeout(PATIENCE);
@@ -115,7 +84,8 @@ async function once(method, path, body) {
     noteDate(answer.headers.get("Date"));
     return judged(answer.status, answer.headers.get("Content-Type") ?? "", await answer.text());
   } catch (fault) {
-    return { kind: "lost", why: leaving ? "the page was loaded again before it" : whyLost(fault) };
+    const why = fault.name === "TimeoutError" ? `no answer within ${PATIENCE / 1000} seconds` : "nothing answers at this address";
+    return { kind: "lost", why: leaving ? "the page was loaded again before it" : why };
   }
 }
 
@@ -128,25 +98,11 @@ function inTurn(method, path, body) {
   });
 }
 
-export function getBoard() {
-  return inTurn("GET", "board");
-}
-
-export function getNetwork() {
-  return inTurn("GET", "network");
-}
-
-export function getView(caller, clearance) {
-  return inTurn("GET", `clearance/${caller}/${clearance}`);
-}
-
-export function getOrder(clearance, round) {
-  return inTurn("GET", `order/${clearance}/${round}`);
-}
-
-export function getWayBack(clearance) {
-  return inTurn("GET", `wayback/${clearance}`);
-}
+export const getBoard = () => inTurn("GET", "board");
+export const getNetwork = () => inTurn("GET", "network");
+export const getView = (caller, clearance) => inTurn("GET", `clearance/${caller}/${clearance}`);
+export const getOrder = (clearance, round) => inTurn("GET", `order/${clearance}/${round}`);
+export const getWayBack = (clearance) => inTurn("GET", `wayback/${clearance}`);
 
 export async function postCommand(command) {
   const answer = await inTurn("POST", "command", JSON.stringify(command));

@@ -1,6 +1,8 @@
 // Files that the proxy serves where they are there: the points file, whose positions are the normal ones, and the list of
 // logins. Names have no comma, no quote and no blank, so a field is what lies between two commas.
 
+import { parsed } from "./storage.js";
+
 const PATIENCE = 15000; // milliseconds: the watch over the register waits for it
 
 // The text of a file: empty where it is not there, null where no answer came.
@@ -33,9 +35,7 @@ function normalIn(found) {
 }
 
 // Of another network: an update gives the points that have come with it their normal positions.
-export function forgetNormal() {
-  normal = null;
-}
+export const forgetNormal = () => { normal = null; };
 
 // Normal positions, by the points file that the register was made from: { known, of(name, from, to) }. Asked for once, and
 // again where no answer came.
@@ -50,4 +50,10 @@ export async function normalPositions() {
 export async function ownLogin() {
   const login = await text("login"), found = await rows("logins", "login,employee");
   return { login, names: found && new Set(found.filter((row) => row.login === login).map(({ employee }) => employee)) };
+}
+
+// What keeps the register, as the machine's timers wrote it: null where it is not served, undefined where no answer came.
+export async function keepingFile() {
+  const file = await text("keeping");
+  return file === "" ? null : parsed(() => file ?? "");
 }

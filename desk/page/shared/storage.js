@@ -1,11 +1,14 @@
 // What the browser keeps through a reload, as JSON: in "sessionStorage" for a tab, in "localStorage" for all its windows.
 // Without storage it is gone with the page.
 
-export function readKept(storage, key) {
+export const readKept = (storage, key) => parsed(() => window[storage].getItem(key)) ?? null;
+
+// The JSON that is got so; undefined where there is none.
+export function parsed(get) {
   try {
-    return JSON.parse(window[storage].getItem(key));
+    return JSON.parse(get());
   } catch {
-    return null;
+    return undefined;
   }
 }
 

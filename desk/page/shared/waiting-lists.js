@@ -35,7 +35,8 @@ function isBusy(list) {
   return pointer !== null && list.contains(document.elementFromPoint(pointer.x, pointer.y));
 }
 
-function letGo(list) {
+// It is drawn as it is to be.
+export function letGo(list) {
   held.delete(list);
   delete list.dataset.changed;
   if (held.size) return;
@@ -63,11 +64,6 @@ export function waits(list, redo) {
   list.dataset.changed = "yes";
   timer ??= setInterval(look, PERIOD);
   return true;
-}
-
-// It is drawn as it is to be.
-export function isCurrent(list) {
-  if (held.has(list)) letGo(list);
 }
 
 export function keepStill() {

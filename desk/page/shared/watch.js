@@ -10,6 +10,7 @@ const HIDDEN = 20000;     // the same while nobody sees the page
 const AT_ONCE = 25;       // views that are asked for in one turn
 const ALL_AGAIN = 10;     // turns after which each view is asked for again
 const OLD = 30000;        // after which a view is looked at before anything is sent by it
+const AGED = 10000;       // after which what is shown says since when it is so
 const QUICK = 50;         // milliseconds: a network that is answered in this time is asked for with each board
 
 export const room = {
@@ -36,14 +37,10 @@ let shown = "";        // the board at which the network was last asked for
 let settled = false;   // whether that board was the same one look before, and the chosen record since then
 let lately = [];       // the records whose lines the last board had changed
 let slow = 0;          // how long the network took then
+let boardAt = null;    // when the board was last answered, by two clocks
 
-export function onRoom(listener) {
-  listeners.push(listener);
-}
-
-function report() {
-  for (const listener of listeners) listener();
-}
+export const onRoom = (listener) => { listeners.push(listener); };
+const report = () => { for (const listener of listeners) listener(); };
 
 function recordIn(line) {
   return {
@@ -63,26 +60,18 @@ function jumperIn(line) {
 
 // The records, and after them the jumpers: a record's name has a `/` before its first blank.
 function parseBoard(text) {
-  const lines = text.split("\n").slice(1).filter(Boolean);
-  const isJumper = (line) => line.startsWith("JUMPER ");
-  return {
-    board: lines.filter((line) => !isJumper(line)).map(recordIn),
-    jumpers: lines.filter(isJumper).map(jumperIn),
-  };
+  const lines = text.split("\n").slice(1).filter(Boolean), isJumper = (line) => line.startsWith("JUMPER ");
+  return { board: lines.filter((line) => !isJumper(line)).map(recordIn), jumpers: lines.filter(isJumper).map(jumperIn) };
 }
 
-export function boardLine(id) {
-  return room.board.find((row) => row.id === id);
-}
-
-export function viewOf(id) {
-  return room.views.get(id) ?? room.closed.get(id);
-}
+export const boardLine = (id) => room.board.find((row) => row.id === id);
+export const viewOf = (id) => room.views.get(id) ?? room.closed.get(id);
 
 function keepBoard(text) {
   const before = new Map(room.board.map((row) => [row.id, row.line]));
   Object.assign(room, parseBoard(text));
   room.read = now();
+  boardAt = moments();
   room.turns += 1;
   const present = new Set(room.board.map((row) => row.id));
   const changed = room.board.filter((row) => before.get(row.id) !== row.line).map((row) => row.id);
@@ -101,13 +90,20 @@ function keepView(id, view) {
 }
 
 // A register that was restored may not have a record any more.
-function forget(id) {
-  for (const kept of [room.views, room.closed, answered]) kept.delete(id);
-}
+const forget = (id) => { for (const kept of [room.views, room.closed, answered]) kept.delete(id); };
 
 // Whether its view is one from before a while, as after a sleep of the machine.
-export function isOldView(id) {
-  return !answered.has(id) || !isWithin(answered.get(id), OLD);
+export const isOldView = (id) => !answered.has(id) || !isWithin(answered.get(id), OLD);
+
+// Since when what is shown was not answered again, where that is a while: the board, and with it all; the network, where it
+// was asked for in vain; the view of the chosen record. In seconds, null where it is not old.
+export function oldParts() {
+  const isAged = (since) => Boolean(since) && !isWithin(since, AGED), view = answered.get(chosen);
+  return {
+    board: isAged(boardAt) ? room.read : null,
+    network: room.unread !== null && now() - room.network > AGED / 1000 ? room.network : null,
+    view: isAged(view) && room.views.has(chosen) ? Math.floor(view[1] / 1000) : null,
+  };
 }
 
 // What an accepted command has made of a view, until the register is asked for it.
@@ -154,26 +150,21 @@ async function readNetwork(text) {
 
 async function readViews() {
   const all = new Set([...(urgent.has(chosen) || stale.has(chosen) ? [chosen] : []), ...urgent, ...stale]);
-  const wanted = [...all].slice(0, AT_ONCE);
-  for (const id of wanted) {
-    if ((await readView(id)).kind === "lost") return;
-  }
+  for (const id of [...all].slice(0, AT_ONCE)) if ((await readView(id)).kind === "lost") return;
 }
 
 async function look() {
-  const answer = await getBoard();
-  if (answer.kind !== "answered" || typeof answer.body !== "string") {
-    report();
-    return false;
+  const answer = await getBoard(), isRead = answer.kind === "answered" && typeof answer.body === "string";
+  if (isRead) {
+    keepBoard(answer.body);
+    await readNetwork(answer.body);
   }
-  keepBoard(answer.body);
-  await readNetwork(answer.body);
   report();
-  if (caller) {
+  if (isRead && caller) {
     await readViews();
     report();
   }
-  return true;
+  return isRead;
 }
 
 // One look at a time; who asks while one goes on gets one that begins after it.

@@ -45,6 +45,4 @@ export function closingOf(network, positionOf, point) {
 }
 
 // A way in words: sections with the points between them.
-export function wayWords(way) {
-  return way.map((name, place) => (place % 2 ? ` ─ ${name} ─ ` : name)).join("");
-}
+export const wayWords = (way) => way.map((name, place) => (place % 2 ? ` ─ ${name} ─ ` : name)).join("");
