@@ -147,7 +147,7 @@ def clock_set(stage):
     hand.shows("The register answers", "#contact")
     hand.browser.script(LATER, -600)
     hand.shows("The server's was set back by", "#clocks")
-    hand.shows("nobody has given a command since then", "#clocks")
+    hand.shows("nobody has given a command by a clock like this desk's", "#clocks")
     hand.picture("clock-set")
     hand.carry_out("dead N13-F12", "dead", asked=["which is meant?"], answers=["desk"])
     hand.shows("Commands have the moment of this desk's", "#clocks")
