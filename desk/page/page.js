@@ -52,7 +52,6 @@ class FormPage {
       el("div", { class: "columns" }, el("div", { class: "next" }, form), el("div", {}, el("div", { class: "diagram-place" }))));
   }
   leave() { this.#desk.pick(null); }
-  update() {}
 }
 
 // The diagram alone, with the clearance whose fence is hatched.
@@ -172,7 +171,7 @@ function update() {
   tidyDrafts();
   watchGiven();
   drawAlarms();
-  page?.update();
+  page?.update?.();
   learn();
   drawDiagram();
   lookAtChosen();
@@ -250,10 +249,7 @@ async function start() {
     followLog();
     fromAfar(update);
   });
-  addEventListener("storage", () => {
-    recallAlarms();
-    update();
-  });
+  addEventListener("storage", recallAlarms);
   onSending(() => document.body.classList.toggle("sending", isSending()));
   addEventListener("hashchange", () => turn());
   turn(false);

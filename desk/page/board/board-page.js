@@ -10,6 +10,7 @@ import { ageOf, ageWords, heldWords, isTooLong, outFor } from "./ages.js";
 import { BoardChoice } from "./board-choice.js";
 
 const MOST_NAMED = 3;
+const HEADS = ["Name", "Phase", "Section", "Steps", "Work", "Holder", "Last moment", "Ago"];
 
 // A holder without a supervisor is marked: in an emergency nobody can take the clearance over.
 export function holderCell(holder, work, staff) {
@@ -81,20 +82,15 @@ function boardRow(row, staff, chosen) {
 }
 
 // How long the present step is out, as [class, text]: marked where that is too long; null where none is out.
-export function outWords(view, row) {
+function outWords(view, row) {
   const seconds = outFor(view, row);
   return seconds === null ? null : [isTooLong(seconds) ? "chip warn" : "chip", `out ${ageWords(seconds)}`];
 }
 
-export const outChip = (words) => words && el("p", {}, el("span", { class: words[0] }, words[1]));
+const outChip = (words) => words && el("p", {}, el("span", { class: words[0] }, words[1]));
 
 function jumperRow({ point, from, to, position }) {
   return el("tr", {}, el("th", { scope: "row" }, el("a", { href: `#/points/${point}` }, point)), [from, to, position].map((text) => el("td", {}, text)));
-}
-
-function recordsTable(rows, staff, chosen) {
-  if (!room.board.length) return el("p", {}, "Nothing is open: no clearance and no switch order.");
-  return table(["Name", "Phase", "Section", "Steps", "Work", "Holder", "Last moment", "Ago"], rows.map((row) => boardRow(row, staff, chosen)), { class: "wide" });
 }
 
 export class BoardPage {
@@ -118,7 +114,8 @@ export class BoardPage {
     panel(this.#rows, [room.read === null, lines, views, supervisors, chosen], () => {
       if (room.read === null) return el("p", {}, "The board was not read yet.");
       const jumpers = room.jumpers.length ? table(["Jumper", "From", "To", "Position"], room.jumpers.map(jumperRow)) : null;
-      return [recordsTable(rows, staff, chosen), jumpers];
+      const none = room.board.length ? null : el("p", {}, "Nothing is open: no clearance and no switch order.");
+      return [none ?? table(HEADS, rows.map((row) => boardRow(row, staff, chosen)), { class: "wide" }), jumpers];
     });
   }
 }

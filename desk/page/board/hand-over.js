@@ -9,7 +9,7 @@ import { alarms } from "../shared/live-alarms.js";
 import { shortTime, wholeTime } from "../shared/moments.js";
 import { namesOfRole, network } from "../shared/network.js";
 import { isOffNormal, knowsNormal } from "../shared/point-states.js";
-import { ask } from "../shared/question.js";
+import { agreed } from "../shared/question.js";
 import { room } from "../shared/watch.js";
 import { heldWords } from "./ages.js";
 import { recordRows } from "./board-page.js";
@@ -18,9 +18,8 @@ const HEADS = ["Name", "Phase", "Section", "Steps", "Work", "Holder", "Last mome
 const LINE = "______________________";
 const CHECKED = "Both have gone through the records above, point by point and crew by crew.";
 
-function list(title, rows) {
-  return [el("h3", {}, title), rows.length ? el("ul", {}, rows.map((row) => el("li", {}, unbroken(row)))) : el("p", {}, "None.")];
-}
+const list = (title, rows) => [el("h3", {}, title),
+  rows.length ? el("ul", {}, rows.map((row) => el("li", {}, unbroken(row)))) : el("p", {}, "None.")];
 
 // A point with the letters of its holds, by owner, and how long the first of each is there.
 function pointWords(state) {
@@ -65,8 +64,7 @@ export class ShiftPage {
   async #print() {
     const { leaves: { value: leaves }, comes: { value: comes } } = this.#form, isWhole = leaves && comes && leaves !== comes;
     const lines = ["Who leaves and who comes are not both chosen, or are one: the sheet has lines for the names."];
-    const answers = [["yes", "Print it all the same"], [null, "Do not print it"]];
-    if (isWhole || await ask("Print it without the names?", lines, answers) === "yes") window.print();
+    if (isWhole || await agreed("Print it without the names?", lines, "Print it all the same", "Do not print it")) window.print();
   }
 
   update() {

@@ -1,6 +1,5 @@
-// This desk's clock beside the server's, by the `Date` of each answer. Where they are far apart, the operator says which
-// of them is meant, once, and may take it back. Where the server's was set, it is said, with whose moments are like this
-// desk's since then, by the log.
+// This desk's clock beside the server's, by the `Date` of each answer, and whether the server's was set. Where they are far
+// apart, the operator says which of them is meant, once, and may take it back.
 
 import { journal } from "../log/journal.js";
 import { now, shortTime, span } from "./moments.js";

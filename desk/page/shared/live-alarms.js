@@ -64,7 +64,6 @@ function noteView(id, view) {
 
 // What the register shows now: `room` as the watch has it.
 export function noteRoom(room) {
-  const kept = JSON.stringify([...own.values()]);
   for (const [id, view] of room.views) if (before.get(id)?.view !== view) noteView(id, view);
   if (room.read !== null) {
     const phases = new Map(room.board.map((row) => [row.id, row.phase]));
@@ -72,14 +71,14 @@ export function noteRoom(room) {
     for (const id of over) drop(id, () => true);
     for (const id of before.keys()) if (!phases.has(id)) before.delete(id);
   }
-  if (JSON.stringify([...own.values()]) !== kept) keep();
+  keep();
 }
 
 // All alarms, as { id, section, by, at }: who said so, and when, where this desk said it or has a log.
 export function alarms() {
   const all = new Map([...seen, ...own]);
   for (const alarm of liveByLog()) all.set(`${alarm.id} ${alarm.section}`, alarm);
-  return [...all.values()].sort((a, b) => (`${a.id} ${a.section}` < `${b.id} ${b.section}` ? -1 : 1));
+  return [...all.keys()].sort().map((name) => all.get(name));
 }
 
 export const liveUnder = (id) => alarms().filter((alarm) => alarm.id === id).map(({ section }) => section);

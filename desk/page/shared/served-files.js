@@ -26,12 +26,9 @@ let normal = null;
 
 // The normal position of each point of that name between these two sections: a row with other ends is of another file.
 function normalIn(found) {
-  const rowOf = new Map(found.map((row) => [row.point, row]));
-  const of = (name, from, to) => {
-    const row = rowOf.get(name);
-    return row && row.from === from && row.to === to && ["open", "closed"].includes(row.position) ? row.position : null;
-  };
-  return { known: true, of };
+  const known = found.filter(({ position }) => ["open", "closed"].includes(position));
+  const positions = new Map(known.map(({ point, from, to, position }) => [`${point} ${from} ${to}`, position]));
+  return { known: true, of: (name, from, to) => positions.get(`${name} ${from} ${to}`) ?? null };
 }
 
 // Of another network: an update gives the points that have come with it their normal positions.
