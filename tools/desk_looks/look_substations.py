@@ -56,6 +56,28 @@ return [...document.querySelectorAll('main .net:not(.sample) .line.jumper')].map
 """
 
 
+# What of the diagram differs too little from what lies under it: texts below 4.5 to 1, lines and signs below 3 to 1.
+FAINT = """
+const net = document.querySelector('main .net:not(.sample)'), canvas = document.createElement('canvas').getContext('2d');
+const light = (color) => {
+  canvas.fillStyle = color;
+  canvas.fillRect(0, 0, 1, 1);
+  const [r, g, b] = [...canvas.getImageData(0, 0, 1, 1).data].map((one) => (one / 255 <= 0.04045 ? one / 255 / 12.92 : ((one / 255 + 0.055) / 1.055) ** 2.4));
+  return 0.2126 * r + 0.7152 * g + 0.0722 * b;
+};
+const look = (css, key) => getComputedStyle(net.querySelector(css))[key], paper = getComputedStyle(net).backgroundColor;
+const [fed, dead] = ['.section.fed:not(.fenced) .box', '.section.dead:not(.fenced) .box'].map((css) => look(css, 'fill'));
+const pairs = [['text.label', 'fill', paper, 4.5], ['text.name', 'fill', fed, 4.5], ['text.name', 'fill', dead, 4.5], ['text.mark:not(.section-mark)', 'fill', paper, 4.5],
+  ['text.section-mark:not(.dead)', 'fill', paper, 4.5], ['text.mark.dead', 'fill', paper, 4.5], ['.line', 'stroke', paper, 3], ['.section.dead .box', 'stroke', paper, 3],
+  ['.section.fed .box', 'stroke', fed, 3], ['.flash', 'fill', fed, 3], ['.point.closed .box', 'fill', paper, 3], ['.point.open .box', 'stroke', paper, 3],
+  ['.ground', 'stroke', paper, 3], ['.tag', 'stroke', paper, 3], ['.stroke', 'stroke', paper, 3]];
+return [light(paper), pairs.flatMap(([css, key, under, least]) => {
+  const [high, low] = [light(look(css, key)), light(under)].sort((a, b) => b - a), ratio = (high + 0.05) / (low + 0.05);
+  return ratio < least ? [`${css} ${ratio.toFixed(1)}`] : [];
+})];
+"""
+
+
 def in_shift(stage, page="diagram", size=SMALL):
     """The first window, on this page, as BERT's."""
     hand = stage.network([*two_substations.shift(), ASKED], page, "BERT", two_substations)
@@ -184,4 +206,24 @@ def signs(stage):
     hand.picture("signs")
 
 
-LOOKS = {"held": held, "held in full": in_full, "names of bays": bays, "readable": readable, "jumper lines": jumpers, "signs": signs}
+def in_light(hand, scheme):
+    media = {"features": [{"name": "prefers-color-scheme", "value": scheme}]}
+    hand.browser.own("POST", "/goog/cdp/execute", {"cmd": "Emulation.setEmulatedMedia", "params": media})
+
+
+def by_night(stage):
+    """By day and by night what is drawn differs enough from its ground."""
+    hand = in_shift(stage, size=SIZES[2])
+    try:
+        for scheme in ("light", "dark"):
+            in_light(hand, scheme)
+            still(hand)
+            paper, faint = hand.browser.script(FAINT)
+            hand.picture(f"substations-{scheme}")
+            if faint or (paper > 0.5) != (scheme == "light"):
+                raise Differs(f"{scheme}: the ground has a brightness of {paper:.2f}, and too faint is {', '.join(faint) or 'nothing'}")
+    finally:
+        in_light(hand, "")
+
+
+LOOKS = {"held": held, "held in full": in_full, "names of bays": bays, "readable": readable, "jumper lines": jumpers, "signs": signs, "diagram by night": by_night}
