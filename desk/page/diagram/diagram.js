@@ -84,7 +84,7 @@ function pressable(group, does, moves) {
 
 export class Diagram {
   #network; #plan; #zoom; #frame; #writing; #groups = { section: new Map(), point: new Map() }; #keys = new Map(); #roving;
-  #picking = null; #press; #shown = new Set(); #found = new Set(); #finding = el("span", { class: "hint", role: "status" }); #last = null;
+  #picking = null; #press; #shown = new Set(); #over = null; #found = new Set(); #finding = el("span", { class: "hint", role: "status" }); #last = null;
   #dead = el("div", { class: "hint", "data-name": "dead" }); #byKeys = el("p", { class: "hint by-keys" }); #inFull = el("p", { class: "in-full", role: "status" });
   node;
 
@@ -97,7 +97,7 @@ export class Diagram {
     const drawing = this.#draw();
     this.#frame = el("div", { class: "net", tabindex: 0, role: "group", "aria-label": `One-line diagram. ${KEYS}` }, drawing, this.#inFull);
     // At the frame: a browser takes each part of a drawing that listens for the focus for a stop of Tab.
-    for (const type of ["focusin", "pointerover"]) this.#frame.addEventListener(type, (event) => this.#sayInFull(event));
+    for (const type of ["focusin", "pointerover", "pointerleave"]) this.#frame.addEventListener(type, (event) => this.#turnTo(event));
     this.#zoom = new Zoom(this.#frame, drawing, this.#plan, (scale, view) => this.#writing.atView(scale, view));
     this.#roving = this.#rovings();
     this.node = el("div", { class: "diagram" }, this.#tools(), this.#byKeys, this.#frame, this.#dead, legend());
@@ -112,10 +112,16 @@ export class Diagram {
   }
 
   // Says in full what the pointer or the focus is on, a name that has no room in the drawing too.
-  #sayInFull({ type, target }) {
-    const group = target.closest("[data-kind]"), { kind, name } = group?.dataset ?? {};
-    this.#inFull.textContent = group?.firstChild?.textContent.replaceAll("\n", "; ") ?? "";
+  #turnTo({ type, target }) {
+    this.#over = target.closest("[data-kind]");
+    const { kind, name } = this.#over?.dataset ?? {};
     if (type === "focusin" && kind && kind === this.#picking?.kind) this.#roving[kind].onFocus(name);
+    this.#sayInFull();
+  }
+
+  #sayInFull() {
+    const text = this.#over?.firstChild?.textContent.replaceAll("\n", "; ") ?? "";
+    if (this.#inFull.textContent !== text) this.#inFull.textContent = text;
   }
 
   // Shows what another drawing of the same register showed: all but jumpers lies in the same places.
@@ -132,6 +138,7 @@ export class Diagram {
 
   // Shows the whole network where that can be read; otherwise these sections in the middle.
   lookAt(names) {
+    this.#turnTo({ target: this.#frame });
     const spots = names.map((name) => this.#plan.spots.get(name)).filter(Boolean);
     const mean = (key) => spots.reduce((sum, spot) => sum + spot[key], 0) / spots.length;
     this.#zoom.lookAt(spots.length ? { x: mean("x") + spots[0].width / 2, y: mean("y") } : null);
@@ -219,6 +226,7 @@ export class Diagram {
     this.#markWay();
     this.#writing.write({ states, marks, matter: new Set([...fence, ...this.#found]) });
     this.#revealPicked();
+    this.#sayInFull();
   }
 
   // One that was picked in the list is brought into view.

@@ -31,33 +31,24 @@ function spanning(fixed) {
   const { sections, ways } = fixed;
   const parent = new Map(), order = [], roots = [];
   const reach = (name, from, point) => { parent.set(name, from ? { from, point } : null); order.push(name); };
-  const grow = (start) => {
+  const grow = (start, leads) => {
     for (let place = start; place < order.length; place++) {
       for (const point of ways.get(order[place])) {
         const next = other(point, order[place]);
-        if (isWay(point) && !parent.has(next)) reach(next, order[place], point);
-      }
-    }
-  };
-  const growOverOpen = () => {
-    for (let place = 0; place < order.length; place++) {
-      for (const point of ways.get(order[place])) {
-        const next = other(point, order[place]);
-        if (parent.has(next)) continue;
+        if (!leads(point) || parent.has(next)) continue;
         reach(next, order[place], point);
-        grow(order.length - 1);
+        if (leads !== isWay) grow(order.length - 1, isWay);
       }
     }
   };
   const plant = (name) => { roots.push(name); reach(name); };
+  const growAll = (start) => { grow(start, isWay); grow(0, () => true); };
   for (const name of rootsOf(fixed)) plant(name);
-  grow(0);
-  growOverOpen();
+  growAll(0);
   for (const { name } of sections) {
     if (parent.has(name)) continue;
     plant(name);
-    grow(order.length - 1);
-    growOverOpen();
+    growAll(order.length - 1);
   }
   return { parent, order, roots };
 }
