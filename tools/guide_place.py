@@ -25,6 +25,7 @@ STANDINS = {
 }
 # The package's programs, which run here as the caller, over the folder in which the lines run.
 PROGRAMS = ("gridclear-setup", "serve", "finish", "verify", "forward", "log", "follow", "backup", "near")
+FOLLOW = "/usr/lib/gridclear/follow $from\n"  # as gridclear-follow.service calls it
 USERS = f"printf '{LOGIN[0]}:%s\\n' \"$(openssl passwd -6)\" > /etc/gridclear/users\n"
 
 

@@ -57,7 +57,7 @@ class Machine(guide_place.Place):
         self.serve()
 
     def follow(self, first):
-        self.guide("/follow", **{"from": first.own})
+        self.give(guide_place.FOLLOW, **{"from": first.own})
 
     def promote(self, first):
         """Another machine's standby takes its place, with a copy of its /etc."""
