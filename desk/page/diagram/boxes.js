@@ -12,7 +12,7 @@ export function sectionBox({ x, y, width }) {
 // What its sign takes beside a source, and that of a ground below a section.
 export function signBoxes({ x, y, width, feed }) {
   const low = y + BOX / 2, left = feed > 0 ? x + width : x - FEED;
-  return [[x + width - GROUND, low, x + width, low + DEEP], ...(feed ? [[left, y - BOX / 2, left + FEED, low]] : [])];
+  return [[x, low, x + GROUND, low + DEEP], ...(feed ? [[left, y - BOX / 2, left + FEED, low]] : [])];
 }
 
 // With room for its tag, whether it has one or not: so nothing moves when one comes.

@@ -61,7 +61,7 @@ function sectionParts({ width, feed }, section, marks, { fenced, found, picked }
     svg("rect", { class: "box", x: 0, y: top, width, height: BOX, rx: 4 }),
     fenced ? svg("rect", { class: "hatch", x: 0, y: top, width, height: BOX, rx: 4, fill: "url(#hatch)" }) : null,
     section.live ? svg("path", { class: "flash", d: FLASH }) : null,
-    section.holds.some(({ kind }) => kind === "Ground") ? svg("path", { class: "ground", d: GROUND, transform: `translate(${width - 9},${-top})` }) : null,
+    section.holds.some(({ kind }) => kind === "Ground") ? svg("path", { class: "ground", d: GROUND, transform: `translate(9,${-top})` }) : null,
   ].filter(Boolean);
 }
 
