@@ -62,12 +62,11 @@ def held(stage):
 
 def source(stage):
     """The form and the refusal name one source: the least by name, also where another is nearer."""
-    hand = stage.network([{"by": "KIM", "do": "request", "section": "NOR-5A"}], "clearance/KIM/1", speaker="BERT", net=two_substations)
-    hand.pick("T55")
-    hand.shows("the source GEN-PV is still reached: NOR-5A", ".fence-notes")
-    hand.refused("order", asked=["OPEN T55: is open already"], answers=["send"])
-    hand.number -= 1
-    said(hand, "You cannot give the order of KIM/1: the source GEN-PV is still reached from NOR-5A, past no point of the order.", "SOURCE_INSIDE, number 12")
+    hand = stage.network([{"by": "KIM", "do": "request", "section": "NOR-1C"}], "clearance/KIM/1", speaker="BERT", net=two_substations)
+    hand.pick("N134")
+    hand.shows("the source GEN-PV is still reached: NOR-1C", ".fence-notes")
+    hand.press("order")
+    said(hand, "You cannot give the order of KIM/1: the source GEN-PV is still reached from NOR-1C, past no point of the order.", "SOURCE_INSIDE, number 12")
 
 
 LOOKS = {"sentences": work, "sentences late": late, "sentences held": held, "sentences source": source}
