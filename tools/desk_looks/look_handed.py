@@ -26,6 +26,7 @@ def crews(stage):
 def handed(stage):
     """The question of a transfer names the crews; an emergency asks for its reason, which is shown and printed here."""
     hand = stage.network(BOTH, "clearance/KIM/1", speaker="KIM", net=two_substations)
+    hand.shows("C7 (also under OWENS/1)", "main .crews")
     hand.browser.click('main [data-name="to false"] option[value="OWENS"]')
     hand.declined("transfer false", "OWENS becomes the holder", "Crews on: C1, C7 (also under OWENS/1). Each has to be informed")
     hand.speak("BOSS")
