@@ -65,7 +65,7 @@ function hold(event, control) {
 
 function onClick(event) {
   const control = controlOf(event.target);
-  if (!control) return;
+  if (!control || control.accessKey) return; // one with an access key only moves the focus, as that key does
   const byPointer = event.detail > 0 && event.pointerType !== "";
   if (byPointer) notePointer(event);
   const dead = byPointer ? trapped && trapped === nameOf(control) : isRecent(focused, control);
