@@ -1,6 +1,8 @@
 """Who has to know of it: a crew that is on under two clearances, and the crews of a clearance that is handed over, with the
 reason of an emergency. The holder is beside the name of a clearance that another asked for."""
 
+import time
+
 from desk_looks import pdf, two_substations
 from desk_looks.browser import ENTER, Differs
 from desk_looks.two_substations import granted
@@ -28,6 +30,7 @@ def handed(stage):
     hand = stage.network(BOTH, "clearance/KIM/1", speaker="KIM", net=two_substations)
     hand.shows("C7 (also under OWENS/1)", "main .crews")
     hand.browser.click('main [data-name="to false"] option[value="OWENS"]')
+    time.sleep(1)  # a choice without a press has just brought the focus there
     hand.declined("transfer false", "OWENS becomes the holder", "Crews on: C1, C7 (also under OWENS/1). Each has to be informed")
     hand.speak("BOSS")
     hand.browser.click('main [data-name="to true"] option[value="OWENS"]')
