@@ -20,7 +20,7 @@ def titles(stage):
         hand.tab_says("TESTED LIVE N13-F12")
     other.tab_is_quiet()
     hand.turn("clearance/KIM/1")
-    hand.carry_out("dead N13-F12", "dead")
+    hand.carry_out("dead N13-F12", "dead", answers=["yes"])
     hand.tab_is_quiet()
 
 
