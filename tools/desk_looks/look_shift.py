@@ -66,14 +66,14 @@ class Shift:
         hand.turn(f"clearance/{name}/1")
         for act, words in ((f"dead {section}", "dead"), (f"ground {section}", "ground")):
             hand.carry_out(act, words)
-        hand.write("crew", "C1\ue007")
-        hand.reply("accepted", "sign crew C1 on")
+        hand.write("crew", f"C-{name}\ue007")  # a crew that is on under another clearance is asked about
+        hand.reply("accepted", f"sign crew C-{name} on")
 
     def give_back(self, name, section, cut, operator):
         hand, clearance, ends = self.line, f"{name}/1", ["CLOSE", "LEAVE"]
         hand.speak(name)
         hand.turn(f"clearance/{clearance}")
-        for act, words in (("off C1", "sign crew C1 off"), (f"ground {section}", "take the ground off")):
+        for act, words in ((f"off C-{name}", f"sign crew C-{name} off"), (f"ground {section}", "take the ground off")):
             hand.carry_out(act, words, answers=["yes"])
         hand.carry_out("release", "Released", answers=["yes", "yes"])
         self.room.speak(operator)
