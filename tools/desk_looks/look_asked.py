@@ -59,7 +59,7 @@ def ground_off(stage):
         raise Differs("the ground is to be stated as off, with crews on")
     hand.picture("asked-ground")
     hand.answer("null")
-    hand.declined("ground NOR-1D", "Ground off NOR-1D?", "On now: C1, C7.", "Do they all know that NOR-1D is no longer grounded?")
+    hand.declined("ground NOR-1D", "Ground off NOR-1D?", "On now: C1, C7.", "Do they all know that NOR-1D is no longer grounded under KIM/1?")
 
 
 def again(stage):

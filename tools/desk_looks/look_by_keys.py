@@ -207,11 +207,10 @@ def give_back(keys):
     keys.accepted("Released")
     keys.speak_as("DISP1")
     keys.act("CLOSE N11-Q33", SPACE)
-    keys.to('main [data-name="LEAVE TIE3-N11-N12"]')
-    keys.type(DOWN)
-    keys.type(UP)
-    if not keys.browser.script("return document.querySelector('main [data-name=\"LEAVE TIE3-N11-N12\"]').checked"):
-        keys.type(SPACE)
+    keys.to('main [name="end-TIE3-N11-N12"]')
+    for _ in range(2):
+        if not keys.browser.script("return document.querySelector('main [data-name=\"LEAVE TIE3-N11-N12\"]').checked"):
+            keys.type(DOWN)
     keys.act("restore")
     keys.accepted("Restoring")
     keys.act("amend 3")
