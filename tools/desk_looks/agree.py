@@ -93,7 +93,8 @@ def shown_row(cells, moment):
     """A row of the page's board in the form of the register's: what it reckons itself is left out."""
     if moment is None:
         return cells, None
-    steps, work = re.sub(r" out (?:\d|<|less).*$", "", cells[3]), [part.strip() for part in cells[4].split("; ")]
+    steps = re.sub(r" out (?:\d|<|less).*$", "", cells[3])
+    work = [part.strip() for part in re.sub(r" \((?:\d+ h )?\d+ (?:min|days)\)", "", cells[4]).split("; ")]
     return [*cells[:2], cells[2].removesuffix(" fence hatched"), steps, sorted(part for part in work if part and not part.endswith("not tested")), cells[5]], seconds(moment)
 
 
