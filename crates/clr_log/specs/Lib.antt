@@ -1,7 +1,6 @@
 pub mod About
 pub mod Steps
 pub mod Words
-pub mod Moments
 pub mod Log
 pub mod Commands
 pub mod Walked

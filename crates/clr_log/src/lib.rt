@@ -4,7 +4,6 @@
 mod about;
 mod commands;
 mod line;
-mod moments;
 mod steps;
 mod texts;
 mod walked;

@@ -12,12 +12,12 @@ ghost use Rattle.clr_log.specs.Log.{updated_lines, when, who, withdrawn_line};
 ghost use Rattle.clr_update.specs.Shown.{as_changes};
 
 use crate::about::{clearance_of, last_clearance};
-use crate::moments::{ClockOffset, moment_text};
 use crate::texts::{push_id, push_number, push_plain};
 use crate::words::push_words;
 use clr_changes::print_changes;
 use clr_journal::{Carried, Changes, Deed, Line, Receipt, is_accepted};
 use clr_net::Name;
+use clr_print::{ClockOffset, moment_text};
 use clr_rules::{Command, Kind, Moment};
 use serde_json::Value;
 use std::alloc::{AllocError, Global};

@@ -19,11 +19,11 @@ ghost use Rattle.clr_verify.specs.Replay.{answered_of, open_entries};
 use crate::about::{carried_clearance, is_wanted, line_clearance};
 use crate::commands::push_command;
 use crate::line::push_line;
-use crate::moments::ClockOffset;
 use crate::steps::deed_steps;
 use crate::texts::push_number;
 use clr_chain::Step;
 use clr_journal::{Carried, Deed, Line, is_accepted};
+use clr_print::ClockOffset;
 use clr_rules::{ClearanceId, Kind};
 use std::alloc::{AllocError, Global};
 

@@ -7,4 +7,5 @@ mod moments;
 mod orders;
 
 pub use board::print_board;
+pub use moments::{ClockOffset, moment_text};
 pub use orders::{print_order, read_round};

@@ -25,7 +25,7 @@ pub(crate) struct ClockFace {
 
 /// The offset of a clock from UTC, in minutes, east of Greenwich positive.
 #[derive(Clone, Copy)]
-pub(crate) struct ClockOffset {
+pub struct ClockOffset {
     minutes: i16,
 }
 
@@ -42,7 +42,8 @@ impl Model for ClockOffset {
 }
 
 impl ClockOffset {
-    pub(crate) fn new(minutes: i16) -> ClockOffset
+    /// The offset that is this many minutes east of Greenwich.
+    pub fn new(minutes: i16) -> ClockOffset
         requires low { neg_ℤ (pos 720) ≤ℤ minutes }
         requires high { minutes ≤ℤ pos 840 }
         ensures { result ≡ minutes }
@@ -61,7 +62,7 @@ impl ClockOffset {
 
 /// A moment as a clock at the offset shows it, and the offset: 26 bytes, as `1970-01-01 00:01:44
 /// +00:00`.
-pub(crate) fn moment_text(
+pub fn moment_text(
     alloc: Global,
     moment: Moment,
     offset: ClockOffset,
