@@ -1,15 +1,14 @@
 -- LAWS OF CHAINS
 use Rattle.std.specs.Prelude.{◌≡◌, ◌≢◌, ◌≤◌, ◌⊎◌, ℕ, true, false, List, [], ◌∷◌, ◌++◌, length}
 use Rattle.std.specs.Prelude.{◌^◌, bytes_eq, map, nat_lt, take, Some, ⊤}
-use Rattle.std.specs.List.{list_any}
+use Rattle.std.specs.List.{AllByRecursion, list_any}
 use Rattle.std.specs.Str.{is_utf8}
-use Rattle.serde_json.specs.Data.{depth}
 use Rattle.clr_journal.specs.Lines.{ended_lines, is_line_feed, text_of, with_feed}
 use Rattle.clr_rules.specs.Register.{Register}
 use Rattle.clr_changes.specs.Deeds.{Deed, after_deed}
 use Rattle.clr_journal.specs.Answered.{deed_reply}
 use Rattle.clr_journal.specs.Journals.{carried_out, is_next, withdraws}
-use Rattle.clr_journal.specs.Laws.{can_be_written, turn_behind}
+use Rattle.clr_journal.specs.Laws.{IsShallow, can_be_written, turn_behind}
 use Rattle.clr_journal.specs.Line.{Entry, carried, is_accepted, line_text, withdrawn}
 use Rattle.clr_journal.specs.declared.line.Receipt.{Receipt}
 use Rattle.clr_chain.specs.Chain.{ReadOn, read_on}
@@ -150,19 +149,10 @@ abbrev pub LinesAheadGoOn : Type 0
 LinesAheadGoOn = (place : Place) (bytes : List ℕ) (read : ReadOn)
     → found_in place bytes ≡ ahead read → withdraws read.entries ≡ false
 
--- its reply nests no deeper than any that is read
-abbrev pub IsShallow : Entry → Type 0
-IsShallow (carried receipt deed reply) = depth reply ≤ 127
-IsShallow (withdrawn n) = ⊤
-
-abbrev pub AreShallow : List Entry → Type 0
-AreShallow [] = ⊤
-AreShallow (entry ∷ rest) = IsShallow entry × AreShallow rest
-
 -- AND NONE OF THEIR REPLIES NESTS DEEPER THAN 127
 abbrev pub LinesAheadAreShallow : Type 0
 LinesAheadAreShallow = (place : Place) (bytes : List ℕ) (read : ReadOn)
-    → found_in place bytes ≡ ahead read → AreShallow read.entries
+    → found_in place bytes ≡ ahead read → AllByRecursion IsShallow read.entries
 
 -- A NEW JOURNAL OPENS at its own place, with no line after it
 abbrev pub NewJournalsOpen : Type 0

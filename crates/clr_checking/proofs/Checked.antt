@@ -1,13 +1,15 @@
 -- How far a register was checked, after a line more, and after all.
 use Rattle.std.proofs.Common.{◌≡◌, ◌≢◌, ◌⊎◌, ◌∙◌, ℕ, true, false, List, [], ◌∷◌, ◌++◌, Option, None, Some, IfSome, IsSome, length, refl, ap, sym, subst, inl, inr, append_assoc, append-nil}
 use Rattle.std.proofs.lemmas.Bool.{true≢false}
+use Rattle.std.specs.List.{AllByRecursion}
 use Rattle.clr_rules.specs.Register.{Register}
 use Rattle.clr_rules.specs.declared.place.Place.{Place}
 use Rattle.clr_journal.specs.Journals.{deeds_of, in_turn, turn_after, withdraws}
 use Rattle.clr_journal.specs.Line.{Entry, carried, withdrawn}
 use Rattle.clr_journal.specs.declared.line.Carried.{Carried}
 use Rattle.clr_journal.specs.declared.reading.Turn.{Turn}
-use Rattle.clr_journal.specs.Laws.{turn_behind}
+use Rattle.clr_journal.specs.Laws.{IsShallow, turn_behind}
+use Rattle.clr_chain.proofs.Shallow.{read_are_shallow}
 use Rattle.clr_chain.specs.Chain.{read_on}
 use Rattle.clr_chain.specs.First.{end_at, first_turn_at}
 use Rattle.clr_chain.specs.Level.{place_after}
@@ -22,7 +24,6 @@ use Rattle.clr_checking.specs.declared.checking.Checking.{Checking}
 use Rattle.clr_checking.specs.declared.fault.CheckFault.{CheckFault}
 use Rattle.clr_checking.specs.declared.fault.CheckFault.TheVariants.{BadLine, Differs, NoMemory, OtherRegister, Reply, Tables, TooShort}
 use Rattle.clr_checking.proofs.Chained.{held, is_after, is_read, line_more, not_held, part_ends, turn_there}
-use Rattle.clr_checking.proofs.Flat.{Each, IsFlat, read_are_flat}
 use Rattle.clr_checking.proofs.Places.{kept_more, none_more, opens_after, place_on}
 use Rattle.clr_checking.proofs.Ran.{missed_here, ran_none}
 use Rattle.clr_checking.proofs.Refused.{copy_else, missed_else}
@@ -432,11 +433,11 @@ all_checked began R first place texts old new closed met close it =
     let done = ran_all began R first place new it.entries closed over in
     let turns : in_turn (first_turn_at first) it.entries ≡ true =
     subst (λ (es : List Entry). in_turn (first_turn_at first) es ≡ true) it.over.lines.read (is_read texts (end_at first)).turns in
-    let flat : Each IsFlat it.entries = subst (λ (es : List Entry). Each IsFlat es) it.over.lines.read (read_are_flat texts (end_at first)) in
+    let shallow : AllByRecursion IsShallow it.entries = subst (λ (es : List Entry). AllByRecursion IsShallow es) it.over.lines.read (read_are_shallow texts (end_at first)) in
     record {
       entries = it.entries;
       lines = it.over.lines;
-      level = is_level began R first place it.entries turns flat (over.ran.met met);
+      level = is_level began R first place it.entries turns shallow (over.ran.met met);
       left = new.desk.book.register;
       answered = subst (λ (es : List Entry). AreAnswered began es new.desk.book.register) done over.ran.answered;
       count_is = over.ran.count_is ∙ ap (λ (es : List Entry). length (deeds_of es)) done;
@@ -456,15 +457,15 @@ all_checked_from copied R at first place texts old new closed met begun close it
         let turns : in_turn (first_turn_at at) it.entries ≡ true =
         turns_closed (turn_behind (first_turn_at first) it.before) at.number it.entries (ap (λ (p : Place). p.number) runs.is_at) runs.kept
         (turns_end (first_turn_at first) it.before it.entries whole) in
-        let flat : Each IsFlat it.entries =
-        each_end IsFlat it.before it.entries (subst (λ (es : List Entry). Each IsFlat es) it.over.lines.read (read_are_flat texts (end_at first))) in
+        let shallow : AllByRecursion IsShallow it.entries =
+        each_end IsShallow it.before it.entries (subst (λ (es : List Entry). AllByRecursion IsShallow es) it.over.lines.read (read_are_shallow texts (end_at first))) in
         record {
           before = it.before;
           entries = it.entries;
           lines = it.over.lines;
           is_at = runs.is_at;
           kept = runs.kept;
-          level = is_level copied R at place it.entries turns flat (over.ran.met met);
+          level = is_level copied R at place it.entries turns shallow (over.ran.met met);
           left = new.desk.book.register;
           answered = subst (λ (es : List Entry). AreAnswered copied es new.desk.book.register) done over.ran.answered;
           count_is = over.ran.count_is ∙ ap (λ (es : List Entry). length (deeds_of es)) done;

@@ -7,7 +7,6 @@ pub mod Steps
 pub mod Coming
 pub mod Refused
 pub mod Chained
-pub mod Flat
 pub mod Runs
 pub mod Checked
 pub mod BriefTaken

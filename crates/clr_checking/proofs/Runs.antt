@@ -1,12 +1,13 @@
 -- Lines whose replies are those of a run are a run.
 use Rattle.std.proofs.Common.{◌≡◌, ◌==◌, ◌&&◌, ◌+◌, ℕ, Bool, true, false, not, cond, List, [], ◌∷◌, ◌++◌, None, Some, refl, ap, ap₂, sym, subst}
 use Rattle.std.proofs.lemmas.Bool.{and_from, and_parts, true≢false}
+use Rattle.std.specs.List.{AllByRecursion}
 use Rattle.serde_json.specs.Data.{Data}
 use Rattle.clr_changes.specs.Deeds.{Deed, after_deed, after_deeds}
 use Rattle.clr_journal.specs.Answered.{deed_replies, deed_reply}
 use Rattle.clr_rules.specs.Register.{Register}
 use Rattle.clr_journal.specs.Journals.{carried_out, in_turn, is_next, onto_some, own_pair, turn_after, withdraws}
-use Rattle.clr_journal.specs.Laws.{turn_behind}
+use Rattle.clr_journal.specs.Laws.{IsShallow, turn_behind}
 use Rattle.clr_journal.specs.Line.{Entry, carried, withdrawn}
 use Rattle.clr_journal.specs.declared.reading.Turn.{Turn}
 use Rattle.clr_rules.specs.declared.place.Place.{Place}
@@ -14,7 +15,6 @@ use Rattle.clr_chain.specs.First.{first_turn_at}
 use Rattle.clr_chain.specs.Level.{IsRunOf}
 use Rattle.clr_checking.specs.Checking.{AreAnswered, IsLevelByTables, none, refused, gone, done}
 use Rattle.clr_checking.specs.CheckingOn.{IsMet}
-use Rattle.clr_checking.proofs.Flat.{Each, IsFlat}
 
 run_of_none : (R : Register) → IsRunOf R (carried_out []) R
 unfolding carried_out after_deeds deed_replies
@@ -31,24 +31,24 @@ one_first R S q reply entry rest own is run =
     subst (λ o. IsRunOf R (onto_some o (carried_out rest)) S) (sym own) (record { register = run.register; replied = ap₂ (λ (d : Data) (ds : List Data). d ∷ ds) is run.replied })
 
 -- replies that nest no deeper than they may are exactly those of the run
-pub is_run : {R S : Register} {lines : List Entry} → Each IsFlat lines → AreAnswered R lines S → IsRunOf R (carried_out lines) S
-is_run flat (none R) = run_of_none R
-is_run flat (refused R S receipt q reply rest not_accepted own are) =
-    passed_over R S (carried receipt q reply) rest (ap (λ (b : Bool). cond (b && not (withdraws rest)) (Some (q, reply)) None) not_accepted) (is_run flat.1 are)
-is_run flat (gone R S receipt q reply n rest accepted are) =
+pub is_run : {R S : Register} {lines : List Entry} → AllByRecursion IsShallow lines → AreAnswered R lines S → IsRunOf R (carried_out lines) S
+is_run shallow (none R) = run_of_none R
+is_run shallow (refused R S receipt q reply rest not_accepted own are) =
+    passed_over R S (carried receipt q reply) rest (ap (λ (b : Bool). cond (b && not (withdraws rest)) (Some (q, reply)) None) not_accepted) (is_run shallow.1 are)
+is_run shallow (gone R S receipt q reply n rest accepted are) =
     passed_over R S (carried receipt q reply) (withdrawn n ∷ rest) (ap (λ (b : Bool). cond (b && false) (Some (q, reply)) None) accepted)
-    (passed_over R S (withdrawn n) rest refl (is_run flat.1.1 are))
-is_run flat (done R S receipt q reply rest accepted stays own are) =
+    (passed_over R S (withdrawn n) rest refl (is_run shallow.1.1 are))
+is_run shallow (done R S receipt q reply rest accepted stays own are) =
     one_first R S q reply (carried receipt q reply) rest
-    (ap₂ (λ (b c : Bool). cond (b && not c) (Some (q, reply)) None) accepted stays) (own flat.0) (is_run flat.1 are)
+    (ap₂ (λ (b c : Bool). cond (b && not c) (Some (q, reply)) None) accepted stays) (own shallow.0) (is_run shallow.1 are)
 
 -- ---- parts of lines
 
-pub each_front : {A : Type 0} (P : A → Type 0) (xs ys : List A) → Each P (xs ++ ys) → Each P xs
+pub each_front : {A : Type 0} (P : A → Type 0) (xs ys : List A) → AllByRecursion P (xs ++ ys) → AllByRecursion P xs
 each_front P [] ys each = tt
 each_front P (x ∷ xs) ys each = (each.0, each_front P xs ys each.1)
 
-pub each_end : {A : Type 0} (P : A → Type 0) (xs ys : List A) → Each P (xs ++ ys) → Each P ys
+pub each_end : {A : Type 0} (P : A → Type 0) (xs ys : List A) → AllByRecursion P (xs ++ ys) → AllByRecursion P ys
 each_end P [] ys each = each
 each_end P (x ∷ xs) ys each = each_end P xs ys each.1
 
@@ -69,9 +69,9 @@ turns_closed turn number (withdrawn n ∷ rest) is kept turns = absurd (true≢f
 
 -- ---- the yes
 
-pub is_level : (began R : Register) (first place : Place) (entries : List Entry) → in_turn (first_turn_at first) entries ≡ true → Each IsFlat entries
+pub is_level : (began R : Register) (first place : Place) (entries : List Entry) → in_turn (first_turn_at first) entries ≡ true → AllByRecursion IsShallow entries
     → IsMet began first entries place R → IsLevelByTables began first entries place R
-is_level began R first place entries turns flat it = record {
+is_level began R first place entries turns shallow it = record {
   register = it.register;
   level = record {
     had = it.had;
@@ -80,7 +80,7 @@ is_level began R first place entries turns flat it = record {
     turns = turns;
     is_at = it.is_at;
     kept = it.kept;
-    run = is_run (each_front IsFlat it.had it.more (subst (λ (es : List Entry). Each IsFlat es) it.all flat)) it.answered;
+    run = is_run (each_front IsShallow it.had it.more (subst (λ (es : List Entry). AllByRecursion IsShallow es) it.all shallow)) it.answered;
   };
   tables = it.is;
 }

@@ -2,6 +2,7 @@ pub mod FrontsRead
 pub mod JournalsRead
 pub mod LinesRead
 pub mod RepliesFlat
+pub mod Shallow
 pub mod Values
 pub mod Written
 pub mod Pieces

@@ -67,6 +67,11 @@ abbrev pub LinesReadBack : Type 0
 LinesReadBack = (entry : Entry) → can_be_written entry ≡ true
     → read_line (line_text entry) ≡ Some entry
 
+-- its reply nests no deeper than any that is read
+abbrev pub IsShallow : Entry → Type 0
+IsShallow (carried receipt deed reply) = depth reply ≤ 127
+IsShallow (withdrawn n) = ⊤
+
 -- each of these lines is read from its text
 abbrev pub ReadBack : List Entry → Type 0
 ReadBack [] = ⊤
