@@ -3,17 +3,14 @@ use Rattle.std.proofs.Common.{◌≡◌, ◌≢◌, ◌∙◌, ◌^◌, ◌-◌,
 use Rattle.std.proofs.lemmas.Bool.{ne_eqb}
 use Rattle.std.proofs.lemmas.Slice.Eq.{bytes_eq-Decides}
 use Rattle.std.specs.List.{list_any}
-use Rattle.serde_json.specs.Data.{Members, member, no_members, string}
 use Rattle.clr_journal.proofs.Pieces.{line_first}
 use Rattle.clr_journal.specs.Lines.{ended_lines, is_line_feed, with_feed}
 use Rattle.clr_journal.specs.Line.{at_key}
-use Rattle.clr_text.proofs.PlainTexts.{one_line, plain_values_read_back}
-use Rattle.clr_text.specs.CommandLaws.{is_plain}
-use Rattle.clr_text.specs.Json.{whole_data}
+use Rattle.clr_text.proofs.PlainTexts.{one_line}
 use Rattle.clr_text.specs.Reading.{value_of}
 use Rattle.clr_text.specs.Values.{whole}
+use Rattle.clr_chain.proofs.Begun.{first_value, same_bytes}
 use Rattle.clr_chain.proofs.Firsts.{first_whole}
-use Rattle.clr_chain.proofs.LinksBack.{one_member}
 use Rattle.clr_chain.proofs.Parts.{past_front}
 use Rattle.clr_chain.specs.Chain.{links_of}
 use Rattle.clr_chain.specs.Finding.{first_of, first_text_of, found_from, found_in, other_rules_of}
@@ -22,34 +19,11 @@ use Rattle.clr_chain.specs.Laws.{OthersAreFound}
 use Rattle.clr_chain.specs.Opening.{CanBegin}
 use Rattle.clr_rules.specs.declared.place.Place.{Place}
 
-abbrev sum_member : Place → Members
-sum_member first = member (codes "sum") (string first.sum) no_members
-
-abbrev rules_member : ℕ → Place → Members
-rules_member number first = member (codes "rules") (whole_data number) (sum_member first)
-
-abbrev number_member : ℕ → Place → Members
-number_member number first = member (codes "number") (whole_data first.number) (rules_member number first)
-
-is_plain_by : (number : ℕ) (first : Place) → CanBegin first → nat_lt number (2 ^ 64) ≡ true → is_plain (first_data_by number first) ≡ true
-is_plain_by number first can small =
-    one_member (codes "journal") (string first.id) (number_member number first) refl refl can.id
-    (one_member (codes "number") (whole_data first.number) (rules_member number first) refl refl can.number
-    (one_member (codes "rules") (whole_data number) (sum_member first) refl refl small
-    (one_member (codes "sum") (string first.sum) no_members refl refl can.sum refl)))
-
 -- ---- what its text says
-
-value_back : (number : ℕ) (first : Place) → CanBegin first → nat_lt number (2 ^ 64) ≡ true → value_of (first_text_by number first) ≡ Some (first_data_by number first)
-unfolding first_text_by
-value_back number first can small = plain_values_read_back (first_data_by number first) (is_plain_by number first can small) (omega arith)
 
 number_in : (number : ℕ) (first : Place) → CanBegin first → nat_lt number (2 ^ 64) ≡ true
     → option_and_then (at_key whole (codes "rules")) (value_of (first_text_by number first)) ≡ Some number
-number_in number first can small = ap (option_and_then (at_key whole (codes "rules"))) (value_back number first can small)
-
-same_bytes : (text : List ℕ) → bytes_eq text text ≡ true
-same_bytes text = (bytes_eq-Decides text text).1 refl
+number_in number first can small = ap (option_and_then (at_key whole (codes "rules"))) (first_value number first can small)
 
 -- its text is not that of one by these rules
 not_these : (number : ℕ) (first : Place) → CanBegin first → nat_lt number (2 ^ 64) ≡ true → number ≢ rules → bytes_eq (first_text_by number first) (first_text first) ≡ true → ⊥
@@ -64,7 +38,7 @@ not_read : (number : ℕ) (first : Place) → CanBegin first → nat_lt number (
 unfolding read_first
 not_read number first can small other =
     let text : List ℕ = first_text_by number first in
-    ap (λ d. option_and_then (if_own_place text) (option_and_then place_in d)) (value_back number first can small)
+    ap (λ d. option_and_then (if_own_place text) (option_and_then place_in d)) (first_value number first can small)
     ∙ by_own (bytes_eq text (first_text first)) refl
   where
     by_own : (b : Bool) → bytes_eq (first_text_by number first) (first_text first) ≡ b → cond b (Some first) None ≡ None
@@ -75,7 +49,7 @@ others_back : (number : ℕ) (first : Place) → CanBegin first → nat_lt numbe
 unfolding other_rules_in
 others_back number first can small other =
     let text : List ℕ = first_text_by number first in
-    ap (option_and_then (λ d. option_and_then (if_other text d) (at_key whole (codes "rules") d))) (value_back number first can small)
+    ap (option_and_then (λ d. option_and_then (if_other text d) (at_key whole (codes "rules") d))) (first_value number first can small)
     ∙ ap (λ (b : Bool). cond b None (option_and_then (if_by text number) (Some first))) (ne_eqb number rules other)
     ∙ ap (λ (b : Bool). cond b (Some number) None) (same_bytes text)
 

@@ -17,7 +17,8 @@ use Rattle.clr_net.specs.declared.section.SectionRow.{SectionRow}
 use Rattle.clr_staff.specs.declared.employee.Role.{Role}
 use Rattle.clr_staff.specs.declared.employee.Role.TheVariants.{Charge, Field, Operator}
 use Rattle.clr_staff.specs.declared.employee.StaffRow.{StaffRow}
-use Rattle.clr_text.specs.CommandLaws.{is_before, is_plain, items_are_plain, members_are_plain}
+use Rattle.clr_text.proofs.PlainTexts.{members_of, object_plain}
+use Rattle.clr_text.specs.CommandLaws.{is_plain, items_are_plain}
 use Rattle.clr_text.specs.Json.{list_data, name_data, optional_data, position_text, role_text}
 use Rattle.clr_text.specs.Values.{all_read, name_in}
 use Rattle.clr_update.specs.Changes.{Changes}
@@ -175,11 +176,6 @@ gone_said (p ∷ rows) named open_all =
 
 -- ---- plain
 
-one_member : (key : List ℕ) (d : Data) (others : Members) → are_ascii key ≡ true → is_before key others ≡ true → is_plain d ≡ true → members_are_plain others ≡ true
-    → members_are_plain (member key d others) ≡ true
-one_member key d others ascii before plain more =
-    and_from _ _ (is_utf8-from_IsUtf8 key (IsUtf8-are_ascii key ascii)) (and_from _ _ before (and_from _ _ plain more))
-
 name_plain : (s : List ℕ) → is_name s ≡ true → is_plain (name_data s) ≡ true
 name_plain s h = is_utf8-from_IsUtf8 s (name_is_text s h)
 
@@ -197,36 +193,16 @@ supervisor_plain None h = refl
 supervisor_plain (Some name) h = name_plain name h
 
 section_plain : (row : SectionRow) → is_said_section row ≡ true → is_plain (section_data row) ≡ true
-section_plain row h = one_member (codes "name") (name_data row.name) (member (codes "source") (boolean row.source) no_members) refl refl (name_plain row.name h)
-    (one_member (codes "source") (boolean row.source) no_members refl refl refl refl)
+section_plain row h = object_plain (members_of (section_data row)) refl (name_plain row.name h, (refl, tt))
 
 module _ (p : PointRow) (h : is_said_point p ≡ true) where
-  abbrev to_end : Members
-  to_end = member (codes "to") (name_data p.to_end) no_members
-
-  abbrev remote : Members
-  remote = member (codes "remote") (boolean p.remote) to_end
-
-  abbrev position : Members
-  position = member (codes "position") (string (position_text p.position)) remote
-
-  rest_plain : members_are_plain remote ≡ true
-  rest_plain = one_member (codes "remote") (boolean p.remote) to_end refl refl refl (one_member (codes "to") (name_data p.to_end) no_members refl refl (name_plain p.to_end (ends p h).2) refl)
-
-  front_plain : (rest : Members) → is_before (codes "name") rest ≡ true → members_are_plain rest ≡ true
-      → members_are_plain (member (codes "from") (name_data p.from_end) (member (codes "jumper") (boolean p.jumper) (member (codes "lockable") (boolean p.lockable) (member (codes "name") (name_data p.name) rest)))) ≡ true
-  front_plain rest before plain =
-      one_member (codes "from") (name_data p.from_end) (member (codes "jumper") (boolean p.jumper) (member (codes "lockable") (boolean p.lockable) (member (codes "name") (name_data p.name) rest)))
-      refl refl (name_plain p.from_end (ends p h).1)
-      (one_member (codes "jumper") (boolean p.jumper) (member (codes "lockable") (boolean p.lockable) (member (codes "name") (name_data p.name) rest)) refl refl refl
-      (one_member (codes "lockable") (boolean p.lockable) (member (codes "name") (name_data p.name) rest) refl refl refl
-      (one_member (codes "name") (name_data p.name) rest refl before (name_plain p.name (ends p h).0) plain)))
-
   point_plain : is_plain (point_data p) ≡ true
-  point_plain = front_plain position refl (one_member (codes "position") (string (position_text p.position)) remote refl refl (position_plain p.position) rest_plain)
+  point_plain = object_plain (members_of (point_data p)) refl
+      (name_plain p.from_end (ends p h).1, (refl, (refl, (name_plain p.name (ends p h).0, (position_plain p.position, (refl, (name_plain p.to_end (ends p h).2, tt)))))))
 
   columns_plain : is_plain (gone_data p) ≡ true
-  columns_plain = front_plain remote refl rest_plain
+  columns_plain = object_plain (members_of (gone_data p)) refl
+      (name_plain p.from_end (ends p h).1, (refl, (refl, (name_plain p.name (ends p h).0, (refl, (name_plain p.to_end (ends p h).2, tt))))))
 
 gone_plain : (p : PointRow) → is_said_gone p ≡ true → is_plain (gone_data p) ≡ true
 gone_plain p h = columns_plain p (and_parts (is_said_point p) (is_open p.position) h).0
@@ -234,10 +210,7 @@ gone_plain p h = columns_plain p (and_parts (is_said_point p) (is_open p.positio
 employee_plain : (row : StaffRow) → is_said_employee row ≡ true → is_plain (employee_data row) ≡ true
 employee_plain row h =
     let a = and_parts (is_name row.name) (is_name_or_none row.supervisor) h in
-    one_member (codes "name") (name_data row.name) (member (codes "role") (string (role_text row.role)) (member (codes "supervisor") (optional_data name_data row.supervisor) no_members))
-    refl refl (name_plain row.name a.0)
-    (one_member (codes "role") (string (role_text row.role)) (member (codes "supervisor") (optional_data name_data row.supervisor) no_members) refl refl (role_plain row.role)
-    (one_member (codes "supervisor") (optional_data name_data row.supervisor) no_members refl refl (supervisor_plain row.supervisor a.1) refl))
+    object_plain (members_of (employee_data row)) refl (name_plain row.name a.0, (role_plain row.role, (supervisor_plain row.supervisor a.1, tt)))
 
 module _ {A : Type 0} (seen : A → Data) (said : A → Bool) (plain : (x : A) → said x ≡ true → is_plain (seen x) ≡ true) where
   list_plain : (list : List A) → list_all said list ≡ true → items_are_plain (items_of (map seen list)) ≡ true
@@ -247,7 +220,7 @@ module _ {A : Type 0} (seen : A → Data) (said : A → Bool) (plain : (x : A) �
       and_from _ _ (plain x parts.0) (list_plain list parts.1)
 
 both_plain : (come go : Data) → is_plain come ≡ true → is_plain go ≡ true → is_plain (both_data come go) ≡ true
-both_plain come go come_plain go_plain = one_member (codes "come") come (member (codes "go") go no_members) refl refl come_plain (one_member (codes "go") go no_members refl refl go_plain refl)
+both_plain come go come_plain go_plain = object_plain (members_of (both_data come go)) refl (come_plain, (go_plain, tt))
 
 are_plain : (of : Changes) → can_be_said of ≡ true → is_plain (changes_data of) ≡ true
 unfolding changes_data
@@ -259,13 +232,7 @@ are_plain of h =
     (list_plain section_data is_said_section section_plain of.sections_come said.sections_come) (list_plain section_data is_said_section section_plain of.sections_go said.sections_go) in
     let staff = both_plain (list_data employee_data of.staff_comes) (list_data employee_data of.staff_goes)
     (list_plain employee_data is_said_employee employee_plain of.staff_comes said.staff_comes) (list_plain employee_data is_said_employee employee_plain of.staff_goes said.staff_goes) in
-    let staff_value : Data = both_data (list_data employee_data of.staff_comes) (list_data employee_data of.staff_goes) in
-    let sections_value : Data = both_data (list_data section_data of.sections_come) (list_data section_data of.sections_go) in
-    let points_value : Data = both_data (list_data point_data of.points_come) (list_data gone_data of.points_go) in
-    let last : Members = member (codes "staff") staff_value no_members in
-    let middle : Members = member (codes "sections") sections_value last in
-    one_member (codes "points") points_value middle refl refl points
-    (one_member (codes "sections") sections_value last refl refl sections (one_member (codes "staff") staff_value no_members refl refl staff refl))
+    object_plain (members_of (changes_data of)) refl (points, (sections, (staff, tt)))
 
 -- ---- flat
 

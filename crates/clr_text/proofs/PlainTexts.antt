@@ -235,6 +235,36 @@ pub plain_values_read_back : PlainValuesReadBack
 unfolding value_of
 plain_values_read_back d h shallow = rw (is_utf8-from_IsUtf8 _ (is_text d h)) (read_back d h shallow)
 
+-- ---- a plain object, member by member
+
+abbrev pub members_of : Data → Members
+members_of (object ms) = ms
+members_of _ = no_members
+
+-- keys in ASCII, in the order of their bytes
+abbrev pub keys_fit : Members → Bool
+keys_fit no_members = true
+keys_fit (member k d ms) = are_ascii k && (is_before k ms && keys_fit ms)
+
+abbrev pub AllPlain : Members → Type 0
+AllPlain no_members = Unit {0}
+AllPlain (member k d ms) = (is_plain d ≡ true) × AllPlain ms
+
+pub object_plain : (ms : Members) → keys_fit ms ≡ true → AllPlain ms → members_are_plain ms ≡ true
+object_plain no_members fit all = refl
+object_plain (member k d ms) fit all =
+    let p = and_parts (are_ascii k) (is_before k ms && keys_fit ms) fit in
+    let q = and_parts (is_before k ms) (keys_fit ms) p.1 in
+    and_from _ _ (is_utf8-from_IsUtf8 k (IsUtf8-are_ascii k p.0)) (and_from _ _ q.0 (and_from _ _ all.0 (object_plain ms q.1 all.1)))
+
+pub plain_parts : (ms : Members) → members_are_plain ms ≡ true → AllPlain ms
+plain_parts no_members h = tt
+plain_parts (member k d ms) h =
+    let p = and_parts (is_utf8 k) (is_before k ms && (is_plain d && members_are_plain ms)) h in
+    let q = and_parts (is_before k ms) (is_plain d && members_are_plain ms) p.1 in
+    let r = and_parts (is_plain d) (members_are_plain ms) q.1 in
+    (r.0, plain_parts ms r.1)
+
 -- ---- no line feed
 
 none_in_both : (xs ys : List ℕ) → list_any is_line_feed xs ≡ false → list_any is_line_feed ys ≡ false → list_any is_line_feed (xs ++ ys) ≡ false
