@@ -41,7 +41,7 @@ flag_itself false = refl
 of_flag : IsExact beq
 of_flag = record { same = flag_same; itself = flag_itself }
 
-one_name : (a b : List ℕ) → same_name a b ≡ true → a ≡ b
+pub one_name : (a b : List ℕ) → same_name a b ≡ true → a ≡ b
 one_name [] [] same = refl
 one_name [] (y ∷ b) same = absurd (true≢false (sym same))
 one_name (x ∷ a) [] same = absurd (true≢false (sym same))
