@@ -1,27 +1,12 @@
 //! The commands of a journal alone.
-ghost use Rattle.std.specs.Prelude.{◌≡◌, ◌++◌, IsTrue, OnOk, map, string_bytes, true};
+ghost use Rattle.std.specs.Prelude.{◌≡◌, IsTrue, map, true};
 ghost use Rattle.std.specs.List.{list_all};
 ghost use Rattle.clr_text.specs.CommandText.{has_its_moment};
-ghost use Rattle.clr_wayback.specs.Text.{command_line, commands_read, reads_back};
+ghost use Rattle.clr_wayback.specs.Text.{commands_read, reads_back};
 ghost use Rattle.clr_log.specs.Commands.{commands_text};
 
 use clr_rules::Command;
-use clr_text::{can_be_sent, command_text};
-use std::alloc::{AllocError, Global};
-
-/// Writes a command and a line feed.
-pub(crate) fn push_command(
-    alloc: Global,
-    out: &mut String,
-    command: &Command,
-) -> Result<(), AllocError>
-    ensures { OnOk result
-        (string_bytes out.new ≡ string_bytes out.old ++ command_line command.now) }
-{
-    let line = command_text(alloc, command)?;
-    out.push_str(line.as_str())?;
-    out.push('\n')
-}
+use clr_wayback::reads_back;
 
 /// The lines of commands read as these commands, so `run` takes them; a `show` or `jumper` only
 /// where its moment is 0, as it is in each journal that was read. A law, with nothing to do.
@@ -40,11 +25,4 @@ fn all_read_back(commands: &[&Command])
     for command in commands {
         reads_back(command);
     }
-}
-
-/// A command that has its moment is read from its text: a law, with nothing to do.
-fn reads_back(command: &Command)
-    ensures { IsTrue (reads_back command.now) }
-{
-    can_be_sent(command);
 }

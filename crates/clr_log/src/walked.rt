@@ -17,7 +17,6 @@ ghost use Rattle.clr_log.specs.Walked.{step_text, withdrawn_with};
 ghost use Rattle.clr_verify.specs.Replay.{answered_of, open_entries};
 
 use crate::about::{carried_clearance, is_wanted, line_clearance};
-use crate::commands::push_command;
 use crate::line::push_line;
 use crate::steps::deed_steps;
 use crate::texts::push_number;
@@ -25,6 +24,7 @@ use clr_chain::Step;
 use clr_journal::{Carried, Deed, Line, is_accepted};
 use clr_print::ClockOffset;
 use clr_rules::{ClearanceId, Kind};
+use clr_wayback::push_command;
 use std::alloc::{AllocError, Global};
 
 /// The log of a chain, as far as it was walked.

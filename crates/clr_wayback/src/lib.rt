@@ -12,4 +12,4 @@ mod walk;
 
 pub use answer::{WayBack, way_back};
 pub use moves::next_moves;
-pub use print::print_way_back;
+pub use print::{print_way_back, push_command, reads_back};

@@ -26,13 +26,13 @@ fn lines_of(alloc: Global, commands: &[Command]) -> Result<String, AllocError>
 {
     let mut text = String::new(alloc);
     for command in commands {
-        push_line(alloc, &mut text, command)?;
+        push_command(alloc, &mut text, command)?;
     }
     Ok(text)
 }
 
 /// Writes a command and a line feed.
-fn push_line(alloc: Global, out: &mut String, command: &Command) -> Result<(), AllocError>
+pub fn push_command(alloc: Global, out: &mut String, command: &Command) -> Result<(), AllocError>
     ensures { OnOk result
         (string_bytes out.new ≡ string_bytes out.old ++ command_line command.now) }
 {
@@ -51,7 +51,7 @@ fn all_read_back(commands: &[Command])
 }
 
 /// A command that has its moment is read from its text: a law, with nothing to do.
-fn reads_back(command: &Command)
+pub fn reads_back(command: &Command)
     ensures { IsTrue (reads_back command.now) }
 {
     can_be_sent(command);
