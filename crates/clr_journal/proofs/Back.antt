@@ -18,6 +18,8 @@ use Rattle.clr_staff.specs.declared.employee.Role.{Role}
 use Rattle.clr_staff.specs.declared.employee.Role.TheVariants.{Charge, Field, Operator}
 use Rattle.clr_staff.specs.declared.employee.StaffRow.{StaffRow}
 use Rattle.clr_text.proofs.PlainTexts.{members_of, object_plain}
+use Rattle.clr_text.proofs.RepliesFlat.{list_is_flat, optional_is_flat}
+use Rattle.clr_text.proofs.SaidReads.{all_back, all_plain, name_reads_back}
 use Rattle.clr_text.specs.CommandLaws.{is_plain, items_are_plain}
 use Rattle.clr_text.specs.Json.{list_data, name_data, optional_data, position_text, role_text}
 use Rattle.clr_text.specs.Values.{all_read, name_in}
@@ -28,16 +30,6 @@ use Rattle.clr_journal.specs.DeltaRows.{employee_data, employee_in, gone_data, g
 use Rattle.clr_journal.specs.DeltaRows.{position_in, role_in, section_data, section_in, supervisor_in}
 
 -- ---- columns
-
-name_reads : (s : List ℕ) → is_name s ≡ true → read_name s ≡ Ok s
-name_reads s h =
-    let parts = name_parts s h in
-    let some = ne_eqb (length s) 0 (λ e. omega arith) in
-    let few = le-ltb 24 (length s) parts.1 in
-    rw (some, few, name_has_none s h) refl
-
-name_back : (s : List ℕ) → is_name s ≡ true → name_in (name_data s) ≡ Some s
-name_back s h = rw (name_reads s h) refl
 
 position_back : (position : Position) → position_in (string (position_text position)) ≡ Some position
 position_back Opened = refl
@@ -50,14 +42,14 @@ role_back Charge = refl
 
 supervisor_back : (supervisor : Option (List ℕ)) → is_name_or_none supervisor ≡ true → supervisor_in (optional_data name_data supervisor) ≡ Some supervisor
 supervisor_back None h = refl
-supervisor_back (Some name) h = ap (option_map Some) (name_back name h)
+supervisor_back (Some name) h = ap (option_map Some) (name_reads_back name h)
 
 -- ---- rows
 
 section_back : (row : SectionRow) → is_said_section row ≡ true → section_in (section_data row) ≡ Some row
 section_back row h =
     let made : Option (List ℕ) → Option SectionRow = λ name. option_and_then (λ n. Some (record { name = n; source = row.source })) name in
-    ap made (name_back row.name h)
+    ap made (name_reads_back row.name h)
 
 module _ (p : PointRow) (h : is_said_point p ≡ true) where
   abbrev made : Option (List ℕ) → Option (List ℕ) → Option (List ℕ) → Option PointRow
@@ -76,9 +68,9 @@ module _ (p : PointRow) (h : is_said_point p ≡ true) where
 
   made_back : made (name_in (name_data p.name)) (name_in (name_data p.from_end)) (name_in (name_data p.to_end)) ≡ Some (record p { position = Opened })
   made_back =
-      let name = name_back p.name ends.0 in
-      let from = name_back p.from_end ends.1 in
-      let to = name_back p.to_end ends.2 in
+      let name = name_reads_back p.name ends.0 in
+      let from = name_reads_back p.from_end ends.1 in
+      let to = name_reads_back p.to_end ends.2 in
       λ i. made (name i) (from i) (to i)
 
   pub columns_back : gone_in (gone_data p) ≡ Some (record p { position = Opened })
@@ -102,7 +94,7 @@ gone_back p h =
 employee_back : (row : StaffRow) → is_said_employee row ≡ true → employee_in (employee_data row) ≡ Some row
 employee_back row h =
     let a = and_parts (is_name row.name) (is_name_or_none row.supervisor) h in
-    let name = name_back row.name a.0 in
+    let name = name_reads_back row.name a.0 in
     let role = role_back row.role in
     let supervisor = supervisor_back row.supervisor a.1 in
     let made : Option (List ℕ) → Option Role → Option (Option (List ℕ)) → Option StaffRow =
@@ -111,15 +103,9 @@ employee_back row h =
 
 -- ---- lists
 
-module _ {A : Type 0} (seen : A → Data) (reading : Data → Option A) (said : A → Bool) (back : (x : A) → said x ≡ true → reading (seen x) ≡ Some x) where
-  all_back : (list : List A) → list_all said list ≡ true → all_read reading (items_of (map seen list)) ≡ Some list
-  all_back [] h = refl
-  all_back (x ∷ list) h =
-      let parts = and_parts (said x) (list_all said list) h in
-      rw (back x parts.0, all_back list parts.1) refl
-
-  list_back : (list : List A) → list_all said list ≡ true → list_in reading (list_data seen list) ≡ Some list
-  list_back list h = all_back list h
+list_back : {A : Type 0} (seen : A → Data) (reading : Data → Option A) (said : A → Bool) → ((x : A) → said x ≡ true → reading (seen x) ≡ Some x)
+    → (list : List A) → list_all said list ≡ true → list_in reading (list_data seen list) ≡ Some list
+list_back seen reading said back list h = all_back seen reading said back list h
 
 -- ---- the changes
 
@@ -212,13 +198,6 @@ employee_plain row h =
     let a = and_parts (is_name row.name) (is_name_or_none row.supervisor) h in
     object_plain (members_of (employee_data row)) refl (name_plain row.name a.0, (role_plain row.role, (supervisor_plain row.supervisor a.1, tt)))
 
-module _ {A : Type 0} (seen : A → Data) (said : A → Bool) (plain : (x : A) → said x ≡ true → is_plain (seen x) ≡ true) where
-  list_plain : (list : List A) → list_all said list ≡ true → items_are_plain (items_of (map seen list)) ≡ true
-  list_plain [] h = refl
-  list_plain (x ∷ list) h =
-      let parts = and_parts (said x) (list_all said list) h in
-      and_from _ _ (plain x parts.0) (list_plain list parts.1)
-
 both_plain : (come go : Data) → is_plain come ≡ true → is_plain go ≡ true → is_plain (both_data come go) ≡ true
 both_plain come go come_plain go_plain = object_plain (members_of (both_data come go)) refl (come_plain, (go_plain, tt))
 
@@ -227,36 +206,27 @@ unfolding changes_data
 are_plain of h =
     let said = are_said of h in
     let points = both_plain (list_data point_data of.points_come) (list_data gone_data of.points_go)
-    (list_plain point_data is_said_point point_plain of.points_come said.points_come) (list_plain gone_data is_said_gone gone_plain of.points_go said.points_go) in
+    (all_plain point_data is_said_point point_plain of.points_come said.points_come) (all_plain gone_data is_said_gone gone_plain of.points_go said.points_go) in
     let sections = both_plain (list_data section_data of.sections_come) (list_data section_data of.sections_go)
-    (list_plain section_data is_said_section section_plain of.sections_come said.sections_come) (list_plain section_data is_said_section section_plain of.sections_go said.sections_go) in
+    (all_plain section_data is_said_section section_plain of.sections_come said.sections_come) (all_plain section_data is_said_section section_plain of.sections_go said.sections_go) in
     let staff = both_plain (list_data employee_data of.staff_comes) (list_data employee_data of.staff_goes)
-    (list_plain employee_data is_said_employee employee_plain of.staff_comes said.staff_comes) (list_plain employee_data is_said_employee employee_plain of.staff_goes said.staff_goes) in
+    (all_plain employee_data is_said_employee employee_plain of.staff_comes said.staff_comes) (all_plain employee_data is_said_employee employee_plain of.staff_goes said.staff_goes) in
     object_plain (members_of (changes_data of)) refl (points, (sections, (staff, tt)))
 
 -- ---- flat
 
-supervisor_flat : (supervisor : Option (List ℕ)) → depth (optional_data name_data supervisor) ≤ 0
-supervisor_flat None = omega arith
-supervisor_flat (Some name) = omega arith
-
 employee_flat : (row : StaffRow) → depth (employee_data row) ≤ 1
-employee_flat row = let supervisor = supervisor_flat row.supervisor in omega (arith, supervisor)
-
-module _ {A : Type 0} (seen : A → Data) (flat : (x : A) → depth (seen x) ≤ 1) where
-  list_flat : (list : List A) → items_depth (items_of (map seen list)) ≤ 1
-  list_flat [] = omega arith
-  list_flat (x ∷ list) = let first = flat x in let rest = list_flat list in omega (arith, first, rest)
+employee_flat row = let supervisor = optional_is_flat name_data (λ name. omega arith) row.supervisor in omega (arith, supervisor)
 
 are_flat : (of : Changes) → depth (changes_data of) ≤ 4
 unfolding changes_data
 are_flat of =
-    let points_come = list_flat point_data (λ p. omega arith) of.points_come in
-    let points_go = list_flat gone_data (λ p. omega arith) of.points_go in
-    let sections_come = list_flat section_data (λ row. omega arith) of.sections_come in
-    let sections_go = list_flat section_data (λ row. omega arith) of.sections_go in
-    let staff_comes = list_flat employee_data employee_flat of.staff_comes in
-    let staff_goes = list_flat employee_data employee_flat of.staff_goes in
+    let points_come = list_is_flat point_data 1 (λ p. omega arith) of.points_come in
+    let points_go = list_is_flat gone_data 1 (λ p. omega arith) of.points_go in
+    let sections_come = list_is_flat section_data 1 (λ row. omega arith) of.sections_come in
+    let sections_go = list_is_flat section_data 1 (λ row. omega arith) of.sections_go in
+    let staff_comes = list_is_flat employee_data 1 employee_flat of.staff_comes in
+    let staff_goes = list_is_flat employee_data 1 employee_flat of.staff_goes in
     omega (arith, points_come, points_go, sections_come, sections_go, staff_comes, staff_goes)
 
 pub change_values_are_plain : ChangeValuesArePlain

@@ -1,7 +1,6 @@
 pub mod FrontsRead
 pub mod JournalsRead
 pub mod LinesRead
-pub mod RepliesFlat
 pub mod Shallow
 pub mod Values
 pub mod Written

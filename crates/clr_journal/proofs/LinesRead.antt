@@ -10,7 +10,8 @@ use Rattle.clr_journal.specs.Delta.{changes_data, changes_in}
 use Rattle.clr_rules.specs.Moment.{is_moment}
 use Rattle.clr_rules.specs.declared.command.Command.{Command}
 use Rattle.clr_rules.specs.declared.reply.Reply.{Reply}
-use Rattle.clr_text.proofs.NoFloats.{in_command, in_reply}
+use Rattle.clr_text.proofs.NoFloats.{in_command, in_optional, in_reply}
+use Rattle.clr_text.proofs.RepliesFlat.{optional_is_flat}
 use Rattle.clr_text.specs.CommandText.{command_data}
 use Rattle.clr_text.specs.Json.{optional_data, whole_data}
 use Rattle.clr_text.specs.Reading.{command_in}
@@ -53,19 +54,11 @@ pub line_back : (bytes : List ℕ) (entry : Entry) → IsUtf8 bytes → read byt
 unfolding read_line
 line_back bytes entry utf8 reads is = ap (option_and_then line_in) (there bytes (entry_data entry) utf8 reads) ∙ is
 
-login_has_none : (login : Option (List ℕ)) → has_float (optional_data string login) ≡ false
-login_has_none None = refl
-login_has_none (Some s) = refl
-
-login_is_flat : (login : Option (List ℕ)) → depth (optional_data string login) ≤ 0
-login_is_flat None = omega arith
-login_is_flat (Some s) = omega arith
-
 pub carried_has_none : (receipt : Receipt) (q : Command) (reply : Reply) → has_float (entry_data (carried receipt (command q) (reply_data reply))) ≡ false
-carried_has_none receipt q reply = rw (in_command q, login_has_none receipt.login, in_reply reply) refl
+carried_has_none receipt q reply = rw (in_command q, in_optional string (λ s. refl) receipt.login, in_reply reply) refl
 
 pub updated_has_none : (receipt : Receipt) (of : Changes) → has_float (entry_data (carried receipt (update of) done)) ≡ false
 updated_has_none receipt of = rw (in_changes of) refl
 
 pub carried_is_flat : (receipt : Receipt) (q : Command) (reply : Data) (n : ℕ) → depth (command_data q) ≤ n → depth reply ≤ n → depth (entry_data (carried receipt (command q) reply)) ≤ n + 1
-carried_is_flat receipt q reply n flat said = let login = login_is_flat receipt.login in omega (arith, flat, said, login)
+carried_is_flat receipt q reply n flat said = let login = optional_is_flat string (λ s. omega arith) receipt.login in omega (arith, flat, said, login)

@@ -1,24 +1,15 @@
 -- The value of changes has no number at all.
-use Rattle.std.proofs.Common.{◌≡◌, ℕ, false, List, [], ◌∷◌, Option, None, Some, map, refl}
-use Rattle.serde_json.specs.Data.{Data}
-use Rattle.serde_json.specs.View.{items_of}
-use Rattle.serde_json.specs.Written.{has_float, items_have_float}
+use Rattle.std.proofs.Common.{◌≡◌, false, refl}
+use Rattle.serde_json.specs.Written.{has_float}
 use Rattle.clr_staff.specs.declared.employee.StaffRow.{StaffRow}
-use Rattle.clr_text.specs.Json.{name_data, optional_data}
+use Rattle.clr_text.proofs.NoFloats.{in_list, in_optional}
+use Rattle.clr_text.specs.Json.{name_data}
 use Rattle.clr_update.specs.Changes.{Changes}
 use Rattle.clr_journal.specs.Delta.{changes_data}
 use Rattle.clr_journal.specs.DeltaRows.{employee_data, gone_data, point_data, section_data}
 
-in_supervisor : (supervisor : Option (List ℕ)) → has_float (optional_data name_data supervisor) ≡ false
-in_supervisor None = refl
-in_supervisor (Some name) = refl
-
 in_employee : (row : StaffRow) → has_float (employee_data row) ≡ false
-in_employee row = rw (in_supervisor row.supervisor) refl
-
-in_list : {A : Type 0} (seen : A → Data) → ((x : A) → has_float (seen x) ≡ false) → (list : List A) → items_have_float (items_of (map seen list)) ≡ false
-in_list seen none [] = refl
-in_list seen none (x ∷ list) = rw (none x, in_list seen none list) refl
+in_employee row = rw (in_optional name_data (λ name. refl) row.supervisor) refl
 
 pub in_changes : (of : Changes) → has_float (changes_data of) ≡ false
 unfolding changes_data

@@ -2,7 +2,7 @@
 use Rattle.std.proofs.Common.{◌≡◌, ◌≤◌, ℕ, Bool, true, false, codes, List, Option, None, Some, Ordering, Less, Equal, Greater, IfSome, is_some, refl, arith, option_map, option_and_then, if◌then◌else◌}
 use Rattle.std.specs.Ordering.{match_ordering}
 use Rattle.std.specs.Str.{is_utf8}
-use Rattle.serde_json.specs.Data.{Data, Members, array, boolean, depth, member, members_depth, no_members, null, number, object, string}
+use Rattle.serde_json.specs.Data.{Data, Members, depth, member, members_depth, no_members, object}
 use Rattle.serde_json.specs.Find.{as_bool, get, get_member}
 use Rattle.serde_json.specs.Read.{read}
 use Rattle.serde_json.proofs.Nesting.{depth-read}
@@ -24,12 +24,8 @@ member_is_shallow k (member l d ms) n within = one_of _ d (get_member k ms) n (o
 
 -- a value at a key
 at_key_is_shallow : (k : List ℕ) (d : Data) (n : ℕ) → depth d ≤ n → IfSome (get k d) (λ found. depth found ≤ n)
-at_key_is_shallow k null n within = tt
-at_key_is_shallow k (boolean b) n within = tt
-at_key_is_shallow k (number m) n within = tt
-at_key_is_shallow k (string s) n within = tt
-at_key_is_shallow k (array ds) n within = tt
 at_key_is_shallow k (object ms) n within = member_is_shallow k ms n (omega arith)
+at_key_is_shallow k _ n within = tt
 
 each_then : {A B : Type 0} (P : B → Type 0) (next : A → Option B) → ((a : A) → IfSome (next a) P) → (o : Option A) → IfSome (option_and_then next o) P
 each_then P next each None = tt

@@ -1,6 +1,7 @@
 pub mod MembersFacts
 pub mod ListsRead
 pub mod NoFloats
+pub mod RepliesFlat
 pub mod LineReplies
 pub mod KeysInOrder
 pub mod KeyFaults

@@ -9,7 +9,7 @@ use Rattle.serde_json.specs.Written.{has_float, items_have_float, members_have_f
 use Rattle.clr_rules.specs.Prelude.{Step}
 use Rattle.clr_text.specs.CommandText.{Said, all_said, command_data, said_data, task_data, with_said, written}
 use Rattle.clr_text.specs.FaultText.{fault_data}
-use Rattle.clr_text.specs.Keys.{Sort, ValueOf, clearance, flag, key_text, moment, name, names, number, sort_of, tasks, text}
+use Rattle.clr_text.specs.Keys.{Sort, ValueOf, key_text, names, sort_of, tasks}
 use Rattle.clr_text.specs.Json.{hold_data, id_data, name_data, optional_data, point_data, step_data}
 use Rattle.clr_text.specs.RefusalText.{refusal_data}
 use Rattle.clr_text.specs.Replies.{reply_data}
@@ -25,11 +25,11 @@ use Rattle.clr_rules.specs.declared.reply.Reply.TheVariants.{Accepted, Added, Re
 neither : (a b : Bool) → a ≡ false → b ≡ false → (a || b) ≡ false
 neither a b first second = rw (first, second) refl
 
-in_list : {A : Type 0} (seen : A → Data) → ((x : A) → has_float (seen x) ≡ false) → (xs : List A) → items_have_float (items_of (map seen xs)) ≡ false
+pub in_list : {A : Type 0} (seen : A → Data) → ((x : A) → has_float (seen x) ≡ false) → (xs : List A) → items_have_float (items_of (map seen xs)) ≡ false
 in_list seen each [] = refl
 in_list seen each (x ∷ xs) = neither _ _ (each x) (in_list seen each xs)
 
-in_optional : {A : Type 0} (seen : A → Data) → ((x : A) → has_float (seen x) ≡ false) → (o : Option A) → has_float (optional_data seen o) ≡ false
+pub in_optional : {A : Type 0} (seen : A → Data) → ((x : A) → has_float (seen x) ≡ false) → (o : Option A) → has_float (optional_data seen o) ≡ false
 in_optional seen each None = refl
 in_optional seen each (Some x) = each x
 
@@ -63,14 +63,9 @@ in_fault _ = refl
 -- ---- commands
 
 in_said : (sort : Sort) (x : ValueOf sort) → has_float (written sort x) ≡ false
-in_said moment seconds = refl
-in_said name s = refl
-in_said clearance id = refl
-in_said number n = refl
-in_said flag b = refl
-in_said text s = refl
 in_said names list = in_list name_data (λ s. refl) list
 in_said tasks list = in_list task_data (λ t. refl) list
+in_said _ x = refl
 
 in_put_at : (o : Ordering) (k l : List ℕ) (d e : Data) (ms : Members) → has_float d ≡ false → members_have_float (member l e ms) ≡ false
     → members_have_float (put k d ms) ≡ false

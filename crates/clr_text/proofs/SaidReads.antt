@@ -20,6 +20,7 @@ use Rattle.clr_rules.specs.Id.{id_text, is_clearance_number, is_id}
 use Rattle.clr_rules.specs.Moment.{is_moment}
 use Rattle.clr_rules.specs.Prelude.{Id, Task, task}
 use Rattle.clr_text.proofs.PlainTexts.{decimal_is_text}
+use Rattle.clr_text.proofs.RepliesFlat.{list_is_flat}
 use Rattle.clr_text.specs.CommandLaws.{is_plain, items_are_plain}
 use Rattle.clr_text.specs.CommandText.{fits_sort, task_data, written}
 use Rattle.clr_text.specs.Json.{name_data}
@@ -40,14 +41,15 @@ name_reads s h =
     let few = le-ltb 24 (length s) parts.1 in
     rw (some, few, name_has_none s h) refl
 
-name_reads_back : (s : List ℕ) → is_name s ≡ true → name_in (name_data s) ≡ Some s
+pub name_reads_back : (s : List ℕ) → is_name s ≡ true → name_in (name_data s) ≡ Some s
 name_reads_back s h = rw (name_reads s h) refl
 
-names_read_back : (list : List (List ℕ)) → list_all is_name list ≡ true → all_read name_in (items_of (map name_data list)) ≡ Some list
-names_read_back [] h = refl
-names_read_back (s ∷ list) h =
-    let parts = and_parts (is_name s) (list_all is_name list) h in
-    rw (name_reads_back s parts.0, names_read_back list parts.1) refl
+pub all_back : {A : Type 0} (seen : A → Data) (reading : Data → Option A) (said : A → Bool) → ((x : A) → said x ≡ true → reading (seen x) ≡ Some x)
+    → (list : List A) → list_all said list ≡ true → all_read reading (items_of (map seen list)) ≡ Some list
+all_back seen reading said back [] h = refl
+all_back seen reading said back (x ∷ list) h =
+    let parts = and_parts (said x) (list_all said list) h in
+    rw (back x parts.0, all_back seen reading said back list parts.1) refl
 
 task_reads_back : (t : Task) → is_name t.point ≡ true → step_in (task_data t) ≡ Some (waiting_step t)
 task_reads_back t h = rw (step_texts_are_read t h) refl
@@ -71,7 +73,7 @@ said_reads clearance id h = written_reads id h
 said_reads number n h = rw h refl
 said_reads flag b h = refl
 said_reads text s h = refl
-said_reads names list h = names_read_back list h
+said_reads names list h = all_back name_data name_in is_name name_reads_back list h
 said_reads tasks list h = ap (option_map (map task)) (tasks_read_back list h) ∙ ap Some (tasks_again list)
 
 -- and so does a key at which it is
@@ -99,7 +101,7 @@ task_is_utf8 t h =
     let point = IsUtf8-append (32 ∷ []) t.point (IsUtf8-are_ascii (32 ∷ []) refl) (name_is_text t.point h) in
     is_utf8-from_IsUtf8 (step_text t) (IsUtf8-append (action_word t.action) _ (word_is_text t.action) point)
 
-all_plain : {A : Type 0} (seen : A → Data) (test : A → Bool) → ((x : A) → test x ≡ true → is_plain (seen x) ≡ true)
+pub all_plain : {A : Type 0} (seen : A → Data) (test : A → Bool) → ((x : A) → test x ≡ true → is_plain (seen x) ≡ true)
     → (list : List A) → list_all test list ≡ true → items_are_plain (items_of (map seen list)) ≡ true
 all_plain seen test each [] h = refl
 all_plain seen test each (x ∷ list) h =
@@ -116,20 +118,7 @@ said_is_plain text s h = h
 said_is_plain names list h = all_plain name_data is_name name_is_utf8 list h
 said_is_plain tasks list h = all_plain task_data (λ t. is_name t.point) task_is_utf8 list h
 
-names_are_flat : (list : List (List ℕ)) → items_depth (items_of (map name_data list)) ≤ 0
-names_are_flat [] = omega arith
-names_are_flat (s ∷ list) = omega (arith, names_are_flat list)
-
-tasks_are_flat : (list : List Task) → items_depth (items_of (map task_data list)) ≤ 0
-tasks_are_flat [] = omega arith
-tasks_are_flat (t ∷ list) = omega (arith, tasks_are_flat list)
-
 pub said_is_flat : (sort : Sort) (x : ValueOf sort) → depth (written sort x) ≤ 1
-said_is_flat moment seconds = omega arith
-said_is_flat name s = omega arith
-said_is_flat clearance id = omega arith
-said_is_flat number n = omega arith
-said_is_flat flag b = omega arith
-said_is_flat text s = omega arith
-said_is_flat names list = omega (arith, names_are_flat list)
-said_is_flat tasks list = omega (arith, tasks_are_flat list)
+said_is_flat names list = let flat = list_is_flat name_data 0 (λ name. omega arith) list in omega (arith, flat)
+said_is_flat tasks list = let flat = list_is_flat task_data 0 (λ task. omega arith) list in omega (arith, flat)
+said_is_flat _ x = omega arith

@@ -7,7 +7,7 @@ use Rattle.clr_text.specs.Replies.{reply_data}
 use Rattle.clr_changes.specs.Deeds.{command}
 use Rattle.clr_journal.specs.Line.{Entry, carried}
 use Rattle.clr_journal.proofs.LinesRead.{carried_back, carried_has_none, carried_is_flat, line_back}
-use Rattle.clr_journal.proofs.RepliesFlat.{reply_is_flat}
+use Rattle.clr_text.proofs.RepliesFlat.{reply_is_flat}
 use Rattle.clr_journal.proofs.print.print_carried.Goals as goal
 
 pub returns-clause-text : goal.returns-clause-text

@@ -3,7 +3,7 @@ use Rattle.serde_json.specs.Data.{Data, depth}
 use Rattle.serde_json.specs.View.{view}
 use Rattle.serde_json.specs.Written.{has_float}
 use Rattle.clr_text.proofs.NoFloats.{in_reply}
-use Rattle.clr_journal.proofs.RepliesFlat.{reply_is_flat}
+use Rattle.clr_text.proofs.RepliesFlat.{reply_is_flat}
 use Rattle.clr_verify.specs.Replies.{DecidesReply}
 use Rattle.clr_verify.proofs.replies.is_reply.Goals as goal
 

@@ -12,11 +12,11 @@ use Rattle.clr_text.specs.Json.{hold_data, id_data, name_data, optional_data, po
 use Rattle.clr_text.specs.RefusalText.{refusal_data}
 use Rattle.clr_text.specs.Replies.{reply_data}
 
-list_is_flat : {A : Type 0} (seen : A → Data) (n : ℕ) → ((x : A) → depth (seen x) ≤ n) → (xs : List A) → items_depth (items_of (map seen xs)) ≤ n
+pub list_is_flat : {A : Type 0} (seen : A → Data) (n : ℕ) → ((x : A) → depth (seen x) ≤ n) → (xs : List A) → items_depth (items_of (map seen xs)) ≤ n
 list_is_flat seen n each [] = omega arith
 list_is_flat seen n each (x ∷ xs) = let here = each x in let more = list_is_flat seen n each xs in omega (arith, here, more)
 
-optional_is_flat : {A : Type 0} (seen : A → Data) → ((x : A) → depth (seen x) ≤ 0) → (o : Option A) → depth (optional_data seen o) ≤ 0
+pub optional_is_flat : {A : Type 0} (seen : A → Data) → ((x : A) → depth (seen x) ≤ 0) → (o : Option A) → depth (optional_data seen o) ≤ 0
 optional_is_flat seen each None = omega arith
 optional_is_flat seen each (Some x) = each x
 
