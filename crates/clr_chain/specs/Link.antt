@@ -2,39 +2,20 @@
 -- object without blanks, its keys in the order of their bytes.
 use Rattle.std.specs.Prelude.{ℕ, Bool, true, false, ◌&&◌, not, List, codes, Option, None, Some}
 use Rattle.std.specs.Prelude.{bytes_eq, if◌then◌else◌, option_and_then}
-use Rattle.serde_json.specs.Data.{Data, boolean, member, no_members, object, string}
+use Rattle.serde_json.specs.Data.{Data, object, put, string}
 use Rattle.serde_json.specs.Written.{compact_text, has_float}
-use Rattle.clr_changes.specs.Deeds.{archive, command, update}
-use Rattle.clr_journal.specs.Delta.{changes_data}
-use Rattle.clr_text.specs.CommandText.{command_data}
-use Rattle.clr_text.specs.Json.{optional_data, whole_data}
 use Rattle.clr_journal.specs.Journals.{is_next, turn_after}
-use Rattle.clr_journal.specs.Line.{Entry, archive_data, carried, withdrawn, read_line}
+use Rattle.clr_journal.specs.Line.{Entry, carried, entry_data, read_line, withdrawn}
 use Rattle.clr_chain.specs.Sums.{sum_after}
 use Rattle.clr_chain.specs.declared.chain_end.ChainEnd.{ChainEnd}
 
+-- an object with a sum
+abbrev pub with_sum : List ℕ → Data → Data
+with_sum sum (object ms) = object (put (codes "sum") (string sum) ms)
+with_sum sum d = d
+
 abbrev pub link_data : Entry → List ℕ → Data
-link_data (carried receipt (command q) reply) sum =
-    object (member (codes "command") (command_data q)
-    (member (codes "login") (optional_data string receipt.login)
-    (member (codes "number") (whole_data receipt.number)
-    (member (codes "received") (whole_data receipt.received)
-    (member (codes "reply") reply
-    (member (codes "sum") (string sum) no_members))))))
-link_data (carried receipt (update of) reply) sum =
-    object (member (codes "number") (whole_data receipt.number)
-    (member (codes "received") (whole_data receipt.received)
-    (member (codes "sum") (string sum)
-    (member (codes "updated") (changes_data of) no_members))))
-link_data (carried receipt (archive before) reply) sum =
-    object (member (codes "archived") (archive_data before)
-    (member (codes "number") (whole_data receipt.number)
-    (member (codes "received") (whole_data receipt.received)
-    (member (codes "sum") (string sum) no_members))))
-link_data (withdrawn n) sum =
-    object (member (codes "number") (whole_data n)
-    (member (codes "sum") (string sum)
-    (member (codes "withdrawn") (boolean true) no_members)))
+link_data entry sum = with_sum sum (entry_data entry)
 
 -- THE TEXT OF A LINE WITH ITS SUM, without its line feed
 unfoldable pub link_text : Entry → List ℕ → List ℕ

@@ -10,8 +10,10 @@ ghost use Rattle.clr_chain.specs.Link.{link_text, read_link};
 ghost use Rattle.clr_chain.specs.Sums.{sum_after};
 
 use crate::sums::sum_of;
-use crate::values::{archived_link, updated_link, withdrawn_link};
-use clr_journal::{Changes, Receipt, can_be_said};
+use crate::values::with_sum;
+use clr_journal::{
+    Changes, Receipt, archived_value, can_be_said, updated_value, withdrawn_value,
+};
 use clr_rules::{Command, Moment, Reply, Text};
 use serde_json::Value;
 use std::alloc::{AllocError, Global};
@@ -72,7 +74,8 @@ pub fn print_updated(
     is_number(receipt.received);
     let line = clr_journal::print_updated(alloc, receipt, changes)?;
     let sum = sum_of(alloc, before.as_str().as_bytes(), line.as_bytes())?;
-    let value = updated_link(alloc, receipt, changes, sum.as_str())?;
+    let plain = updated_value(alloc, receipt, changes)?;
+    let value = with_sum(alloc, plain, sum.as_str())?;
     let text = value.to_string(alloc)?;
     Ok(Link { text, sum })
 }
@@ -98,7 +101,8 @@ pub fn print_archived(
     is_number(receipt.received);
     let line = clr_journal::print_archived(alloc, receipt, moment)?;
     let sum = sum_of(alloc, before.as_str().as_bytes(), line.as_bytes())?;
-    let value = archived_link(alloc, receipt, moment, sum.as_str())?;
+    let plain = archived_value(alloc, receipt, moment)?;
+    let value = with_sum(alloc, plain, sum.as_str())?;
     let text = value.to_string(alloc)?;
     Ok(Link { text, sum })
 }
@@ -119,7 +123,8 @@ pub fn print_withdrawn(alloc: Global, before: &Text, number: u64) -> Result<Link
 {
     let line = clr_journal::print_withdrawn(alloc, number)?;
     let sum = sum_of(alloc, before.as_str().as_bytes(), line.as_bytes())?;
-    let value = withdrawn_link(alloc, number, sum.as_str())?;
+    let plain = withdrawn_value(alloc, number)?;
+    let value = with_sum(alloc, plain, sum.as_str())?;
     let text = value.to_string(alloc)?;
     Ok(Link { text, sum })
 }

@@ -2,92 +2,29 @@
 ghost use Rattle.std.specs.Prelude.{◌≡◌, IfOk, bytes_eq, false};
 ghost use Rattle.serde_json.specs.View.{view};
 ghost use Rattle.serde_json.specs.Written.{has_float};
-ghost use Rattle.clr_changes.specs.Deeds.{archive, command as asked, deed_of, update};
-ghost use Rattle.clr_update.specs.Shown.{as_changes};
-ghost use Rattle.clr_journal.specs.Line.{carried, done, entry_data, entry_of, line_text};
-ghost use Rattle.clr_journal.specs.Line.{withdrawn};
-ghost use Rattle.clr_chain.specs.Link.{has_fraction, is_own, link_data, link_text};
+ghost use Rattle.clr_changes.specs.Deeds.{deed_of};
+ghost use Rattle.clr_journal.specs.Line.{carried, entry_data, entry_of, line_text};
+ghost use Rattle.clr_chain.specs.Link.{has_fraction, is_own, link_text, with_sum};
 
 use crate::floats::has_float;
 use clr_journal::{
-    Carried, Changes, Deed, Line, Receipt, archived_value, before_value, changes_value,
-    commanded_value, login_value, updated_value, withdrawn_value,
+    Carried, Deed, Line, archived_value, commanded_value, updated_value, withdrawn_value,
 };
-use clr_rules::{Command, Moment};
-use clr_text::command_value;
-use serde_json::{Value, json};
+use serde_json::{Value, put};
 use std::alloc::{AllocError, Global};
 
-/// The value of a command's line with its sum, whose reply is this value.
-fn carried_link(
-    alloc: Global,
-    receipt: &Receipt,
-    command: &Command,
-    reply: Value,
-    sum: &str,
-) -> Result<Value, AllocError>
-    ensures { IfOk result (λ value. view value
-        ≡ link_data (carried receipt.now (asked command.now) (view reply)) sum.now) }
+/// The value of a line with its sum.
+pub(crate) fn with_sum(alloc: Global, line: Value, sum: &str) -> Result<Value, AllocError>
+    ensures { IfOk result (λ value. view value ≡ with_sum sum.now (view line)) }
 {
-    let sum = Value::try_from_str(alloc, sum)?;
-    let login = login_value(alloc, &receipt.login)?;
-    let command = command_value(alloc, command)?;
-    json!(in alloc; {
-        "command": command,
-        "login": login,
-        "number": receipt.number,
-        "received": receipt.received,
-        "reply": reply,
-        "sum": sum
-    })
-}
-
-/// The value of an update's line with its sum.
-pub(crate) fn updated_link(
-    alloc: Global,
-    receipt: &Receipt,
-    changes: &Changes,
-    sum: &str,
-) -> Result<Value, AllocError>
-    ensures { IfOk result (λ value. view value
-        ≡ link_data (carried receipt.now (update (as_changes changes.now)) done) sum.now) }
-{
-    let sum = Value::try_from_str(alloc, sum)?;
-    let updated = changes_value(alloc, changes)?;
-    json!(in alloc; {
-        "number": receipt.number,
-        "received": receipt.received,
-        "sum": sum,
-        "updated": updated
-    })
-}
-
-/// The value of an archive's line with its sum.
-pub(crate) fn archived_link(
-    alloc: Global,
-    receipt: &Receipt,
-    before: Moment,
-    sum: &str,
-) -> Result<Value, AllocError>
-    ensures { IfOk result (λ value. view value
-        ≡ link_data (carried receipt.now (archive before) done) sum.now) }
-{
-    let sum = Value::try_from_str(alloc, sum)?;
-    let archived = before_value(alloc, before)?;
-    json!(in alloc; {
-        "archived": archived,
-        "number": receipt.number,
-        "received": receipt.received,
-        "sum": sum
-    })
-}
-
-/// The value of a line that withdraws the deed of a number, with its sum.
-pub(crate) fn withdrawn_link(alloc: Global, number: u64, sum: &str) -> Result<Value, AllocError>
-    ensures { IfOk result (λ value. view value ≡ link_data (withdrawn number) sum.now) }
-{
-    let sum = Value::try_from_str(alloc, sum)?;
-    json!(in alloc; {"number": number, "sum": sum, "withdrawn": true})
+    match line {
+        Value::Object(mut members) => {
+            let sum = Value::try_from_str(alloc, sum)?;
+            put(&mut members, alloc, "sum", sum)?;
+            Ok(Value::Object(members))
+        }
+        other => Ok(other),
+    }
 }
 
 /// The value of a line that was read, without a sum.
@@ -115,31 +52,6 @@ fn carried_value(alloc: Global, line: &Carried) -> Result<Value, AllocError>
     }
 }
 
-/// The value of a line that was read, with a sum.
-fn link_value(alloc: Global, line: &Line, sum: &str) -> Result<Value, AllocError>
-    ensures { IfOk result (λ value. view value ≡ link_data (entry_of line.now) sum.now) }
-{
-    match line {
-        Line::Carried(carried) => deed_link(alloc, carried, sum),
-        Line::Withdrawn(number) => withdrawn_link(alloc, *number, sum),
-    }
-}
-
-/// The value of a deed and its reply, with a sum.
-fn deed_link(alloc: Global, line: &Carried, sum: &str) -> Result<Value, AllocError>
-    ensures { IfOk result (λ value. view value ≡ link_data
-        (carried line.now.receipt (deed_of line.now.deed) (view line.now.reply)) sum.now) }
-{
-    match &line.deed {
-        Deed::Command(command) => {
-            let reply = line.reply.clone()?;
-            carried_link(alloc, &line.receipt, command, reply, sum)
-        }
-        Deed::Update(changes) => updated_link(alloc, &line.receipt, changes, sum),
-        Deed::Archive(before) => archived_link(alloc, &line.receipt, *before, sum),
-    }
-}
-
 /// Whether the reply of a line has a number that is no whole number.
 pub(crate) fn has_fraction(line: &Line) -> bool
     ensures { result ≡ has_fraction (entry_of line.now) }
@@ -164,7 +76,8 @@ fn link_text(alloc: Global, line: &Line, sum: &str) -> Result<Vec<u8>, AllocErro
     requires { has_fraction (entry_of line.now) ≡ false }
     ensures { IfOk result (λ text. text.items ≡ link_text (entry_of line.now) sum.now) }
 {
-    let value = link_value(alloc, line, sum)?;
+    let line = line_value(alloc, line)?;
+    let value = with_sum(alloc, line, sum)?;
     value.to_vec(alloc)
 }
 

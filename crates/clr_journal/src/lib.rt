@@ -29,8 +29,8 @@ pub use lines::first_line;
 pub use on_disk::OnDisk;
 pub use opening::cut_at;
 pub use print::{
-    archived_value, before_value, commanded_value, login_value, print_archived, print_carried,
-    print_updated, print_withdrawn, updated_value, withdrawn_value,
+    archived_value, commanded_value, print_archived, print_carried, print_updated, print_withdrawn,
+    updated_value, withdrawn_value,
 };
 pub use read::{done_value, read_line};
 pub use reading::Turn;

@@ -160,14 +160,14 @@ pub fn archived_value(alloc: Global, receipt: &Receipt, before: Moment) -> Resul
 }
 
 /// What a line says of an archive.
-pub fn before_value(alloc: Global, before: Moment) -> Result<Value, AllocError>
+fn before_value(alloc: Global, before: Moment) -> Result<Value, AllocError>
     ensures { IfOk result (λ value. view value ≡ archive_data before) }
 {
     json!(in alloc; {"before": before.seconds()})
 }
 
 /// A login as a JSON value: a text, or null.
-pub fn login_value(alloc: Global, login: &Option<Text>) -> Result<Value, AllocError>
+fn login_value(alloc: Global, login: &Option<Text>) -> Result<Value, AllocError>
     ensures { IfOk result (λ value. view value ≡ optional_data string login.now) }
 {
     match login {

@@ -1,4 +1,4 @@
-use Rattle.std.proofs.Common.{◌≡◌, ◌∙◌, ◌^◌, true, false, nat_lt, ap, arith, refl, string_bytes, subst}
+use Rattle.std.proofs.Common.{◌≡◌, ◌∙◌, ◌^◌, true, false, nat_lt, ap, ap₂, arith, refl, string_bytes, subst}
 use Rattle.std.proofs.lemmas.Bool.{and_from, le-leb}
 use Rattle.std.proofs.lemmas.Str.{is_utf8-from_IsUtf8}
 use Rattle.std.specs.Str.{IsUtf8, is_utf8}
@@ -8,7 +8,7 @@ use Rattle.clr_changes.specs.Deeds.{archive}
 use Rattle.clr_rules.specs.Moment.{is_moment}
 use Rattle.clr_journal.specs.Laws.{can_be_written, is_done}
 use Rattle.clr_journal.specs.Line.{Entry, bare, carried, done}
-use Rattle.clr_chain.specs.Link.{link_data, link_text, read_link}
+use Rattle.clr_chain.specs.Link.{link_data, link_text, read_link, with_sum}
 use Rattle.clr_chain.proofs.LinksBack.{links_back}
 use Rattle.clr_chain.proofs.NoFloats.{link_has_none}
 use Rattle.clr_chain.proofs.print.print_archived.Goals as goal
@@ -20,7 +20,7 @@ returns-clause-reads c =
     let sum = c.in_ok-sum.sum in
     let receipt = c.args.receipt.now in
     let entry : Entry = carried (bare receipt) (archive c.args.moment) done in
-    let e : view c.in_ok-value.value ≡ link_data entry sum = c.in_ok-value.ensures ∙ ap (link_data entry) c.as_str-2.ensures in
+    let e : view c.in_ok-value.value ≡ link_data entry sum = c.in_ok-value.ensures ∙ ap₂ with_sum c.as_str-2.ensures c.in_ok-plain.ensures in
     let none : has_float (view c.in_ok-value.value) ≡ false = ap has_float e ∙ link_has_none entry sum refl in
     let text : string_bytes c.in_ok-text.text ≡ link_text entry sum = c.in_ok-text.ensures.text none ∙ ap compact_text e in
     let numbered : nat_lt receipt.number (2 ^ 64) ≡ true = c.is_number.ensures in
