@@ -1,6 +1,6 @@
 -- LAWS OF CHAINS
 use Rattle.std.specs.Prelude.{◌≡◌, ◌≢◌, ◌≤◌, ◌⊎◌, ℕ, true, false, List, [], ◌∷◌, ◌++◌, length}
-use Rattle.std.specs.Prelude.{◌^◌, bytes_eq, map, nat_lt, take, Some, ⊤}
+use Rattle.std.specs.Prelude.{◌^◌, bytes_eq, map, nat_lt, take, Some}
 use Rattle.std.specs.List.{AllByRecursion, list_any}
 use Rattle.std.specs.Str.{is_utf8}
 use Rattle.clr_journal.specs.Lines.{ended_lines, is_line_feed, text_of, with_feed}

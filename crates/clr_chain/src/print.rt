@@ -11,9 +11,7 @@ ghost use Rattle.clr_chain.specs.Sums.{sum_after};
 
 use crate::sums::sum_of;
 use crate::values::with_sum;
-use clr_journal::{
-    Changes, Receipt, archived_value, can_be_said, updated_value, withdrawn_value,
-};
+use clr_journal::{Changes, Receipt, archived_value, can_be_said, updated_value, withdrawn_value};
 use clr_rules::{Command, Moment, Reply, Text};
 use serde_json::Value;
 use std::alloc::{AllocError, Global};

@@ -1,15 +1,12 @@
 -- Changes that can be said are read from their value, and that is plain.
-use Rattle.std.proofs.Common.{◌≡◌, ◌∙◌, ◌≤◌, ℕ, Bool, true, ◌&&◌, List, [], ◌∷◌, Option, None, Some, length, Ok, refl, ap, sym, arith, map, option_map, option_and_then, le-ltb, ne_eqb}
+use Rattle.std.proofs.Common.{◌≡◌, ◌∙◌, ◌≤◌, ℕ, Bool, true, ◌&&◌, List, [], ◌∷◌, Option, None, Some, refl, ap, sym, arith, option_map, option_and_then}
 use Rattle.std.proofs.lemmas.Bool.{and_from, and_parts, false≢true}
 use Rattle.std.proofs.lemmas.Str.{is_utf8-from_IsUtf8}
 use Rattle.std.specs.List.{list_all}
-use Rattle.std.specs.Prelude.{codes}
-use Rattle.json.proofs.Printed.Utf8.{IsUtf8-are_ascii, are_ascii}
-use Rattle.serde_json.specs.Data.{Data, Members, boolean, depth, items_depth, member, no_members, string}
-use Rattle.serde_json.specs.View.{items_of}
-use Rattle.clr_net.proofs.Names.{name_has_none, name_is_text, name_parts}
+use Rattle.json.proofs.Printed.Utf8.{IsUtf8-are_ascii}
+use Rattle.serde_json.specs.Data.{Data, depth, string}
+use Rattle.clr_net.proofs.Names.{name_is_text}
 use Rattle.clr_net.specs.Name.{is_name}
-use Rattle.clr_net.specs.NameText.{read_name}
 use Rattle.clr_net.specs.declared.point.PointRow.{PointRow}
 use Rattle.clr_net.specs.declared.point.Position.{Position}
 use Rattle.clr_net.specs.declared.point.Position.TheVariants.{Closed, Opened}
@@ -20,9 +17,9 @@ use Rattle.clr_staff.specs.declared.employee.StaffRow.{StaffRow}
 use Rattle.clr_text.proofs.PlainTexts.{members_of, object_plain}
 use Rattle.clr_text.proofs.RepliesFlat.{list_is_flat, optional_is_flat}
 use Rattle.clr_text.proofs.SaidReads.{all_back, all_plain, name_reads_back}
-use Rattle.clr_text.specs.CommandLaws.{is_plain, items_are_plain}
+use Rattle.clr_text.specs.CommandLaws.{is_plain}
 use Rattle.clr_text.specs.Json.{list_data, name_data, optional_data, position_text, role_text}
-use Rattle.clr_text.specs.Values.{all_read, name_in}
+use Rattle.clr_text.specs.Values.{name_in}
 use Rattle.clr_update.specs.Changes.{Changes}
 use Rattle.clr_journal.specs.Delta.{both_data, can_be_said, changes_data, changes_in, list_in}
 use Rattle.clr_journal.specs.DeltaLaws.{ChangesReadBack, ChangeValuesArePlain}

@@ -62,11 +62,7 @@ impl ClockOffset {
 
 /// A moment as a clock at the offset shows it, and the offset: 26 bytes, as `1970-01-01 00:01:44
 /// +00:00`.
-pub fn moment_text(
-    alloc: Global,
-    moment: Moment,
-    offset: ClockOffset,
-) -> Result<String, AllocError>
+pub fn moment_text(alloc: Global, moment: Moment, offset: ClockOffset) -> Result<String, AllocError>
     ensures { IfOk result (λ text. string_bytes text ≡ moment_text moment offset) }
 {
     text_at(alloc, moment.seconds(), offset.minutes())

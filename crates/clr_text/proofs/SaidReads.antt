@@ -5,7 +5,7 @@ use Rattle.std.proofs.lemmas.Str.{IsUtf8-append, is_utf8-from_IsUtf8}
 use Rattle.std.specs.List.{list_all}
 use Rattle.std.specs.Str.{is_utf8}
 use Rattle.json.proofs.Printed.Utf8.{IsUtf8-are_ascii}
-use Rattle.serde_json.specs.Data.{Data, boolean, depth, items_depth, string}
+use Rattle.serde_json.specs.Data.{Data, boolean, depth, string}
 use Rattle.serde_json.specs.View.{items_of}
 use Rattle.clr_net.specs.Name.{is_name}
 use Rattle.clr_net.specs.NameText.{read_name}
