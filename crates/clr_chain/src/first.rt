@@ -2,14 +2,13 @@
 ghost use Rattle.std.specs.Prelude.{◌≡◌, IfOk, option_map, string_bytes, take};
 ghost use Rattle.serde_json.specs.Find.{as_str};
 ghost use Rattle.serde_json.specs.View.{view};
-ghost use Rattle.clr_text.specs.Reading.{value_of};
 ghost use Rattle.clr_journal.specs.Line.{at_key};
 ghost use Rattle.clr_chain.specs.First.{CanBePrinted, first_data_by, first_text, first_text_by};
 ghost use Rattle.clr_chain.specs.First.{other_rules_in, place_in, read_first};
 ghost use Rattle.clr_chain.specs.Finding.{first_of, other_rules_of};
 
 use crate::values::is_same;
-use clr_journal::first_line;
+use clr_journal::{first_line, value_of};
 use clr_rules::{Place, Text};
 use serde_json::{Value, json};
 use std::alloc::{AllocError, Global};
@@ -123,22 +122,6 @@ pub fn other_rules_in(alloc: Global, text: &[u8]) -> Result<Option<u64>, AllocEr
         Ok(Some(number))
     } else {
         Ok(None)
-    }
-}
-
-/// The JSON value of a text, if it has one.
-#[tactic(auto, unfolding(clr_text::specs::Reading::value_of))]
-pub(crate) fn value_of(alloc: Global, text: &[u8]) -> Result<Option<Value>, AllocError>
-    ensures { IfOk result (λ value. option_map view value ≡ value_of text.now) }
-{
-    match Value::from_slice(alloc, text) {
-        Ok(value) => Ok(Some(value)),
-        Err(error) => {
-            if error.is_memory() {
-                return Err(AllocError);
-            }
-            Ok(None)
-        }
     }
 }
 

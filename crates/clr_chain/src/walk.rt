@@ -7,9 +7,9 @@ ghost use Rattle.clr_chain.specs.Walking.{end_said, end_unread, goes_on, part_of
 ghost use Rattle.clr_chain.specs.Walking.{step_of, sum_bytes, sum_said};
 
 use crate::chain_end::{ChainEnd, next_link};
-use crate::first::{read_first, text_at, value_of};
+use crate::first::{read_first, text_at};
 use crate::values::is_same;
-use clr_journal::{Line, Turn, read_line};
+use clr_journal::{Line, Turn, read_line, value_of};
 use clr_rules::{Place, Text};
 use std::alloc::{AllocError, Global};
 

@@ -32,5 +32,5 @@ pub use print::{
     archived_value, commanded_value, print_archived, print_carried, print_updated, print_withdrawn,
     updated_value, withdrawn_value,
 };
-pub use read::{done_value, read_line};
+pub use read::{done_value, read_line, value_of};
 pub use reading::Turn;

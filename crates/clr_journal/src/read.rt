@@ -32,7 +32,7 @@ pub fn read_line(alloc: Global, bytes: &[u8]) -> Result<Option<Line>, AllocError
 
 /// The JSON value of a text, if it has one.
 #[tactic(auto, unfolding(clr_text::specs::Reading::value_of))]
-fn value_of(alloc: Global, bytes: &[u8]) -> Result<Option<Value>, AllocError>
+pub fn value_of(alloc: Global, bytes: &[u8]) -> Result<Option<Value>, AllocError>
     ensures { IfOk result (λ value. option_map view value ≡ value_of bytes.now) }
 {
     match Value::from_slice(alloc, bytes) {
