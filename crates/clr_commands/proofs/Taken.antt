@@ -1,11 +1,13 @@
 -- What an archive sends and takes out, by what a desk and the output say of it.
-use Rattle.std.proofs.Common.{◌≡◌, Bool, Err, List, Ok, OnOk, inl, inr, refl, subst, ℕ}
+use Rattle.std.proofs.Common.{◌≡◌, Bool, Err, List, None, Ok, OnOk, inl, inr, map, refl, subst, ℕ}
 use Rattle.std.specs.Prelude.{IfErr, IsErrAnd, IsTrue, OnErr}
+use Rattle.std.proofs.lemmas.Result.{on_ok_weaker}
 use Rattle.sqlite.specs.State.{HasCleanDisk, State, Survives}
 use Rattle.sqlite.proofs.StateLemmas.{survives_weaker}
 use Rattle.clr_journal.specs.declared.journal.Journal as append
-use Rattle.clr_changes.specs.Archive.{archived}
+use Rattle.clr_changes.specs.Archive.{archived, steps_that_go}
 use Rattle.clr_changes.specs.Deeds.{Deed, archive}
+use Rattle.clr_desk.proofs.Archived.{tables_archived}
 use Rattle.clr_desk.specs.Archiving.{AreArchived}
 use Rattle.clr_desk.specs.Faults.{IsOfKeeper}
 use Rattle.clr_desk.specs.Placing.{Placing}
@@ -13,13 +15,16 @@ use Rattle.clr_desk.specs.Taking.{Came}
 use Rattle.clr_desk.specs.declared.desk.Desk.{Desk}
 use Rattle.clr_desk.specs.declared.desk_fault.DeskFault.{DeskFault}
 use Rattle.clr_load.specs.Contract.{IsSaved}
-use Rattle.clr_load.specs.Stored.{HasTables}
+use Rattle.clr_load.specs.Stored.{AreTables, HasTables}
 use Rattle.clr_level.specs.Crash.{KeepsTables}
 use Rattle.clr_level.specs.Placing.{StaysShown}
 use Rattle.clr_level.specs.Renewing.{AreDoneSafely, RenewsAt}
 use Rattle.clr_level.specs.declared.keeper.Keeper.{Keeper}
 use Rattle.clr_rules.specs.Good.{IsGood}
 use Rattle.clr_rules.specs.Register.{Register}
+use Rattle.clr_rules.specs.StepKey.{step_key}
+use Rattle.clr_store.specs.StepsTaken.{without_steps}
+use Rattle.clr_store.specs.Transaction.{PlacesAs, Transacts}
 use Rattle.clr_stream.specs.Streams.{IsCut, Stream}
 use Rattle.clr_load.specs.Tables.{tables_of}
 use Rattle.clr_edge.specs.Visit.{Done}
@@ -35,7 +40,7 @@ done_of-fault fails (Err cause) of = (cause, refl, of)
 
 -- ---- what left the tables
 
-pub taken_by : {K : Type 0} (kept : K → State) (before : ℕ) (R : Register) (read after : K) (came : Came)
+taken_by : {K : Type 0} (kept : K → State) (before : ℕ) (R : Register) (read after : K) (came : Came)
     → (HasCleanDisk (kept after) → HasTables (kept read).now (tables_of R) → OnOk came (HasTables (kept after).now (tables_of (archived before R))))
     → (HasCleanDisk (kept after) → OnOk came (IsSaved (kept after)))
     → (HasCleanDisk (kept after) → IsTrue (kept after).is_open → OnErr came ((kept after).now ≡ (kept read).now))
@@ -43,6 +48,13 @@ pub taken_by : {K : Type 0} (kept : K → State) (before : ℕ) (R : Register) (
     → TakesOut kept before R (done_of came) read after
 taken_by kept before R read after (Ok value) taken saved none crash = record { taken = taken; saved = saved; none = λ clean is_open. tt; crash = crash }
 taken_by kept before R read after (Err cause) taken saved none crash = record { taken = λ clean has. tt; saved = λ clean. tt; none = none; crash = crash }
+
+pub taken_out : {K : Type 0} {fails : State → State → DeskFault → Type 0} (kept : K → State) (before : ℕ) (R : Register) (read after : K) (came : Came)
+    → Transacts (PlacesAs None) fails (kept read) (kept after) (without_steps (map step_key (steps_that_go before R))) came → TakesOut kept before R (done_of came) read after
+taken_out kept before R read after came it =
+    taken_by kept before R read after came
+    (λ clean has. on_ok_weaker came (λ made. subst (HasTables (kept after).now) (tables_archived before R) (made (tables_of R) has).0) (it.made clean)) it.saved it.none
+    (survives_weaker (kept read) (kept after) _ (AreArchived (kept read).now before R) (λ _ trees left has. subst (AreTables trees) (tables_archived before R) (left (tables_of R) has).0) it.crash)
 
 -- the same at a desk with a journal, which renews its register
 pub taken_with : {K J C : Type 0} (kept : K → State) (has_place : Placing) (fails : DeskFault → Type 0) (shows : C → ℕ → Type 0) (text found : J → List ℕ)

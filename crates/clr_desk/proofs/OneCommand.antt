@@ -1,5 +1,6 @@
 -- One command: what its answer changes in the register, in the tables and in what a crash leaves.
 use Rattle.std.proofs.Common.{◌≡◌, ◌∙◌, false, List, [], sym, ap, subst}
+use Rattle.std.specs.Prelude.{⊤}
 use Rattle.sqlite.specs.State.{State, Survives}
 use Rattle.sqlite.proofs.StateLemmas.{survives_weaker}
 use Rattle.clr_net.specs.Grid.{Grid}
@@ -16,7 +17,7 @@ use Rattle.clr_rules.proofs.edits.PlainEdits.{answers_with_plain}
 use Rattle.clr_book.proofs.Enough.{own_rows_are_enough}
 use Rattle.clr_book.specs.Growth.{network_after_all}
 use Rattle.clr_book.proofs.BookEdits.{plain_network}
-use Rattle.clr_store.specs.Contract.{AreEdited}
+use Rattle.clr_store.specs.Transaction.{AreTurned}
 use Rattle.clr_load.specs.Stored.{AreTables}
 use Rattle.clr_load.specs.TableEdits.{tables_edited}
 use Rattle.clr_load.specs.Tables.{tables_of}
@@ -67,10 +68,10 @@ tables_after R q edits is good =
 
 -- what a crash of its commit leaves
 pub crash_after : (old new : State) (R : Register) (q : Command) (edits : List Edit) → edits ≡ Answer.edits (asked_answer R q)
-    → Survives old new (AreEdited old.now edits) → Survives old new (AreAfter old.now R q)
+    → Survives old new (AreTurned (λ _ _. ⊤) (tables_edited edits) old.now) → Survives old new (AreAfter old.now R q)
 crash_after old new R q edits is survives =
-    survives_weaker old new (AreEdited old.now edits) (AreAfter old.now R q)
-    (λ clean db edited good has. subst (AreTables db) (tables_after R q edits is good) (edited (tables_of R) has)) survives
+    survives_weaker old new (AreTurned (λ _ _. ⊤) (tables_edited edits) old.now) (AreAfter old.now R q)
+    (λ clean db edited good has. subst (AreTables db) (tables_after R q edits is good) (edited (tables_of R) has).0) survives
 
 -- ---- a fault
 

@@ -11,14 +11,15 @@ use Rattle.clr_load.specs.Stored.{AreTables, HasTables}
 use Rattle.clr_load.specs.Tables.{Tables, tables_of}
 use Rattle.clr_load.specs.TypedRows.{IsTyped}
 use Rattle.clr_desk.specs.Faults.{IsOfKeeper}
-use Rattle.clr_desk.specs.Placing.{Placing, TurnsAt}
+use Rattle.clr_store.specs.Transaction.{Transacts}
+use Rattle.clr_desk.specs.Placing.{Placing, SetsPlace, StaysOpen}
 use Rattle.clr_desk.specs.Renewing.{AreComeTo, ComesTo}
 use Rattle.clr_desk.specs.declared.desk.Desk.{Desk}
 use Rattle.clr_desk.specs.declared.desk_fault.DeskFault.{DeskFault}
 use Rattle.clr_desk.specs.declared.desk_fault.DeskFault.TheVariants.{NoMemory}
 
 -- what is not touched stays
-stays_so : (s : State) (P : Trees → Type 0) → Survives s s P
+pub stays_so : (s : State) (P : Trees → Type 0) → Survives s s P
 stays_so s P = record { clean = omega arith; shield = λ shielded. shielded; counts = omega arith; limit = refl; closes = λ _ is_open. inl is_open; crash = λ _ db left. inl left }
 
 module _ {K : Type 0} (kept : K → State) (has_place : Placing) (fails : DeskFault → Type 0) (So : Type 0) (old new : Desk K) (S : Register) (place : Place) where
@@ -27,12 +28,12 @@ module _ {K : Type 0} (kept : K → State) (has_place : Placing) (fails : DeskFa
 
   module _ (turned : Tables → Tables) (so : So) (same : turned (tables_of old.book.register) ≡ tables_of S) where
     -- its tables turn into those of the other, with the place
-    left_so : (result : Result (Unit {0}) DeskFault) → TurnsAt has_place (kept old.store) (kept new.store) turned place result → Survives (kept old.store) (kept new.store) left
+    left_so : (result : Result (Unit {0}) DeskFault) → Transacts (SetsPlace has_place place) StaysOpen (kept old.store) (kept new.store) turned result → Survives (kept old.store) (kept new.store) left
     left_so result it =
         survives_weaker (kept old.store) (kept new.store) _ left
         (λ _ trees may has. let both = may (tables_of old.book.register) has in (so, subst (AreTables trees) same both.0, both.1)) it.crash
 
-    pub came_to : TurnsAt {X = Unit {0}} has_place (kept old.store) (kept new.store) turned place (Ok tt) → (IsGood old.book.register → new.book.register ≡ S) → (IsTyped old.book.register → IsTyped S)
+    pub came_to : Transacts {X = Unit {0}} (SetsPlace has_place place) StaysOpen (kept old.store) (kept new.store) turned (Ok tt) → (IsGood old.book.register → new.book.register ≡ S) → (IsTyped old.book.register → IsTyped S)
         → ComesTo {X = Unit {0}} kept has_place fails So old new S place (Ok tt)
     came_to it register typed = record {
       register = register;
@@ -43,13 +44,13 @@ module _ {K : Type 0} (kept : K → State) (has_place : Placing) (fails : DeskFa
       shown = λ clean t has. let both = it.made clean t has in (turned t, both.0, both.1);
       none = λ clean shown. tt;
       was_open = it.was_open;
-      stays_open = λ clean is was. it.stays_open clean is;
+      stays_open = λ clean is was. absurd (cc is);
       saved = it.saved;
       still_saved = λ clean shown before. tt;
       survives = left_so (Ok tt) it;
     }
 
-    pub not_come : (fault : DeskFault) → TurnsAt {X = Unit {0}} has_place (kept old.store) (kept new.store) turned place (Err fault) → new.book ≡ old.book → IsOfKeeper fails fault
+    pub not_come : (fault : DeskFault) → Transacts {X = Unit {0}} (SetsPlace has_place place) StaysOpen (kept old.store) (kept new.store) turned (Err fault) → new.book ≡ old.book → IsOfKeeper fails fault
         → ComesTo {X = Unit {0}} kept has_place fails So old new S place (Err fault)
     not_come fault it book cause = record {
       register = λ good. tt;
@@ -60,9 +61,9 @@ module _ {K : Type 0} (kept : K → State) (has_place : Placing) (fails : DeskFa
       shown = λ clean t has. tt;
       none = it.none;
       was_open = it.was_open;
-      stays_open = λ clean is was. it.stays_open clean is;
+      stays_open = λ clean is was. it.fault.stays_open clean (cc is);
       saved = λ clean. tt;
-      still_saved = it.still_saved;
+      still_saved = it.fault.saved;
       survives = left_so (Err fault) it;
     }
 
@@ -85,9 +86,9 @@ module _ {K : Type 0} (kept : K → State) (has_place : Placing) (fails : DeskFa
 
 -- what turned at one keeper turned at the same one
 pub turned_from : {K X : Type 0} (kept : K → State) (has_place : Placing) (a b c d : K) (turned : Tables → Tables) (place : Place) (result : Result X DeskFault) → a ≡ c → b ≡ d
-    → TurnsAt has_place (kept a) (kept b) turned place result → TurnsAt has_place (kept c) (kept d) turned place result
+    → Transacts (SetsPlace has_place place) StaysOpen (kept a) (kept b) turned result → Transacts (SetsPlace has_place place) StaysOpen (kept c) (kept d) turned result
 turned_from kept has_place a b c d turned place result first second it =
-    subst (λ k. TurnsAt has_place (kept k) (kept d) turned place result) first (subst (λ k. TurnsAt has_place (kept a) (kept k) turned place result) second it)
+    subst (λ k. Transacts (SetsPlace has_place place) StaysOpen (kept k) (kept d) turned result) first (subst (λ k. Transacts (SetsPlace has_place place) StaysOpen (kept a) (kept k) turned result) second it)
 
 pub one_desk : {K : Type 0} (a b : Desk K) → a.book ≡ b.book → a.store ≡ b.store → a.faults ≡ b.faults → a ≡ b
 one_desk a b book store faults = λ i. record { book = book i; store = store i; faults = faults i }

@@ -1,15 +1,11 @@
 //! An archive of the register of a desk: the steps of its past records leave the tables.
-ghost use Rattle.std.specs.Prelude.{◌≡◌, ⊤, IfErr, IfOk, IsTrue, OnErr, OnOk, map};
+ghost use Rattle.std.specs.Prelude.{◌≡◌, ⊤, IfOk, None, map};
 ghost use Rattle.sqlite.specs.Held.{state};
-ghost use Rattle.sqlite.specs.State.{HasCleanDisk, Survives};
 ghost use Rattle.clr_changes.specs.Archive.{archived, steps_that_go};
 ghost use Rattle.clr_rules.specs.StepKey.{step_key};
-ghost use Rattle.clr_load.specs.Contract.{IsSaved};
-ghost use Rattle.clr_load.specs.Stored.{HasTables};
-ghost use Rattle.clr_load.specs.Tables.{tables_of};
-ghost use Rattle.clr_store.specs.Contract.{KeepsPlace};
+ghost use Rattle.clr_store.specs.StepsTaken.{without_steps};
+ghost use Rattle.clr_store.specs.Transaction.{PlacesAs, Transacts};
 ghost use Rattle.clr_desk.specs.Answering.{fault_of};
-ghost use Rattle.clr_desk.specs.Archiving.{AreArchived};
 ghost use Rattle.clr_desk.specs.Faults.{IsOfCommand, count_after};
 ghost use Rattle.clr_desk.specs.Planning.{IsLeft};
 ghost use Rattle.clr_desk.specs.Renewing.{ComesTo};
@@ -32,20 +28,9 @@ impl<S: Alter + Drop> Desk<Store<S>> {
     /// `Store(Sql)` where the database refuses or fails, `NoMemory` where memory runs out. On a
     /// fault the tables are as they were. A place in a journal stays as it is.
     pub fn archive(self, alloc: Global, before: Moment) -> (Result<(), DeskFault>, Store<S>)
-        ensures archived { HasCleanDisk (state S.Store result.1)
-            → HasTables (state S.Store self.store).now (tables_of self.book.register)
-            → OnOk result.0 (HasTables (state S.Store result.1).now
-            (tables_of (archived before self.book.register))) }
-        ensures placed { HasCleanDisk (state S.Store result.1) → OnOk result.0
-            (KeepsPlace (state S.Store self.store).now (state S.Store result.1).now) }
-        ensures saved { HasCleanDisk (state S.Store result.1)
-            → OnOk result.0 (IsSaved (state S.Store result.1)) }
-        ensures none { HasCleanDisk (state S.Store result.1)
-            → IsTrue (state S.Store result.1).is_open → OnErr result.0
-            ((state S.Store result.1).now ≡ (state S.Store self.store).now) }
-        ensures cause { IfErr result.0 IsOfCommand }
-        ensures crash { Survives (state S.Store self.store) (state S.Store result.1)
-            (AreArchived (state S.Store self.store).now before self.book.register) }
+        ensures { Transacts (PlacesAs None) (λ _ _. IsOfCommand) (state S.Store self.store)
+            (state S.Store result.1)
+            (without_steps (map step_key (steps_that_go before self.book.register))) result.0 }
     {
         let (book, mut store) = self.parted();
         let done = archive_tables(alloc, &mut store, &book, before);
@@ -68,23 +53,12 @@ fn archive_tables<S: Alter + Drop>(
     book: &DeskBook,
     before: Moment,
 ) -> Result<(), DeskFault>
-    ensures archived { HasCleanDisk (state S.Store store.new)
-        → HasTables (state S.Store store.old).now (tables_of book.now.register)
-        → OnOk result (HasTables (state S.Store store.new).now
-        (tables_of (archived before book.now.register))) }
-    ensures placed { HasCleanDisk (state S.Store store.new) → OnOk result
-        (KeepsPlace (state S.Store store.old).now (state S.Store store.new).now) }
-    ensures saved { HasCleanDisk (state S.Store store.new)
-        → OnOk result (IsSaved (state S.Store store.new)) }
-    ensures none { HasCleanDisk (state S.Store store.new)
-        → IsTrue (state S.Store store.new).is_open → OnErr result
-        ((state S.Store store.new).now ≡ (state S.Store store.old).now) }
-    ensures cause { IfErr result IsOfCommand }
-    ensures crash { Survives (state S.Store store.old) (state S.Store store.new)
-        (AreArchived (state S.Store store.old).now before book.now.register) }
+    ensures { Transacts (PlacesAs None) (λ _ _. IsOfCommand) (state S.Store store.old)
+        (state S.Store store.new)
+        (without_steps (map step_key (steps_that_go before book.now.register))) result }
 {
     let keys = keys_of(alloc, book, before)?;
-    store.take_steps(keys.as_slice())?;
+    store.take_steps(keys.as_slice(), None)?;
     Ok(())
 }
 

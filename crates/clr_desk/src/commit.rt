@@ -1,12 +1,15 @@
 //! What keeps the changes of a desk: a store, or nothing.
 ghost use Rattle.std.specs.Prelude.{◌≡◌, ℕ, Bool, IfErr, IsTrue, List, Option, Result, false, true};
+ghost use Rattle.std.specs.Prelude.{⊤};
 ghost use Rattle.sqlite.specs.Held.{state};
 ghost use Rattle.sqlite.specs.State.{State};
 ghost use Rattle.sqlite.specs.Tree.{Trees};
 ghost use Rattle.clr_rules.specs.declared.command.Command.{Command};
 ghost use Rattle.clr_rules.specs.declared.reply.Reply.{Reply};
 ghost use Rattle.clr_answer.specs.Decision.{is_accepted};
-ghost use Rattle.clr_desk.specs.Commit.{Commits, Stays, nothing};
+ghost use Rattle.clr_load.specs.TableEdits.{tables_edited};
+ghost use Rattle.clr_store.specs.Transaction.{Transacts};
+ghost use Rattle.clr_desk.specs.Commit.{Stays, StaysSaved, nothing};
 ghost use Rattle.clr_desk.specs.Faults.{FailsAsStore, IsOfKeeper};
 ghost use Rattle.clr_desk.specs.Taking.{NeverFails, PassesOver, is_refused};
 ghost use Rattle.clr_desk.specs.declared.desk_fault.DeskFault.{DeskFault};
@@ -50,7 +53,8 @@ pub trait Commit: Drop {
         change: &Change,
     ) -> Result<(), DeskFault>
         requires accepted { is_accepted reply.now ≡ true }
-        ensures commits { Commits (kept self.old) (kept self.new) change.now.edits.items result }
+        ensures commits { Transacts (λ _ _. ⊤) StaysSaved (kept self.old) (kept self.new)
+            (tables_edited change.now.edits.items) result }
         ensures fault { IfErr result (IsOfKeeper fails) }
         ensures taken { takes self.old login command.now reply.now result self.new };
 
@@ -94,7 +98,7 @@ impl<S: Alter + Drop> Commit for Store<S> {
         reply: &Reply,
         change: &Change,
     ) -> Result<(), DeskFault> {
-        self.commit(change)?;
+        self.commit(change, None)?;
         Ok(())
     }
 

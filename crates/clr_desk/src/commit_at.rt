@@ -5,10 +5,12 @@ ghost use Rattle.clr_answer.specs.Decision.{is_accepted};
 ghost use Rattle.clr_rules.specs.declared.place.Place.{Place};
 ghost use Rattle.clr_load.specs.Tables.{place_row};
 ghost use Rattle.clr_load.specs.Stored.{ArePlaced};
+ghost use Rattle.clr_load.specs.TableEdits.{tables_edited};
 ghost use Rattle.clr_store.specs.Renewed.{AreStatesOf, tables_renewed};
 ghost use Rattle.clr_store.specs.StepsTaken.{without_steps};
+ghost use Rattle.clr_store.specs.Transaction.{Transacts};
 ghost use Rattle.clr_desk.specs.Faults.{IsOfKeeper};
-ghost use Rattle.clr_desk.specs.Placing.{CommitsAt, TurnsAt};
+ghost use Rattle.clr_desk.specs.Placing.{SetsPlace, StaysOpen};
 
 use crate::commit::Commit;
 use crate::desk_fault::DeskFault;
@@ -35,15 +37,16 @@ pub trait CommitAt: Commit {
         place: &Place,
     ) -> Result<(), DeskFault>
         requires accepted { is_accepted reply.now ≡ true }
-        ensures commits { CommitsAt has_place (Self.kept self.old) (Self.kept self.new)
-            change.now.edits.items place.now result }
+        ensures commits { Transacts (SetsPlace has_place place.now) StaysOpen
+            (Self.kept self.old) (Self.kept self.new) (tables_edited change.now.edits.items)
+            result }
         ensures fault { IfErr result (IsOfKeeper Self.fails) }
         ensures taken { Self.takes self.old None command.now reply.now result self.new };
 
     /// Keeps a place, where no command changes anything. Where it is not kept, all stays as it is.
     fn move_to(&mut self, alloc: Global, place: &Place) -> Result<(), DeskFault>
-        ensures commits { CommitsAt has_place (Self.kept self.old) (Self.kept self.new)
-            [] place.now result }
+        ensures commits { Transacts (SetsPlace has_place place.now) StaysOpen
+            (Self.kept self.old) (Self.kept self.new) (tables_edited []) result }
         ensures fault { IfErr result (IsOfKeeper Self.fails) };
 
     /// Keeps another network, another staff and the states of the network's points, and the place
@@ -56,15 +59,16 @@ pub trait CommitAt: Commit {
         place: &Place,
     ) -> Result<(), DeskFault>
         requires { AreStatesOf network.now.points states.now }
-        ensures turns { TurnsAt has_place (Self.kept self.old) (Self.kept self.new)
-            (tables_renewed network.now staff.now states.now) place.now result }
+        ensures turns { Transacts (SetsPlace has_place place.now) StaysOpen
+            (Self.kept self.old) (Self.kept self.new)
+            (tables_renewed network.now staff.now states.now) result }
         ensures fault { IfErr result (IsOfKeeper Self.fails) };
 
     /// Takes the steps of these keys out of what is kept, and keeps the place after it: both, or
     /// neither.
     fn take_steps_at(&mut self, keys: &[StepKey], place: &Place) -> Result<(), DeskFault>
-        ensures turns { TurnsAt has_place (Self.kept self.old) (Self.kept self.new)
-            (without_steps keys.now) place.now result }
+        ensures turns { Transacts (SetsPlace has_place place.now) StaysOpen
+            (Self.kept self.old) (Self.kept self.new) (without_steps keys.now) result }
         ensures fault { IfErr result (IsOfKeeper Self.fails) };
 }
 
@@ -79,7 +83,7 @@ impl<S: Alter + Drop> CommitAt for Store<S> {
         change: &Change,
         place: &Place,
     ) -> Result<(), DeskFault> {
-        self.commit_at(change, place)?;
+        self.commit(change, Some(place))?;
         Ok(())
     }
 
@@ -87,7 +91,7 @@ impl<S: Alter + Drop> CommitAt for Store<S> {
         let none = Change {
             edits: Vec::new(alloc),
         };
-        self.commit_at(&none, place)?;
+        self.commit(&none, Some(place))?;
         Ok(())
     }
 
@@ -98,12 +102,12 @@ impl<S: Alter + Drop> CommitAt for Store<S> {
         states: &[PointState],
         place: &Place,
     ) -> Result<(), DeskFault> {
-        self.update_at(network, staff, states, place)?;
+        self.update(network, staff, states, Some(place))?;
         Ok(())
     }
 
     fn take_steps_at(&mut self, keys: &[StepKey], place: &Place) -> Result<(), DeskFault> {
-        self.take_steps_at(keys, place)?;
+        self.take_steps(keys, Some(place))?;
         Ok(())
     }
 }

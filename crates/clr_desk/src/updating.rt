@@ -1,23 +1,16 @@
 //! An update of the register of a desk: network and staff change in the tables.
-ghost use Rattle.std.specs.Prelude.{◌≡◌, IfErr, IfOk, IsTrue, OnErr, OnOk, string_bytes};
-ghost use Rattle.sqlite.specs.Held.{state};
-ghost use Rattle.sqlite.specs.State.{HasCleanDisk, Survives};
+ghost use Rattle.std.specs.Prelude.{◌≡◌, IfOk, string_bytes};
 ghost use Rattle.clr_changes.specs.Lines.{change_lines};
 ghost use Rattle.clr_changes.specs.Outcome.{IsOutcome, register_after};
-ghost use Rattle.clr_changes.specs.Report.{IsReport};
 ghost use Rattle.clr_changes.specs.Shown.{as_update};
-ghost use Rattle.clr_load.specs.Stored.{HasTables};
-ghost use Rattle.clr_store.specs.Contract.{KeepsPlace};
 ghost use Rattle.clr_store.specs.Renewed.{AreStatesOf};
-ghost use Rattle.clr_load.specs.Tables.{tables_of};
 ghost use Rattle.clr_load.specs.TypedRows.{IsTyped};
 ghost use Rattle.clr_update.specs.Shown.{as_changes};
-ghost use Rattle.clr_update.specs.Update.{after_update};
 ghost use Rattle.clr_desk.specs.Answering.{fault_of};
-ghost use Rattle.clr_desk.specs.Faults.{IsOfCommand, count_after};
+ghost use Rattle.clr_desk.specs.Faults.{count_after};
 ghost use Rattle.clr_desk.specs.Planning.{IsPlan, MakesRenewal};
 ghost use Rattle.clr_desk.specs.Renewing.{IsUpdatedAt};
-ghost use Rattle.clr_desk.specs.Updating.{AreUpdated, SavesIfAccepted};
+ghost use Rattle.clr_desk.specs.Updating.{UpdatesTables};
 
 use crate::book::{DeskBook, network_and_staff};
 use crate::commit_at::CommitAt;
@@ -39,21 +32,8 @@ impl<S: Alter + Drop> Desk<Store<S>> {
     /// fault, and where something is in the way, the tables are as they were. A place in a journal
     /// stays as it is.
     pub fn update(self, alloc: Global, update: Update) -> (Result<Report, DeskFault>, Store<S>)
-        ensures report { IfOk result.0 (IsReport self.book.register (as_update update)) }
-        ensures updated { HasCleanDisk (state S.Store result.1)
-            → HasTables (state S.Store self.store).now (tables_of self.book.register)
-            → OnOk result.0 (HasTables (state S.Store result.1).now
-            (tables_of (after_update self.book.register (as_update update)))) }
-        ensures placed { HasCleanDisk (state S.Store result.1) → OnOk result.0
-            (KeepsPlace (state S.Store self.store).now (state S.Store result.1).now) }
-        ensures saved { IfOk result.0
-            (λ report. SavesIfAccepted S.Store report self.store result.1) }
-        ensures none { HasCleanDisk (state S.Store result.1)
-            → IsTrue (state S.Store result.1).is_open → OnErr result.0
-            ((state S.Store result.1).now ≡ (state S.Store self.store).now) }
-        ensures cause { IfErr result.0 IsOfCommand }
-        ensures crash { Survives (state S.Store self.store) (state S.Store result.1)
-            (AreUpdated (state S.Store self.store).now self.book.register (as_update update)) }
+        ensures { UpdatesTables S.Store self.book.register (as_update update) self.store
+            result.0 result.1 }
     {
         let (book, mut store) = self.parted();
         let done = update_tables(alloc, &mut store, &book, update);
@@ -75,21 +55,8 @@ fn update_tables<S: Alter + Drop>(
     book: &DeskBook,
     update: Update,
 ) -> Result<Report, DeskFault>
-    ensures report { IfOk result (IsReport book.now.register (as_update update)) }
-    ensures updated { HasCleanDisk (state S.Store store.new)
-        → HasTables (state S.Store store.old).now (tables_of book.now.register)
-        → OnOk result (HasTables (state S.Store store.new).now
-        (tables_of (after_update book.now.register (as_update update)))) }
-    ensures placed { HasCleanDisk (state S.Store store.new) → OnOk result
-        (KeepsPlace (state S.Store store.old).now (state S.Store store.new).now) }
-    ensures saved { IfOk result
-        (λ report. SavesIfAccepted S.Store report store.old store.new) }
-    ensures none { HasCleanDisk (state S.Store store.new)
-        → IsTrue (state S.Store store.new).is_open → OnErr result
-        ((state S.Store store.new).now ≡ (state S.Store store.old).now) }
-    ensures cause { IfErr result IsOfCommand }
-    ensures crash { Survives (state S.Store store.old) (state S.Store store.new)
-        (AreUpdated (state S.Store store.old).now book.now.register (as_update update)) }
+    ensures { UpdatesTables S.Store book.now.register (as_update update) store.old result
+        store.new }
 {
     update.is_read();
     let outcome = outcome_in(alloc, book, update)?;
@@ -97,7 +64,7 @@ fn update_tables<S: Alter + Drop>(
         Outcome::InTheWay(obstacle) => Ok(Report::InTheWay(obstacle)),
         Outcome::Accepted(after) => {
             let lines = print_changes(alloc, &after.changes)?;
-            store.update(&after.network, &after.staff, &after.states)?;
+            store.update(&after.network, &after.staff, &after.states, None)?;
             Ok(Report::Changes(lines))
         }
     }

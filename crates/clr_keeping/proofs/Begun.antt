@@ -9,7 +9,7 @@ use Rattle.clr_rules.specs.declared.place.Place.{Place}
 use Rattle.clr_load.specs.TableEdits.{tables_edited}
 use Rattle.clr_load.specs.Tables.{Tables, place_row, tables_of}
 use Rattle.clr_load.specs.Stored.{ArePlaced, HasTables}
-use Rattle.clr_store.specs.Contract.{MakesEditsAt}
+use Rattle.clr_store.specs.Transaction.{PlacesAs, TurnsInto}
 use Rattle.clr_level.proofs.BegunLevel.{begun_level}
 use Rattle.clr_level.specs.Placing.{ShowsAt}
 use Rattle.clr_level.specs.declared.keeper.Keeper.{Keeper}
@@ -97,7 +97,7 @@ made-level g R start after made = begun_level store_place (state g after) R star
 -- so is one that was given the place
 pub placed-level : {S : Type 0} (g : Ghosts S) (before : Held S) (start : Place) (after : Held S)
     → (HasCleanDisk (state g after) → IsTrue (state g after).is_open → IsTrue (state g before).is_open)
-    → (HasCleanDisk (state g after) → MakesEditsAt (state g before).now [] (place_row start) (state g after).now) → PlacedIsLevel g before start after
+    → (HasCleanDisk (state g after) → TurnsInto (PlacesAs (Some start)) (tables_edited []) (state g before).now (state g after).now) → PlacedIsLevel g before start after
 unfolding tables_edited
 placed-level {S} g before start after was_open made R had = (
   begun_level store_place (state g after) R start (λ clean is_open. shown (had clean (was_open clean is_open)) (made clean)),

@@ -10,7 +10,9 @@ use Rattle.clr_load.specs.Tables.{Tables, place_row, tables_of}
 use Rattle.clr_load.specs.Contract.{IsSaved}
 use Rattle.clr_load.specs.Schema.{no_schema}
 use Rattle.clr_load.specs.Stored.{ArePlaced, HasTables}
-use Rattle.clr_store.specs.Contract.{AreEditedAt, AreTablesAt, MakesEditsAt}
+use Rattle.clr_load.specs.TableEdits.{tables_edited}
+use Rattle.clr_store.specs.Contract.{AreTablesAt}
+use Rattle.clr_store.specs.Transaction.{AreTurned, PlacesAs, TurnsInto}
 use Rattle.clr_edge.specs.Database.{IsAsBefore}
 use Rattle.clr_edge.specs.Journals.{IsNew, IsOfBeginning}
 use Rattle.clr_desk.specs.declared.desk.Desk.{Desk}
@@ -113,7 +115,8 @@ pub record MakesRegisterAt {S : Type 0} (g : Ghosts S) (R : Register) (place : P
 pub record IsPlacedOrNot {S : Type 0} (g : Ghosts S) (before : Held S) (place : Place)
     (outcome : Done) (after : Held S) : Type 0 where
   pub made : HasCleanDisk (state g after)
-      → OnOk outcome (MakesEditsAt (state g before).now [] (place_row place) (state g after).now)
+      → OnOk outcome (TurnsInto (PlacesAs (Some place)) (tables_edited []) (state g before).now
+      (state g after).now)
   pub saved : HasCleanDisk (state g after) → OnOk outcome (IsSaved (state g after))
   pub level : OnOk outcome (PlacedIsLevel g before place after)
   pub none : HasCleanDisk (state g after) → IsTrue (state g after).is_open
@@ -121,7 +124,7 @@ pub record IsPlacedOrNot {S : Type 0} (g : Ghosts S) (before : Held S) (place : 
   pub was_open : HasCleanDisk (state g after) → IsTrue (state g after).is_open
       → IsTrue (state g before).is_open
   pub survives : Survives (state g before) (state g after)
-      (AreEditedAt (state g before).now [] (place_row place))
+      (AreTurned (PlacesAs (Some place)) (tables_edited []) (state g before).now)
 
 -- A JOURNAL WAS BEGUN for a register that was read, and then the register was given its first place;
 -- or none was begun, and the register is as it was read

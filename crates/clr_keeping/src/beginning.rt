@@ -244,7 +244,7 @@ fn move_in<S: Alter + Drop>(
     let change = Change {
         edits: Vec::new(alloc),
     };
-    match store.commit_at(&change, first) {
+    match store.commit(&change, Some(first)) {
         Ok(()) => (Ok(()), store.end()),
         Err(cause) => (Err(DatabaseFault::of_store(cause)), store.end()),
     }

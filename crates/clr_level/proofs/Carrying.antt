@@ -26,7 +26,9 @@ use Rattle.clr_desk.specs.declared.desk_fault.DeskFault.{DeskFault}
 use Rattle.clr_desk.proofs.Keeping.{one_keeps}
 use Rattle.clr_level.specs.Crash.{AreAfterAt, KeepsTables}
 use Rattle.clr_level.specs.Forward.{Carries}
-use Rattle.clr_desk.specs.Placing.{AreEditedAt, CommitsAt, Placing}
+use Rattle.clr_load.specs.TableEdits.{tables_edited}
+use Rattle.clr_store.specs.Transaction.{AreTurned, Transacts}
+use Rattle.clr_desk.specs.Placing.{Placing, SetsPlace, StaysOpen}
 use Rattle.clr_level.specs.Placing.{ArePlacedAt, StaysShown}
 use Rattle.clr_level.specs.declared.placing.Placed.{Placed}
 use Rattle.clr_level.proofs.Crashes.{left_both, left_itself}
@@ -36,14 +38,14 @@ use Rattle.clr_level.proofs.Places.{comes, shows_still, shown_itself}
 
 module _ {K : Type 0} (takes : Taking K) (kept : K → State) (has_place : Placing) where
   left_placed : (old new : Placed K) (edits : List Edit) (came : Came)
-      → CommitsAt {X = Unit {0}} has_place (kept old.keeper) (kept new.keeper) edits old.place came
+      → Transacts {X = Unit {0}} (SetsPlace has_place old.place) StaysOpen (kept old.keeper) (kept new.keeper) (tables_edited edits) came
       → Survives (kept old.keeper) (kept new.keeper) (ArePlacedAt has_place (kept old.keeper).now old.place)
   left_placed old new edits came commits =
-      survives_weaker (kept old.keeper) (kept new.keeper) (AreEditedAt has_place (kept old.keeper).now edits old.place)
+      survives_weaker (kept old.keeper) (kept new.keeper) (AreTurned (SetsPlace has_place old.place) (tables_edited edits) (kept old.keeper).now)
       (ArePlacedAt has_place (kept old.keeper).now old.place) (λ clean trees edited t has. (edited t has).1) commits.crash
 
   pub kept_carries : (old new : Placed K) (login : Option (List ℕ)) (q : Command) (reply : Reply) (edits : List Edit) (came : Came)
-      → CommitsAt {X = Unit {0}} has_place (kept old.keeper) (kept new.keeper) edits old.place came
+      → Transacts {X = Unit {0}} (SetsPlace has_place old.place) StaysOpen (kept old.keeper) (kept new.keeper) (tables_edited edits) came
       → takes old.keeper None q reply came new.keeper → new.place ≡ old.place → Carries takes kept has_place old login q reply came new
   kept_carries old new login q reply edits (Ok done) commits taken same = record {
     taken = taken;

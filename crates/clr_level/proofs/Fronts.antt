@@ -15,7 +15,8 @@ use Rattle.clr_journal.specs.Line.{Entry}
 use Rattle.clr_journal.specs.declared.line.Carried.{Carried}
 use Rattle.clr_chain.specs.Level.{IsRunOf, place_after}
 use Rattle.clr_chain.proofs.LevelKept.{carried_out-append}
-use Rattle.clr_desk.specs.Placing.{AreEditedAt, Placing}
+use Rattle.clr_store.specs.Transaction.{AreTurned}
+use Rattle.clr_desk.specs.Placing.{Placing, SetsPlace}
 use Rattle.clr_desk.specs.declared.desk.Desk.{Desk}
 use Rattle.clr_level.specs.Carrying.{AreDoneAt}
 use Rattle.clr_level.specs.Crash.{AreFurther, FrontsCanBeOpened, KeepsTables}
@@ -45,7 +46,7 @@ module _ (has_place : Placing) where
       }
 
   -- or the place moved over idle lines
-  pub moved_further : (S : Register) (s : State) (at : Place) (trees : Trees) → AreEditedAt has_place s.now [] at trees
+  pub moved_further : (S : Register) (s : State) (at : Place) (trees : Trees) → AreTurned (SetsPlace has_place at) (tables_edited []) s.now trees
       → AreFurther has_place S s at None [] trees
   unfolding tables_edited
   moved_further S s at trees edited R place lines good answered come has =

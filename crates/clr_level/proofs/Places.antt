@@ -8,7 +8,8 @@ use Rattle.clr_load.specs.TableEdits.{tables_edited}
 use Rattle.clr_desk.specs.Commit.{Stays}
 use Rattle.clr_desk.specs.declared.desk_fault.DeskFault.{DeskFault}
 use Rattle.clr_desk.proofs.Staying.{stays_open}
-use Rattle.clr_desk.specs.Placing.{CommitsAt, Placing}
+use Rattle.clr_store.specs.Transaction.{Transacts}
+use Rattle.clr_desk.specs.Placing.{Placing, SetsPlace, StaysOpen}
 use Rattle.clr_level.specs.Placing.{ComesTo, IsAt, ShowsAt, StaysShown}
 
 pub at_moves : (has_place : Placing) (old new : State) (place next : Place) → IsAt has_place old place → ComesTo has_place old new next
@@ -21,20 +22,20 @@ pub at_stays : (has_place : Placing) (old new : State) (place : Place) → IsAt 
 at_stays has_place old new place at stays clean shown =
     subst (λ (db : Database). ShowsAt has_place db place) (sym (stays.now clean shown)) (at (stays.clean clean) (stays.was_open clean shown))
 
-pub comes : (has_place : Placing) (old new : State) (edits : List Edit) (place : Place) → CommitsAt {X = Unit {0}} has_place old new edits place (Ok tt)
+pub comes : (has_place : Placing) (old new : State) (edits : List Edit) (place : Place) → Transacts {X = Unit {0}} (SetsPlace has_place place) StaysOpen old new (tables_edited edits) (Ok tt)
     → ComesTo has_place old new place
 comes has_place old new edits place is = record {
   clean = λ clean. omega (arith, is.crash.clean);
-  was_open = is.commits.was_open;
-  shown = λ clean t has. (tables_edited edits t, is.commits.made clean t has, is.placed clean t has);
+  was_open = is.was_open;
+  shown = λ clean t has. (tables_edited edits t, is.made clean t has);
 }
 
 pub shows_still : (has_place : Placing) (old new : State) (edits : List Edit) (place : Place) (fault : DeskFault)
-    → CommitsAt {X = Unit {0}} has_place old new edits place (Err fault) → StaysShown old new
+    → Transacts {X = Unit {0}} (SetsPlace has_place place) StaysOpen old new (tables_edited edits) (Err fault) → StaysShown old new
 shows_still has_place old new edits place fault is = record {
   clean = λ clean. omega (arith, is.crash.clean);
-  was_open = is.commits.was_open;
-  now = λ clean shown. is.commits.none clean shown;
+  was_open = is.was_open;
+  now = λ clean shown. is.none clean shown;
 }
 
 pub stays_shown : (old new : State) → Stays old new → StaysShown old new

@@ -11,7 +11,8 @@ use Rattle.clr_load.specs.Tables.{tables_of}
 use Rattle.clr_load.specs.TableEdits.{tables_edited}
 use Rattle.clr_load.specs.Stored.{HasTables}
 use Rattle.clr_desk.specs.Kept.{Keeps}
-use Rattle.clr_desk.specs.Placing.{AreEditedAt, CommitsAt, Placing}
+use Rattle.clr_store.specs.Transaction.{AreTurned, Transacts}
+use Rattle.clr_desk.specs.Placing.{Placing, SetsPlace, StaysOpen}
 use Rattle.clr_desk.specs.Taking.{Came, Taking}
 use Rattle.clr_desk.specs.declared.desk.Desk.{Desk}
 use Rattle.clr_desk.specs.declared.desk_fault.DeskFault.{DeskFault}
@@ -25,16 +26,16 @@ use Rattle.clr_level.proofs.Fronts.{moved_further}
 use Rattle.clr_level.proofs.Places.{comes, shows_still}
 
 -- the tables stay, whether the place is kept or not
-pub moved_keeps : (has_place : Placing) (s t : State) (R : Register) (place : Place) (came : Came) → CommitsAt {X = Unit {0}} has_place s t [] place came
+pub moved_keeps : (has_place : Placing) (s t : State) (R : Register) (place : Place) (came : Came) → Transacts {X = Unit {0}} (SetsPlace has_place place) StaysOpen s t (tables_edited []) came
     → Keeps s R t R
 unfolding tables_edited
 moved_keeps has_place s t R place (Ok done) moved = record {
   good = λ good. good;
   typed = λ good typed. typed;
   clean = λ clean. omega (arith, moved.crash.clean);
-  was_open = moved.commits.was_open;
-  tables = λ clean shown good has. moved.commits.made clean (tables_of R) has;
-  saved = λ clean shown saved. moved.commits.saved clean;
+  was_open = moved.was_open;
+  tables = λ clean shown good has. (moved.made clean (tables_of R) has).0;
+  saved = λ clean shown saved. moved.saved clean;
   counts = moved.crash.counts;
   closes = moved.crash.closes;
 }
@@ -42,9 +43,9 @@ moved_keeps has_place s t R place (Err fault) moved = record {
   good = λ good. good;
   typed = λ good typed. typed;
   clean = λ clean. omega (arith, moved.crash.clean);
-  was_open = moved.commits.was_open;
-  tables = λ clean shown good has. subst (λ (db : Database). HasTables db (tables_of R)) (sym (moved.commits.none clean shown)) has;
-  saved = λ clean shown saved. moved.commits.still_saved clean shown saved;
+  was_open = moved.was_open;
+  tables = λ clean shown good has. subst (λ (db : Database). HasTables db (tables_of R)) (sym (moved.none clean shown)) has;
+  saved = λ clean shown saved. moved.fault.saved clean shown saved;
   counts = moved.crash.counts;
   closes = moved.crash.closes;
 }
@@ -83,33 +84,33 @@ module _ {K : Type 0} (kept : K → State) (takes : Taking K) (has_place : Placi
 
 module _ {K : Type 0} (kept : K → State) (has_place : Placing) (old new : Desk K) (before after : K) (at : Place) (book : new.book ≡ old.book)
     (store : before ≡ old.store) (store' : new.store ≡ after) where
-  moved_there : (came : Came) → CommitsAt {X = Unit {0}} has_place (kept before) (kept after) [] at came
-      → CommitsAt {X = Unit {0}} has_place (kept old.store) (kept new.store) [] at came
+  moved_there : (came : Came) → Transacts {X = Unit {0}} (SetsPlace has_place at) StaysOpen (kept before) (kept after) (tables_edited []) came
+      → Transacts {X = Unit {0}} (SetsPlace has_place at) StaysOpen (kept old.store) (kept new.store) (tables_edited []) came
   moved_there came moved =
-      subst (λ (k : K). CommitsAt {X = Unit {0}} has_place (kept old.store) (kept k) [] at came) (sym store')
-      (subst (λ (k : K). CommitsAt {X = Unit {0}} has_place (kept k) (kept after) [] at came) store moved)
+      subst (λ (k : K). Transacts {X = Unit {0}} (SetsPlace has_place at) StaysOpen (kept old.store) (kept k) (tables_edited []) came) (sym store')
+      (subst (λ (k : K). Transacts {X = Unit {0}} (SetsPlace has_place at) StaysOpen (kept k) (kept after) (tables_edited []) came) store moved)
 
   same : new.book.register ≡ old.book.register
   same = ap (λ (b : Shelved). b.register) book
 
-  pub move_arrives : (came : Came) (done : Unit {0}) → came ≡ Ok done → CommitsAt {X = Unit {0}} has_place (kept before) (kept after) [] at came
+  pub move_arrives : (came : Came) (done : Unit {0}) → came ≡ Ok done → Transacts {X = Unit {0}} (SetsPlace has_place at) StaysOpen (kept before) (kept after) (tables_edited []) came
       → (R : Register) (place : Place) (lines : List Entry) → HasCome has_place R place lines old.book.register (kept old.store) at None []
       → Arrives kept has_place R place lines (Ok tt) new at []
   move_arrives came done is moved R place lines come =
       moved_on has_place R place lines old.book.register new.book.register (kept old.store) (kept new.store) at come same
       (comes has_place (kept old.store) (kept new.store) [] at
-      (subst (CommitsAt {X = Unit {0}} has_place (kept old.store) (kept new.store) [] at) is (moved_there came moved)))
+      (subst (Transacts {X = Unit {0}} (SetsPlace has_place at) StaysOpen (kept old.store) (kept new.store) (tables_edited [])) is (moved_there came moved)))
 
-  pub move_stops : (came : Came) (fault : DeskFault) → came ≡ Err fault → CommitsAt {X = Unit {0}} has_place (kept before) (kept after) [] at came
+  pub move_stops : (came : Came) (fault : DeskFault) → came ≡ Err fault → Transacts {X = Unit {0}} (SetsPlace has_place at) StaysOpen (kept before) (kept after) (tables_edited []) came
       → (R : Register) (place : Place) (lines : List Entry) → HasCome has_place R place lines old.book.register (kept old.store) at None []
       → Arrives kept has_place R place lines (Err (Failed fault)) new at []
   move_stops came fault is moved R place lines come =
       stopped has_place R place lines new.book.register (kept new.store) at None []
       (stayed has_place R place lines old.book.register new.book.register (kept old.store) (kept new.store) at None [] come same
       (shows_still has_place (kept old.store) (kept new.store) [] at fault
-      (subst (CommitsAt {X = Unit {0}} has_place (kept old.store) (kept new.store) [] at) is (moved_there came moved))))
+      (subst (Transacts {X = Unit {0}} (SetsPlace has_place at) StaysOpen (kept old.store) (kept new.store) (tables_edited [])) is (moved_there came moved))))
 
-  pub move_rolls : (takes : Taking K) (came : Came) → CommitsAt {X = Unit {0}} has_place (kept before) (kept after) [] at came
+  pub move_rolls : (takes : Taking K) (came : Came) → Transacts {X = Unit {0}} (SetsPlace has_place at) StaysOpen (kept before) (kept after) (tables_edited []) came
       → RollsTo kept takes has_place old new
   move_rolls takes came moved = record {
     before = old;
@@ -119,9 +120,9 @@ module _ {K : Type 0} (kept : K → State) (has_place : Placing) (old new : Desk
   }
 
   -- a crash leaves what was left, or the place
-  pub move_left : (came : Came) → CommitsAt {X = Unit {0}} has_place (kept before) (kept after) [] at came
+  pub move_left : (came : Came) → Transacts {X = Unit {0}} (SetsPlace has_place at) StaysOpen (kept before) (kept after) (tables_edited []) came
       → Survives (kept old.store) (kept new.store) (AreFurther has_place old.book.register (kept old.store) at None [])
   move_left came moved =
-      survives_weaker (kept old.store) (kept new.store) (AreEditedAt has_place (kept old.store).now [] at)
+      survives_weaker (kept old.store) (kept new.store) (AreTurned (SetsPlace has_place at) (tables_edited []) (kept old.store).now)
       (AreFurther has_place old.book.register (kept old.store) at None [])
       (λ clean trees edited. moved_further has_place old.book.register (kept old.store) at trees edited) (moved_there came moved).crash

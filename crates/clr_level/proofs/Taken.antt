@@ -13,7 +13,9 @@ use Rattle.clr_desk.specs.Taking.{Came, Taking, is_refused}
 use Rattle.clr_desk.specs.declared.desk_fault.DeskFault.{DeskFault}
 use Rattle.clr_desk.specs.declared.desk_fault.DeskFault.TheVariants.{Journal, NoMemory, Store}
 use Rattle.clr_level.specs.Journaling.{HasText, IsBeside, IsDurable, IsNoted, IsSafe, IsSound, IsWithdrawn, Journals, Misses, StaySafe, has_line, is_show, left, left_by, said, unkept}
-use Rattle.clr_desk.specs.Placing.{CommitsAt, Placing}
+use Rattle.clr_load.specs.TableEdits.{tables_edited}
+use Rattle.clr_store.specs.Transaction.{Transacts}
+use Rattle.clr_desk.specs.Placing.{Placing, SetsPlace, StaysOpen}
 use Rattle.clr_level.specs.Placing.{ComesTo, StaysShown}
 use Rattle.clr_level.specs.declared.keeper.Keeper.{Keeper}
 use Rattle.clr_level.specs.declared.last.Last.TheVariants.{Settled}
@@ -76,7 +78,7 @@ module _ {K J C : Type 0} (takes : Taking K) (kept : K → State) (has_place : P
       → mid.last ≡ Settled → IsDurable text may_leave mid.journal → (IsSound text found may_leave old → IsSound text found may_leave mid)
       → StaySafe text may_leave old.journal mid.journal → IsWithdrawn text may_leave old mid
       → mid.keeper ≡ old.keeper → IsBeside mid new → new.last ≡ mid.last → takes mid.keeper None q reply (Ok tt) new.keeper
-      → CommitsAt {X = Unit {0}} has_place (kept mid.keeper) (kept new.keeper) edits mid.at (Ok tt)
+      → Transacts {X = Unit {0}} (SetsPlace has_place mid.at) StaysOpen (kept mid.keeper) (kept new.keeper) (tables_edited edits) (Ok tt)
       → Journals takes kept has_place shows text found may_leave is_usable old login q reply (Ok tt) new
   kept_is old mid new login q reply edits is noted settled durable sound safe withdrawn same beside last taken commits = record {
     noted = λ ok has. (noted_as old mid new login q reply noted beside, last ∙ settled);
@@ -98,7 +100,7 @@ module _ {K J C : Type 0} (takes : Taking K) (kept : K → State) (has_place : P
       → IsNoted shows text old login q reply mid → IsDurable text may_leave mid.journal → (IsSound text found may_leave old → IsSound text found may_leave mid)
       → StaySafe text may_leave old.journal mid.journal
       → mid.keeper ≡ old.keeper → IsBeside mid new → new.last ≡ left_by fault → takes mid.keeper None q reply (Err fault) new.keeper
-      → CommitsAt {X = Unit {0}} has_place (kept mid.keeper) (kept new.keeper) edits mid.at (Err fault)
+      → Transacts {X = Unit {0}} (SetsPlace has_place mid.at) StaysOpen (kept mid.keeper) (kept new.keeper) (tables_edited edits) (Err fault)
       → Journals takes kept has_place shows text found may_leave is_usable old login q reply (Err fault) new
   unkept_is old mid new login q reply fault edits is noted durable sound safe same beside last taken commits = record {
     noted = λ ok. absurd (cc ok);

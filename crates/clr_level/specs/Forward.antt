@@ -25,7 +25,9 @@ use Rattle.clr_chain.specs.declared.finding.Found.{Found}
 use Rattle.clr_chain.specs.declared.finding.Found.TheVariants as found
 use Rattle.clr_desk.specs.Faults.{IsOfKeeper}
 use Rattle.clr_desk.specs.Given.{LeadsTo}
-use Rattle.clr_desk.specs.Placing.{CommitsAt, Placing}
+use Rattle.clr_load.specs.TableEdits.{tables_edited}
+use Rattle.clr_store.specs.Transaction.{Transacts}
+use Rattle.clr_desk.specs.Placing.{Placing, SetsPlace, StaysOpen}
 use Rattle.clr_desk.specs.Renewing.{ComesTo as Renews}
 use Rattle.clr_desk.specs.Taking.{Came, Taking}
 use Rattle.clr_desk.specs.declared.desk.Desk.{Desk}
@@ -193,7 +195,7 @@ Arrives kept has_place R place lines (Err fault) desk at rest =
 -- a keeper was called to move its place, and this came of it
 abbrev pub IsMoved : {K : Type 0} → (K → State) → Placing → K → K → Type 0
 IsMoved kept has_place old new = (place : Place) × (came : Came)
-    × CommitsAt has_place (kept old) (kept new) [] place came
+    × Transacts (SetsPlace has_place place) StaysOpen (kept old) (kept new) (tables_edited []) came
 
 -- a deed is an update or an archive, which is committed also where it changes nothing
 abbrev pub IsNoCommand : Deed → Type 0

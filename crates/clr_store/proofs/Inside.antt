@@ -314,13 +314,6 @@ pub edited_tables : (l : Layout) → is_two l ≡ true → (db : Database) (edit
     → HasTables db (tables_edited edits t)
 edited_tables l two db edits t ordered has placed = record { layout = l; two = two; here = record { holds = has; in_order = edits_in_order l two edits t ordered; placed = placed } }
 
--- tables that a call inside a transaction has changed so are those with the edits made
-pub made_tables : (old new : State) (edits : List Edit) (t : Tables) (has : HasTables old.now t) → Changes old new (tables_edited edits) → HasTables new.now (tables_edited edits t)
-made_tables old new edits t has changes =
-    let here = HasTables.here has in
-    edited_tables has.layout has.two new.now edits t here.in_order (changes.tables has.layout has.two t here.holds)
-    (still_placed has.layout old.now new.now (changes.place has.layout has.two t here.holds) here.placed)
-
 -- what a transaction leaves that is committed as it is in `mid`, wherever it is cut
 pub crash_leaves : {S : Type 0} (g : Ghosts S) (old mid end : Held S) (P : Trees → Type 0) → Survives (state g (record old { in_transaction = true })) (state g mid) (λ _. ⊥)
     → Survives (state g mid) (state g end) (λ db. db ≡ (state g mid).now.trees) → (HasCleanDisk (state g mid) → P (state g mid).now.trees) → Survives (state g old) (state g end) P

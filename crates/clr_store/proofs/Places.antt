@@ -11,8 +11,6 @@ use Rattle.sqlite.specs.Store.{Ghosts}
 use Rattle.sqlite.specs.Tree.{Trees}
 use Rattle.sqlite.specs.declared.transaction.Transaction.{Transaction}
 use Rattle.sqlite_schema.specs.Names.{same_name, table_named}
-use Rattle.clr_rules.specs.declared.change.Edit.{Edit}
-use Rattle.clr_load.specs.TableEdits.{tables_edited}
 use Rattle.clr_load.specs.TableText.{table_text}
 use Rattle.clr_load.specs.Tables.{Tables}
 use Rattle.clr_load.specs.declared.table_name.TableName.{TableName}
@@ -21,7 +19,7 @@ use Rattle.clr_load.specs.Fault.{IsOfDatabase}
 use Rattle.clr_load.specs.Layout.{has_table, is_of_register, is_two, tree_in}
 use Rattle.clr_load.specs.Schema.{columns_in, schema_in}
 use Rattle.clr_load.specs.Sql.{insert_sql}
-use Rattle.clr_load.specs.Stored.{ArePlaced, HasPlaceIn, HasRows, HasTables, HasTablesIn, Holds, IsPlaced, fits_columns, rows_in}
+use Rattle.clr_load.specs.Stored.{ArePlaced, HasPlaceIn, HasRows, HasTables, Holds, IsPlaced, fits_columns, rows_in}
 use Rattle.clr_load.specs.declared.fault.StoreFault.{StoreFault}
 use Rattle.clr_load.specs.declared.layout.Layout.{Layout}
 use Rattle.clr_load.specs.declared.layout.Layout.TheVariants.{AsMade, AsMadeLogged, AsMoved, AsMovedLogged, OfOne}
@@ -30,10 +28,10 @@ use Rattle.clr_load.proofs.Inside.{then_runs}
 use Rattle.clr_load.proofs.Loading.{in_layout, then_kept}
 use Rattle.clr_load.proofs.Reopened.{placed_as}
 use Rattle.clr_store.proofs.Effects.{Wrote, inserts}
-use Rattle.clr_store.proofs.Inside.{edited_tables, put_in}
+use Rattle.clr_store.proofs.Inside.{put_in}
 use Rattle.clr_store.proofs.Layouts.{apart}
-use Rattle.clr_store.specs.Change.{Changes, ChangesAt, ChangesPlace, Does, MakesAt, PutsPlace, is_same}
-use Rattle.clr_store.specs.Contract.{KeepsPlace}
+use Rattle.clr_store.specs.Change.{Changes, ChangesAt, ChangesPlace, Does, DoesWith, PutsPlace, is_same}
+use Rattle.clr_store.specs.Transaction.{PlacesAs}
 
 -- ---- the tables of the register stay
 not_own : (name : TableName) → is_of_register name ≡ true → is_same Journal name ≡ false
@@ -100,7 +98,7 @@ at_step a b c f place (Ok x) p q = record {
 at_step a b c f place (Err e) p q = then_kept a b c p.kept q
 
 pub then_at : {S X Y : Type 0} (g : Ghosts S) (a b c : Transaction S) (f : Tables → Tables) (place : Row) (x : X) (r : Result Y StoreFault)
-    → Does g a b f (Ok x) → PutsPlace g b c (λ _. place ∷ []) r → MakesAt g a c f place r
+    → Does g a b f (Ok x) → PutsPlace g b c (λ _. place ∷ []) r → DoesWith g a c f (Some place) r
 then_at g a b c f place x r first second =
     then_runs g a b c IsOfDatabase IsOfDatabase IsOfDatabase _ _ _ _ _ _ x r first second (λ done. done.inside)
     (λ early done next. at_step (state g a.conn.now) (state g b.conn.now) (state g c.conn.now) f place r done next) (λ fault. fault)
@@ -131,14 +129,8 @@ placed_at old new change place t has named changes =
     let it = changes.both l has.two t here.holds there (had.0 ∷ []) had.1.1 in
     (it.0, (Some place, (there, it.1)), record { layout = l; two = has.two; listed = it.0.listed; placed = (there, it.1) })
 
-pub made_at : (old new : State) (edits : List Edit) (place : Row) (t : Tables) (has : HasTables old.now t) → (table_named old.now.schema (table_text Journal) ≡ None → ⊥)
-    → ChangesAt old new (tables_edited edits) place → HasTables new.now (tables_edited edits t) × ArePlaced new.now.trees (Some place)
-made_at old new edits place t has named changes =
-    let it = placed_at old new (tables_edited edits) place t has named changes in
-    (edited_tables (HasTables.layout has) has.two new.now edits t (HasTablesIn.in_order (HasTables.here has)) it.0 it.1, it.2)
-
 -- a change of the tables leaves the place
-pub keeps_place : (old new : State) (f : Tables → Tables) → Changes old new f → KeepsPlace old.now new.now
+pub keeps_place : (old new : State) (f : Tables → Tables) → Changes old new f → (t : Tables) → HasTables old.now t → PlacesAs None old.now.trees new.now.trees
 keeps_place old new f changes t has place are =
     let l = HasTables.layout has in
     let here = HasTables.here has in

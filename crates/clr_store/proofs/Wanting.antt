@@ -1,14 +1,9 @@
 -- What a call that only compiles a statement leaves.
-use Rattle.std.proofs.Common.{◌≡◌, ◌∙◌, ℕ, List, [], Result, Ok, Err, IfOk, IfErr, IsTrue, inl, inr, sym}
+use Rattle.std.proofs.Common.{◌∙◌, ℕ, List, [], Result, Ok, Err, IfOk, IfErr, inl, inr, sym}
 use Rattle.sqlite.specs.State.{State, IsNotRun, IsRolledBack, IsUnchanged}
 use Rattle.sqlite.specs.Order.{Row}
 use Rattle.sqlite.specs.declared.error.Error.{Error}
-use Rattle.clr_load.specs.Contract.{IsSaved}
-
-pub record StaysSaved (old new : State) : Type 0 where
-  pub was_open : IsTrue new.is_open → IsTrue old.is_open
-  pub saved : IsTrue new.is_open → IsSaved old → IsSaved new
-  pub none : IsTrue new.is_open → IsSaved old → new.now ≡ old.now
+use Rattle.clr_store.specs.Transaction.{StaysSaved}
 
 unchanged_stays : (old new : State) → IsUnchanged old new → StaysSaved old new
 unchanged_stays old new same = record {

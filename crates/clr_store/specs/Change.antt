@@ -139,14 +139,6 @@ pub record ChangesAt (old new : State) (change : Tables → Tables) (place : Row
       → Holds l new.now (change t)
       × HasRows (columns_in Journal) (new.now.trees (tree_in l Journal)) (place ∷ [])
 
--- a call inside a transaction does both, or fails
-abbrev pub MakesAt : {S X : Type 0} → Ghosts S → Transaction S → Transaction S → (Tables → Tables)
-    → Row → Result X StoreFault → Type 0
-MakesAt g old new change place result =
-    RunsInside g old new IsOfDatabase
-    (λ _. ChangesAt (state g old.conn.now) (state g new.conn.now) change place)
-    (λ _. KeepsCommit (state g old.conn.now) (state g new.conn.now)) result
-
 -- whether a register of this schema can have this place, if one is given
 abbrev pub CanSet : Schema → Option Place → Type 0
 CanSet schema None = ⊤

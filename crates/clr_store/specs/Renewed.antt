@@ -1,8 +1,6 @@
 -- ANOTHER NETWORK AND ANOTHER STAFF in the tables, and the states of the network's points.
-use Rattle.std.specs.Prelude.{◌≡◌, List, [], Some, codes, map, ℕ}
-use Rattle.sqlite.specs.Effect.{Database}
+use Rattle.std.specs.Prelude.{◌≡◌, List, [], codes, map, ℕ}
 use Rattle.sqlite.specs.Order.{Row}
-use Rattle.sqlite.specs.Tree.{Trees}
 use Rattle.clr_net.specs.Grid.{Grid, point_names, unplaced}
 use Rattle.clr_net.specs.declared.point.PointRow.{PointRow}
 use Rattle.clr_net.specs.declared.section.SectionRow.{SectionRow}
@@ -15,9 +13,7 @@ use Rattle.clr_load.specs.declared.table_name.TableName.{TableName}
 use Rattle.clr_load.specs.declared.table_name.TableName.TheVariants.{Meta, Section, Point, Staff}
 use Rattle.clr_load.specs.declared.table_name.TableName.TheVariants.{Clearance, Step, Hold}
 use Rattle.clr_load.specs.declared.table_name.TableName.TheVariants.{NetworkPoint, Journal}
-use Rattle.clr_load.specs.Stored.{ArePlaced, AreTables, HasTables}
 use Rattle.clr_store.specs.Change.{added, with_rows}
-use Rattle.clr_store.specs.Contract.{StaysPlaced}
 
 -- these are the states of these points, one each, in their order
 abbrev pub AreStatesOf : List PointRow → List PointState → Type 0
@@ -31,27 +27,6 @@ tables_renewed g staff states t = record t {
   points = map (λ p. jumper_row p (state_at states p)) (Grid.points (unplaced_net g));
   staff = map staff_row staff;
 }
-
--- whatever tables there were, they are now those with this network, this staff and these states
-abbrev pub RenewsTables : Database → Grid → List StaffRow → List PointState → Database → Type 0
-RenewsTables before g staff states after = (t : Tables) → HasTables before t
-    → HasTables after (tables_renewed g staff states t)
-
--- the trees have the tables with this network, this staff and these states, and the place that the
--- register had
-abbrev pub AreRenewed : Database → Grid → List StaffRow → List PointState → Trees → Type 0
-AreRenewed before g staff states trees = (t : Tables) → HasTables before t
-    → AreTables trees (tables_renewed g staff states t) × StaysPlaced before.trees trees
-
--- the same with a place in the journal
-abbrev pub RenewsTablesAt : Database → Grid → List StaffRow → List PointState → Row → Database
-    → Type 0
-RenewsTablesAt before g staff states place after = (t : Tables) → HasTables before t
-    → HasTables after (tables_renewed g staff states t) × ArePlaced after.trees (Some place)
-
-abbrev pub AreRenewedAt : Database → Grid → List StaffRow → List PointState → Row → Trees → Type 0
-AreRenewedAt before g staff states place trees = (t : Tables) → HasTables before t
-    → AreTables trees (tables_renewed g staff states t) × ArePlaced trees (Some place)
 
 -- ---- how it is done
 

@@ -1,19 +1,20 @@
 //! The edits of a change, each by its statements, inside a transaction.
-ghost use Rattle.std.specs.Prelude.{IfErr, IfSome, ◌≡◌, ◌∷◌, true, take, Some, None};
+ghost use Rattle.std.specs.Prelude.{◌<◌, ◌≡◌, ◌∷◌, ◌^◌, IfSome, None, Some, option_copied};
+ghost use Rattle.std.specs.Prelude.{option_map, take, true};
 ghost use Rattle.sqlite.specs.Held.{state};
-ghost use Rattle.sqlite.specs.State.{Survives};
 ghost use Rattle.sqlite.specs.Values.{bound};
 ghost use Rattle.clr_rules.specs.declared.change.Edit.TheVariants.{SetPosition, SetHand, PutHold};
 ghost use Rattle.clr_rules.specs.declared.change.Edit.TheVariants.{TakeHold, PutRecord, PutStep};
 ghost use Rattle.clr_rules.specs.declared.change.Edit.TheVariants.{AddSection, AddPoint};
 ghost use Rattle.clr_load.specs.TableEdits.{table_edited, tables_edited, with_table_row};
-ghost use Rattle.clr_store.specs.Change.{Does, with_rows};
-ghost use Rattle.clr_load.specs.Fault.{IsOfDatabase};
+ghost use Rattle.clr_load.specs.Tables.{place_row};
+ghost use Rattle.clr_store.specs.Change.{Does, DoesWith, with_rows};
 ghost use Rattle.clr_load.specs.Layout.{has_table};
 ghost use Rattle.clr_load.specs.declared.layout.Layout.TheVariants.{AsMade};
 ghost use Rattle.clr_load.specs.Schema.{columns_in, keys_in};
 ghost use Rattle.clr_load.specs.Stored.{fits_columns, has_key};
 
+use crate::place::set_if_given;
 use crate::statements::{delete_row, insert_new, insert_row, replace_row};
 use crate::values::{
     flag_value, name_or_null, name_value, number_value, point_values, position_value, text_value,
@@ -21,7 +22,7 @@ use crate::values::{
 use clr_load::{StoreFault, TableName, action_name, state_name};
 use clr_net::{Name, PointRow, Position, SectionRow};
 use clr_order::StepState;
-use clr_rules::{ClearanceId, Edit, Hold, Phase, Record, StepRow};
+use clr_rules::{ClearanceId, Edit, Hold, Phase, Place, Record, StepRow};
 use sqlite::types::ValueRef;
 use sqlite::{Alter, Transaction};
 
@@ -296,10 +297,7 @@ fn freed_first(edits: &[Edit]) -> Option<(Name, Position, &[Edit])>
 
 /// Makes all edits. Those that a report begins with, the position and the hand of a point, are one
 /// statement.
-pub(crate) fn make_all<S: Alter>(
-    tx: &mut Transaction<'_, S>,
-    edits: &[Edit],
-) -> Result<(), StoreFault>
+fn make_all<S: Alter>(tx: &mut Transaction<'_, S>, edits: &[Edit]) -> Result<(), StoreFault>
     ensures { Does S.Store tx.old tx.new (tables_edited edits.now) result }
 {
     match freed_first(edits) {
@@ -319,4 +317,18 @@ fn make_each<S: Alter>(tx: &mut Transaction<'_, S>, edits: &[Edit]) -> Result<()
         make(tx, edit)?;
     }
     Ok(())
+}
+
+/// Makes all edits, and sets the place, if one is given.
+pub(crate) fn make_with<S: Alter>(
+    tx: &mut Transaction<'_, S>,
+    edits: &[Edit],
+    place: Option<&Place>,
+) -> Result<(), StoreFault>
+    requires { IfSome (option_copied place) (λ place. place.number < 2 ^ 63) }
+    ensures { DoesWith S.Store tx.old tx.new (tables_edited edits.now)
+        (option_map place_row (option_copied place.entry)) result }
+{
+    make_all(tx, edits)?;
+    set_if_given(tx, place)
 }

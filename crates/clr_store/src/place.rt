@@ -1,6 +1,6 @@
 //! The place of a register in its journal, in its own table, inside a transaction.
-ghost use Rattle.std.specs.Prelude.{◌≡◌, ◌<◌, ◌^◌, ◌↔◌, [], ◌∷◌, false, true, IfErr, IsTrue, None};
-ghost use Rattle.std.specs.Prelude.{IfSome, OnErr, OnOk, option_copied, option_map};
+ghost use Rattle.std.specs.Prelude.{◌≡◌, ◌<◌, ◌^◌, ◌↔◌, [], ◌∷◌, false, true, IsTrue, None, Some};
+ghost use Rattle.std.specs.Prelude.{IfSome, OnOk, option_copied, option_map};
 ghost use Rattle.sqlite.specs.Held.{state};
 ghost use Rattle.sqlite.specs.State.{HasCleanDisk, Survives};
 ghost use Rattle.sqlite.specs.Values.{bound};
@@ -9,23 +9,22 @@ ghost use Rattle.clr_load.specs.TableEdits.{tables_edited};
 ghost use Rattle.clr_load.specs.TableText.{table_text};
 ghost use Rattle.clr_load.specs.Tables.{place_row};
 ghost use Rattle.clr_load.specs.declared.table_name.TableName.TheVariants.{Journal};
-ghost use Rattle.clr_load.specs.Contract.{IsSaved};
 ghost use Rattle.clr_load.specs.Fault.{IsOfDatabase};
 ghost use Rattle.clr_load.specs.Layout.{names_in};
 ghost use Rattle.clr_load.specs.Schema.{columns_in};
 ghost use Rattle.clr_load.specs.Stored.{fits_columns};
 ghost use Rattle.clr_load.specs.declared.layout.Layout.TheVariants.{AsMade, AsMadeLogged};
 ghost use Rattle.clr_load.specs.declared.fault.StoreFault.TheVariants.{NoMemory};
-ghost use Rattle.clr_store.specs.Change.{CanSet, HasEmpty, MakesAt, PutsJournal, PutsPlace};
-ghost use Rattle.clr_store.specs.Change.{Reaches, SetsIfGiven, SetsRows};
-ghost use Rattle.clr_store.specs.Contract.{AreEditedAt, MakesEditsAt};
+ghost use Rattle.clr_store.specs.Change.{CanSet, HasEmpty, PutsJournal, PutsPlace, Reaches};
+ghost use Rattle.clr_store.specs.Change.{SetsIfGiven, SetsRows};
+ghost use Rattle.clr_store.specs.Transaction.{FailsAs, PlacesAs, Settles, StaysSaved};
+ghost use Rattle.clr_store.specs.Transaction.{Transacts};
 
-use crate::edits::make_all;
 use crate::sql::{create_sql, insert_sql};
 use crate::statements::conclude;
 use crate::values::place_values;
 use clr_load::{StoreFault, TableName};
-use clr_rules::{Change, Edit, Place};
+use clr_rules::Place;
 use sqlite::types::ValueRef;
 use sqlite::{Alter, Connection, Transaction};
 use sqlite_schema::schema::Schema;
@@ -137,69 +136,38 @@ pub(crate) fn set_if_given<S: Alter>(
     }
 }
 
-/// Makes all edits, and sets the place.
-fn make_all_at<S: Alter>(
-    tx: &mut Transaction<'_, S>,
-    edits: &[Edit],
-    place: &Place,
-) -> Result<(), StoreFault>
-    requires { place.now.number < 2 ^ 63 }
-    ensures { MakesAt S.Store tx.old tx.new (tables_edited edits.now) (place_row place.now)
-        result }
-{
-    make_all(tx, edits)?;
-    set_place(tx, place)
-}
-
-/// Makes the edits and sets the place in one transaction, or neither.
-pub(crate) fn commit_change_at<S: Alter>(
-    conn: &mut Connection<S>,
-    change: &Change,
-    place: &Place,
-) -> Result<(), StoreFault>
-    ensures mode { conn.old.in_transaction ≡ false → conn.new.in_transaction ≡ false }
-    ensures made { HasCleanDisk (state S.Store conn.new) → OnOk result
-        (MakesEditsAt (state S.Store conn.old).now change.now.edits.items (place_row place.now)
-        (state S.Store conn.new).now) }
-    ensures saved { HasCleanDisk (state S.Store conn.new) → OnOk result
-        (IsSaved (state S.Store conn.new)) }
-    ensures still_saved { conn.old.in_transaction ≡ false → HasCleanDisk (state S.Store conn.new)
-        → IsTrue (state S.Store conn.new).is_open → OnErr result
-        (IsSaved (state S.Store conn.new)) }
-    ensures fault { IfErr result IsOfDatabase }
-    ensures none { HasCleanDisk (state S.Store conn.new) → IsTrue (state S.Store conn.new).is_open
-        → OnErr result ((state S.Store conn.new).now ≡ (state S.Store conn.old).now) }
-    ensures was_open { HasCleanDisk (state S.Store conn.new)
-        → IsTrue (state S.Store conn.new).is_open → IsTrue (state S.Store conn.old).is_open }
-    ensures crash { Survives (state S.Store conn.old) (state S.Store conn.new)
-        (AreEditedAt (state S.Store conn.old).now change.now.edits.items (place_row place.now)) }
-{
-    if !conn.is_autocommit() || !has_journal(conn.schema()) || !fits(place) {
-        return Err(StoreFault::Sql);
-    }
-    let mut tx = conn.transaction();
-    let done = make_all_at(&mut tx, change.edits.as_slice(), place);
-    conclude(tx, done)
-}
-
 /// Want of memory, where the connection is open. Otherwise the database failed too.
 pub(crate) fn want_of_memory<S: Alter>(conn: &mut Connection<S>) -> StoreFault
     ensures mode { conn.old.in_transaction ≡ false → conn.new.in_transaction ≡ false }
     ensures open { HasCleanDisk (state S.Store conn.new) → result ≡ NoMemory
         → IsTrue (state S.Store conn.new).is_open }
-    ensures saved { HasCleanDisk (state S.Store conn.new) → IsTrue (state S.Store conn.new).is_open
-        → IsSaved (state S.Store conn.old) → IsSaved (state S.Store conn.new) }
-    ensures none { HasCleanDisk (state S.Store conn.new) → IsTrue (state S.Store conn.new).is_open
-        → IsSaved (state S.Store conn.old)
-        → (state S.Store conn.new).now ≡ (state S.Store conn.old).now }
-    ensures was_open { HasCleanDisk (state S.Store conn.new)
-        → IsTrue (state S.Store conn.new).is_open → IsTrue (state S.Store conn.old).is_open }
+    ensures stays { HasCleanDisk (state S.Store conn.new)
+        → StaysSaved (state S.Store conn.old) (state S.Store conn.new) }
     ensures fault { IsOfDatabase result }
     ensures crash { Survives (state S.Store conn.old) (state S.Store conn.new) (λ _. ⊥) }
 {
     match conn.prepare("SELECT 1") {
         Ok(_) => StoreFault::NoMemory,
         Err(_) => StoreFault::Sql,
+    }
+}
+
+/// Reports want of memory only while the connection is open, where a place was to be set. Any other
+/// end of a transaction is reported as it is.
+pub(crate) fn settle<S: Alter>(
+    conn: &mut Connection<S>,
+    done: Result<(), StoreFault>,
+    place: Option<&Place>,
+) -> Result<(), StoreFault>
+    ensures mode { conn.old.in_transaction ≡ false → conn.new.in_transaction ≡ false }
+    ensures settles { Settles S.Store (option_copied place.entry) conn.old done conn.new result }
+{
+    let Some(_) = place else {
+        return done;
+    };
+    match done {
+        Err(StoreFault::NoMemory) => Err(want_of_memory(conn)),
+        reported => reported,
     }
 }
 
@@ -214,24 +182,12 @@ fn add_journal<S: Alter>(tx: &mut Transaction<'_, S>, place: &Place) -> Result<(
 
 /// Gives a register that has no place one, in one transaction, or leaves the database as it is.
 pub(crate) fn begin_at<S: Alter>(conn: &mut Connection<S>, place: &Place) -> Result<(), StoreFault>
-    ensures mode { conn.old.in_transaction ≡ false → conn.new.in_transaction ≡ false }
-    ensures made { HasCleanDisk (state S.Store conn.new) → OnOk result
-        (MakesEditsAt (state S.Store conn.old).now [] (place_row place.now)
-        (state S.Store conn.new).now) }
+    requires idle { conn.old.in_transaction ≡ false }
+    ensures idle { conn.new.in_transaction ≡ false }
+    ensures transacts { Transacts (PlacesAs (Some place.now)) (FailsAs None)
+        (state S.Store conn.old) (state S.Store conn.new) (tables_edited []) result }
     ensures unplaced { OnOk result ((table_named (state S.Store conn.old).now.schema
         (table_text Journal)) ≡ None) }
-    ensures saved { HasCleanDisk (state S.Store conn.new) → OnOk result
-        (IsSaved (state S.Store conn.new)) }
-    ensures still_saved { conn.old.in_transaction ≡ false → HasCleanDisk (state S.Store conn.new)
-        → IsTrue (state S.Store conn.new).is_open → OnErr result
-        (IsSaved (state S.Store conn.new)) }
-    ensures fault { IfErr result IsOfDatabase }
-    ensures none { HasCleanDisk (state S.Store conn.new) → IsTrue (state S.Store conn.new).is_open
-        → OnErr result ((state S.Store conn.new).now ≡ (state S.Store conn.old).now) }
-    ensures was_open { HasCleanDisk (state S.Store conn.new)
-        → IsTrue (state S.Store conn.new).is_open → IsTrue (state S.Store conn.old).is_open }
-    ensures crash { Survives (state S.Store conn.old) (state S.Store conn.new)
-        (AreEditedAt (state S.Store conn.old).now [] (place_row place.now)) }
 {
     if !conn.is_autocommit() || has_journal(conn.schema()) || !fits(place) {
         return Err(StoreFault::Sql);

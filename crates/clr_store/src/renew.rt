@@ -1,23 +1,18 @@
 //! Network, staff and states of points replaced in the tables, in one transaction.
-ghost use Rattle.std.specs.Prelude.{IfErr, ◌≡◌, ◌∷◌, [], false, true, IsTrue, OnErr, OnOk, map};
-ghost use Rattle.std.specs.Prelude.{◌<◌, ◌^◌, IfSome, option_copied, option_map};
+ghost use Rattle.std.specs.Prelude.{◌≡◌, ◌∷◌, ◌<◌, ◌^◌, IfSome, false, map, option_copied};
+ghost use Rattle.std.specs.Prelude.{option_map, true};
 ghost use Rattle.sqlite.specs.Held.{state};
-ghost use Rattle.sqlite.specs.State.{HasCleanDisk, Survives};
 ghost use Rattle.clr_net.specs.Name.{name_cmp};
 ghost use Rattle.clr_rules.specs.States.{state_key};
 ghost use Rattle.clr_shelf.specs.Rows.{in_key_order};
 ghost use Rattle.clr_load.specs.Tables.{jumper_row, place_row, section_row, staff_row};
-ghost use Rattle.clr_load.specs.Contract.{IsSaved};
-ghost use Rattle.clr_load.specs.Fault.{IsOfDatabase};
-ghost use Rattle.clr_load.specs.Layout.{has_table};
-ghost use Rattle.clr_load.specs.declared.layout.Layout.TheVariants.{AsMade};
 ghost use Rattle.clr_store.specs.Change.{Does, DoesWith, added, with_rows};
-ghost use Rattle.clr_store.specs.Contract.{AreTurned, TurnsInto};
 ghost use Rattle.clr_store.specs.Renewed.{AreStatesOf, rows_in_state, rows_renewed};
 ghost use Rattle.clr_store.specs.Renewed.{tables_renewed, with_only};
+ghost use Rattle.clr_store.specs.Transaction.{FailsAs, PlacesAs, Transacts};
 
 use crate::create::{add_sections, add_staff};
-use crate::place::{can_set, set_if_given};
+use crate::place::{can_set, set_if_given, settle};
 use crate::statements::{clear_table, conclude, insert_row};
 use crate::values::{handed_values, point_values};
 use clr_load::{StoreFault, TableName};
@@ -35,25 +30,12 @@ pub(crate) fn renew<S: Alter>(
     states: &[PointState],
     place: Option<&Place>,
 ) -> Result<(), StoreFault>
-    requires { AreStatesOf network.now.points states.now }
-    ensures mode { conn.old.in_transaction ≡ false → conn.new.in_transaction ≡ false }
-    ensures renewed { HasCleanDisk (state S.Store conn.new) → OnOk result
-        (TurnsInto (state S.Store conn.old).now
-        (tables_renewed network.now staff.now states.now)
-        (option_map place_row (option_copied place.entry)) (state S.Store conn.new).now) }
-    ensures saved { HasCleanDisk (state S.Store conn.new) → OnOk result
-        (IsSaved (state S.Store conn.new)) }
-    ensures still_saved { conn.old.in_transaction ≡ false → HasCleanDisk (state S.Store conn.new)
-        → IsTrue (state S.Store conn.new).is_open → OnErr result
-        (IsSaved (state S.Store conn.new)) }
-    ensures fault { IfErr result IsOfDatabase }
-    ensures none { HasCleanDisk (state S.Store conn.new) → IsTrue (state S.Store conn.new).is_open
-        → OnErr result ((state S.Store conn.new).now ≡ (state S.Store conn.old).now) }
-    ensures was_open { HasCleanDisk (state S.Store conn.new)
-        → IsTrue (state S.Store conn.new).is_open → IsTrue (state S.Store conn.old).is_open }
-    ensures crash { Survives (state S.Store conn.old) (state S.Store conn.new)
-        (AreTurned (state S.Store conn.old).now (tables_renewed network.now staff.now states.now)
-        (option_map place_row (option_copied place.entry))) }
+    requires states { AreStatesOf network.now.points states.now }
+    requires idle { conn.old.in_transaction ≡ false }
+    ensures idle { conn.new.in_transaction ≡ false }
+    ensures transacts { Transacts (PlacesAs (option_copied place.entry))
+        (FailsAs (option_copied place.entry)) (state S.Store conn.old) (state S.Store conn.new)
+        (tables_renewed network.now staff.now states.now) result }
 {
     if !conn.is_autocommit() || !can_set(conn.schema(), place) {
         return Err(StoreFault::Sql);
@@ -63,7 +45,8 @@ pub(crate) fn renew<S: Alter>(
     let employees = staff.rows();
     let mut tx = conn.transaction();
     let done = replace_all(&mut tx, sections, points, states, employees, place);
-    conclude(tx, done)
+    let ended = conclude(tx, done);
+    settle(conn, ended, place)
 }
 
 /// Replaces the rows of sections, points and staff, and sets the place, if one is given.

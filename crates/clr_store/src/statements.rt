@@ -1,12 +1,9 @@
 //! One statement each, inside a transaction.
-ghost use Rattle.std.specs.Prelude.{◌≡◌, ◌⊎◌, [], ◌∷◌, Err, IfErr, IsTrue, OnErr, OnOk, false};
-ghost use Rattle.std.specs.Prelude.{is_ok, take, true};
-ghost use Rattle.sqlite.specs.Held.{state};
-ghost use Rattle.sqlite.specs.State.{Commits, HasCleanDisk, IsRolledBack, Survives};
+ghost use Rattle.std.specs.Prelude.{◌≡◌, [], ◌∷◌, take, true};
 ghost use Rattle.sqlite.specs.Values.{bound};
 ghost use Rattle.clr_load.specs.TableEdits.{without_table_row};
 ghost use Rattle.clr_store.specs.Change.{Does, Inserts, Replaces, with_rows};
-ghost use Rattle.clr_load.specs.Fault.{IsOfDatabase};
+ghost use Rattle.clr_store.specs.Transaction.{Concludes};
 ghost use Rattle.clr_load.specs.Layout.{has_table};
 ghost use Rattle.clr_load.specs.declared.layout.Layout.TheVariants.{AsMade};
 ghost use Rattle.clr_load.specs.Schema.{columns_in, keys_in};
@@ -96,17 +93,7 @@ pub(crate) fn conclude<S: Alter>(
     tx: Transaction<'_, S>,
     done: Result<(), StoreFault>,
 ) -> Result<(), StoreFault>
-    ensures ended { tx.exit.0.now.in_transaction ≡ false }
-    ensures done { OnOk result (IsTrue (is_ok done)) }
-    ensures committed { HasCleanDisk (state S.Store tx.exit.0.now) → OnOk result
-        (Commits (state S.Store tx.entry.conn.now) (state S.Store tx.exit.0.now)) }
-    ensures undone { HasCleanDisk (state S.Store tx.exit.0.now)
-        → OnOk done (IsTrue (state S.Store tx.entry.conn.now).in_transaction)
-        → OnErr result (IsRolledBack (state S.Store tx.entry.conn.now)
-        (state S.Store tx.exit.0.now)) }
-    ensures fault { IfErr result (λ fault. IsOfDatabase fault ⊎ (done ≡ Err fault)) }
-    ensures survives { Survives (state S.Store tx.entry.conn.now) (state S.Store tx.exit.0.now)
-        (λ trees. IsTrue (is_ok done) × (trees ≡ (state S.Store tx.entry.conn.now).now.trees)) }
+    ensures { Concludes S.Store tx.entry.conn.now tx.exit.0.now done result }
 {
     done?;
     tx.commit()?;

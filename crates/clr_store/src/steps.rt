@@ -1,16 +1,12 @@
 //! Steps taken out of the tables, in one transaction.
-ghost use Rattle.std.specs.Prelude.{◌<◌, ◌≡◌, ◌^◌, IfErr, IfSome, IsTrue, OnErr, OnOk, false};
-ghost use Rattle.std.specs.Prelude.{option_copied, option_map};
+ghost use Rattle.std.specs.Prelude.{◌<◌, ◌≡◌, ◌^◌, IfSome, false, option_copied, option_map};
 ghost use Rattle.sqlite.specs.Held.{state};
-ghost use Rattle.sqlite.specs.State.{HasCleanDisk, Survives};
-ghost use Rattle.clr_load.specs.Contract.{IsSaved};
-ghost use Rattle.clr_load.specs.Fault.{IsOfDatabase};
 ghost use Rattle.clr_load.specs.Tables.{place_row};
 ghost use Rattle.clr_store.specs.Change.{Does, DoesWith};
-ghost use Rattle.clr_store.specs.Contract.{AreTurned, TurnsInto};
+ghost use Rattle.clr_store.specs.Transaction.{FailsAs, PlacesAs, Transacts};
 ghost use Rattle.clr_store.specs.StepsTaken.{without_step, without_steps};
 
-use crate::place::{can_set, set_if_given};
+use crate::place::{can_set, set_if_given, settle};
 use crate::statements::{conclude, delete_row};
 use crate::values::{name_value, number_value};
 use clr_load::{StoreFault, TableName};
@@ -24,30 +20,19 @@ pub(crate) fn take_steps<S: Alter>(
     keys: &[StepKey],
     place: Option<&Place>,
 ) -> Result<(), StoreFault>
-    ensures mode { conn.old.in_transaction ≡ false → conn.new.in_transaction ≡ false }
-    ensures taken { HasCleanDisk (state S.Store conn.new) → OnOk result
-        (TurnsInto (state S.Store conn.old).now (without_steps keys.now)
-        (option_map place_row (option_copied place.entry)) (state S.Store conn.new).now) }
-    ensures saved { HasCleanDisk (state S.Store conn.new) → OnOk result
-        (IsSaved (state S.Store conn.new)) }
-    ensures still_saved { conn.old.in_transaction ≡ false → HasCleanDisk (state S.Store conn.new)
-        → IsTrue (state S.Store conn.new).is_open → OnErr result
-        (IsSaved (state S.Store conn.new)) }
-    ensures fault { IfErr result IsOfDatabase }
-    ensures none { HasCleanDisk (state S.Store conn.new) → IsTrue (state S.Store conn.new).is_open
-        → OnErr result ((state S.Store conn.new).now ≡ (state S.Store conn.old).now) }
-    ensures was_open { HasCleanDisk (state S.Store conn.new)
-        → IsTrue (state S.Store conn.new).is_open → IsTrue (state S.Store conn.old).is_open }
-    ensures crash { Survives (state S.Store conn.old) (state S.Store conn.new)
-        (AreTurned (state S.Store conn.old).now (without_steps keys.now)
-        (option_map place_row (option_copied place.entry))) }
+    requires idle { conn.old.in_transaction ≡ false }
+    ensures idle { conn.new.in_transaction ≡ false }
+    ensures transacts { Transacts (PlacesAs (option_copied place.entry))
+        (FailsAs (option_copied place.entry)) (state S.Store conn.old) (state S.Store conn.new)
+        (without_steps keys.now) result }
 {
     if !conn.is_autocommit() || !can_set(conn.schema(), place) {
         return Err(StoreFault::Sql);
     }
     let mut tx = conn.transaction();
     let done = take_all(&mut tx, keys, place);
-    conclude(tx, done)
+    let ended = conclude(tx, done);
+    settle(conn, ended, place)
 }
 
 /// Takes the steps, and sets the place, if one is given.

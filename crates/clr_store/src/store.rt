@@ -1,7 +1,7 @@
 //! The store: the register of a database, over a connection to it.
 ghost use Rattle.std.specs.Prelude.{ℕ, ◌≡◌, ◌≢◌, ◌⊎◌, false, true, is_ok, pos, List, IsTrue, IfErr};
-ghost use Rattle.std.specs.Prelude.{IfOk, IsErrAnd, MatchResult, Ok, OnErr, OnOk, Option, Some};
-ghost use Rattle.std.specs.Prelude.{IsErrOf, None, [], length};
+ghost use Rattle.std.specs.Prelude.{IfOk, IsErrAnd, MatchResult, None, Ok, OnOk, Option, Some};
+ghost use Rattle.std.specs.Prelude.{[], length, option_copied};
 ghost use Rattle.sqlite.specs.Held.{state};
 ghost use Rattle.sqlite.specs.Order.{Row};
 ghost use Rattle.sqlite.specs.State.{HasCleanDisk, Survives};
@@ -9,7 +9,7 @@ ghost use Rattle.sqlite_schema.specs.Names.{table_named};
 ghost use Rattle.clr_rules.specs.Good.{IsGood};
 ghost use Rattle.clr_rules.specs.Register.{Register, opening};
 ghost use Rattle.clr_load.specs.RowsRead.{place_read, read_version, rows_read};
-ghost use Rattle.clr_load.specs.TableEdits.{tables_moved};
+ghost use Rattle.clr_load.specs.TableEdits.{tables_edited, tables_moved};
 ghost use Rattle.clr_load.specs.TableLaws.{HasNoJumper};
 ghost use Rattle.clr_load.specs.TableText.{table_text};
 ghost use Rattle.clr_load.specs.Tables.{Tables, place_row, tables_by, tables_of, version_one};
@@ -23,19 +23,17 @@ ghost use Rattle.clr_load.specs.Fault.{IsOfDatabase};
 ghost use Rattle.clr_load.specs.Filling.{GivesInto, IsLoaded};
 ghost use Rattle.clr_load.specs.Contract.{Gives, GivesBack, GivesRows, IsSaved, old_points};
 ghost use Rattle.clr_load.specs.declared.fault.StoreFault.TheVariants.{OtherTables, Sql};
-ghost use Rattle.clr_store.specs.Contract.{AreEdited, AreEditedAt, AreTablesAt, IsOfOpening};
-ghost use Rattle.clr_store.specs.Contract.{KeepsPlace, MakesEdits, MakesEditsAt, RefusesOpening};
+ghost use Rattle.clr_store.specs.Contract.{AreTablesAt, IsOfOpening, RefusesOpening};
 ghost use Rattle.clr_store.specs.Contract.{RefusesVersion};
 ghost use Rattle.clr_store.specs.Moving.{IsOfMove, LeavesMoved, RefusesMove, RefusesToMove};
-ghost use Rattle.clr_store.specs.Renewed.{AreRenewed, AreRenewedAt, AreStatesOf, RenewsTables};
-ghost use Rattle.clr_store.specs.Renewed.{RenewsTablesAt};
-ghost use Rattle.clr_store.specs.StepsTaken.{AreWithoutSteps, AreWithoutStepsAt, TakesSteps};
-ghost use Rattle.clr_store.specs.StepsTaken.{TakesStepsAt};
+ghost use Rattle.clr_store.specs.Renewed.{AreStatesOf, tables_renewed};
+ghost use Rattle.clr_store.specs.StepsTaken.{without_steps};
+ghost use Rattle.clr_store.specs.Transaction.{FailsAs, PlacesAs, Transacts};
 
 use crate::create::{make_logged_register, make_register};
-use crate::edits::make_all;
+use crate::edits::make_with;
 use crate::migrate::move_tables;
-use crate::place::{begin_at, commit_change_at, want_of_memory};
+use crate::place::{begin_at, can_set, settle};
 use crate::renew::renew;
 use crate::statements::conclude;
 use crate::steps::take_steps;
@@ -347,33 +345,6 @@ impl<S: Alter + Drop> Store<S> {
     {
         load_into(&mut self.connection)
     }
-
-    /// Makes the edits of a change, in one transaction.
-    ///
-    /// `Sql` where the database refuses or fails, `NoMemory` where memory runs out. On a fault none
-    /// of the edits is made. A place in a journal stays as it is.
-    pub fn commit(&mut self, change: &Change) -> Result<(), StoreFault>
-        ensures made { HasCleanDisk (state S.Store self.new)
-            → OnOk result (MakesEdits (state S.Store self.old).now change.now.edits.items
-            (state S.Store self.new).now) }
-        ensures placed { HasCleanDisk (state S.Store self.new) → OnOk result
-            (KeepsPlace (state S.Store self.old).now (state S.Store self.new).now) }
-        ensures saved { HasCleanDisk (state S.Store self.new)
-            → OnOk result (IsSaved (state S.Store self.new)) }
-        ensures still_saved { HasCleanDisk (state S.Store self.new)
-            → IsTrue (state S.Store self.new).is_open
-            → OnErr result (IsSaved (state S.Store self.new)) }
-        ensures fault { IfErr result IsOfDatabase }
-        ensures none { HasCleanDisk (state S.Store self.new)
-            → IsTrue (state S.Store self.new).is_open → OnErr result
-            ((state S.Store self.new).now ≡ (state S.Store self.old).now) }
-        ensures was_open { HasCleanDisk (state S.Store self.new)
-            → IsTrue (state S.Store self.new).is_open → IsTrue (state S.Store self.old).is_open }
-        ensures crash { Survives (state S.Store self.old) (state S.Store self.new)
-            (AreEdited (state S.Store self.old).now change.now.edits.items) }
-    {
-        commit_change(&mut self.connection, change)
-    }
 }
 
 impl<S: Alter + Drop> Store<S> {
@@ -443,228 +414,81 @@ impl<S: Alter + Drop> Store<S> {
         read_place(&mut self.connection)
     }
 
-    /// Makes the edits of a change and sets the place of the register in its journal, both in one
-    /// transaction.
-    ///
-    /// `Sql` where the register has no journal, where the number is 2^63 or more, and where the
-    /// database refuses or fails; `NoMemory` where memory runs out, and then the connection is
-    /// open. On a fault none of it is done.
-    pub fn commit_at(&mut self, change: &Change, place: &Place) -> Result<(), StoreFault>
-        ensures made { HasCleanDisk (state S.Store self.new)
-            → OnOk result (MakesEditsAt (state S.Store self.old).now change.now.edits.items
-            (place_row place.now) (state S.Store self.new).now) }
-        ensures saved { HasCleanDisk (state S.Store self.new)
-            → OnOk result (IsSaved (state S.Store self.new)) }
-        ensures still_saved { HasCleanDisk (state S.Store self.new)
-            → IsTrue (state S.Store self.new).is_open
-            → OnErr result (IsSaved (state S.Store self.new)) }
-        ensures fault { IfErr result IsOfDatabase }
-        ensures none { HasCleanDisk (state S.Store self.new)
-            → IsTrue (state S.Store self.new).is_open → OnErr result
-            ((state S.Store self.new).now ≡ (state S.Store self.old).now) }
-        ensures was_open { HasCleanDisk (state S.Store self.new)
-            → IsTrue (state S.Store self.new).is_open → IsTrue (state S.Store self.old).is_open }
-        ensures open { HasCleanDisk (state S.Store self.new)
-            → IsErrOf result StoreFault.NoMemory → IsTrue (state S.Store self.new).is_open }
-        ensures crash { Survives (state S.Store self.old) (state S.Store self.new)
-            (AreEditedAt (state S.Store self.old).now change.now.edits.items
-            (place_row place.now)) }
-    {
-        match commit_change_at(&mut self.connection, change, place) {
-            Err(StoreFault::NoMemory) => Err(want_of_memory(&mut self.connection)),
-            came => came,
-        }
-    }
-
     /// Gives a register that has no journal this place in one. Its tables stay as they are.
     ///
     /// `Sql` where the register has a place already, where the number is 2^63 or more, and where
     /// the database refuses or fails; `NoMemory` where memory runs out. On a fault nothing is done.
     pub fn begin_at(&mut self, place: &Place) -> Result<(), StoreFault>
-        ensures made { HasCleanDisk (state S.Store self.new)
-            → OnOk result (MakesEditsAt (state S.Store self.old).now [] (place_row place.now)
-            (state S.Store self.new).now) }
+        ensures transacts { Transacts (PlacesAs (Some place.now)) (FailsAs None)
+            (state S.Store self.old) (state S.Store self.new) (tables_edited []) result }
         ensures unplaced { OnOk result ((table_named (state S.Store self.old).now.schema
             (table_text Journal)) ≡ None) }
-        ensures saved { HasCleanDisk (state S.Store self.new)
-            → OnOk result (IsSaved (state S.Store self.new)) }
-        ensures still_saved { HasCleanDisk (state S.Store self.new)
-            → IsTrue (state S.Store self.new).is_open
-            → OnErr result (IsSaved (state S.Store self.new)) }
-        ensures fault { IfErr result IsOfDatabase }
-        ensures none { HasCleanDisk (state S.Store self.new)
-            → IsTrue (state S.Store self.new).is_open → OnErr result
-            ((state S.Store self.new).now ≡ (state S.Store self.old).now) }
-        ensures was_open { HasCleanDisk (state S.Store self.new)
-            → IsTrue (state S.Store self.new).is_open → IsTrue (state S.Store self.old).is_open }
-        ensures crash { Survives (state S.Store self.old) (state S.Store self.new)
-            (AreEditedAt (state S.Store self.old).now [] (place_row place.now)) }
     {
         begin_at(&mut self.connection, place)
     }
 }
 
-/// Makes the edits in one transaction, or none.
-fn commit_change<S: Alter>(conn: &mut Connection<S>, change: &Change) -> Result<(), StoreFault>
-    ensures mode { conn.old.in_transaction ≡ false → conn.new.in_transaction ≡ false }
-    ensures made { HasCleanDisk (state S.Store conn.new) → OnOk result
-        (MakesEdits (state S.Store conn.old).now change.now.edits.items
-        (state S.Store conn.new).now) }
-    ensures placed { HasCleanDisk (state S.Store conn.new) → OnOk result
-        (KeepsPlace (state S.Store conn.old).now (state S.Store conn.new).now) }
-    ensures saved { HasCleanDisk (state S.Store conn.new) → OnOk result
-        (IsSaved (state S.Store conn.new)) }
-    ensures still_saved { conn.old.in_transaction ≡ false → HasCleanDisk (state S.Store conn.new)
-        → IsTrue (state S.Store conn.new).is_open → OnErr result
-        (IsSaved (state S.Store conn.new)) }
-    ensures fault { IfErr result IsOfDatabase }
-    ensures none { HasCleanDisk (state S.Store conn.new) → IsTrue (state S.Store conn.new).is_open
-        → OnErr result ((state S.Store conn.new).now ≡ (state S.Store conn.old).now) }
-    ensures was_open { HasCleanDisk (state S.Store conn.new)
-        → IsTrue (state S.Store conn.new).is_open → IsTrue (state S.Store conn.old).is_open }
-    ensures crash { Survives (state S.Store conn.old) (state S.Store conn.new)
-        (AreEdited (state S.Store conn.old).now change.now.edits.items) }
+/// Makes the edits, and sets the place, if one is given, in one transaction, or leaves all as it
+/// is.
+fn commit_change<S: Alter>(
+    conn: &mut Connection<S>,
+    change: &Change,
+    place: Option<&Place>,
+) -> Result<(), StoreFault>
+    requires idle { conn.old.in_transaction ≡ false }
+    ensures idle { conn.new.in_transaction ≡ false }
+    ensures transacts { Transacts (PlacesAs (option_copied place.entry))
+        (FailsAs (option_copied place.entry)) (state S.Store conn.old) (state S.Store conn.new)
+        (tables_edited change.now.edits.items) result }
 {
-    if !conn.is_autocommit() {
+    if !conn.is_autocommit() || !can_set(conn.schema(), place) {
         return Err(StoreFault::Sql);
     }
     let mut tx = conn.transaction();
-    let done = make_all(&mut tx, change.edits.as_slice());
-    conclude(tx, done)
+    let done = make_with(&mut tx, change.edits.as_slice(), place);
+    let ended = conclude(tx, done);
+    settle(conn, ended, place)
 }
 
+/// Changes of the tables, each in one transaction, which sets the place of the register in its
+/// journal, if one is given; otherwise a place stays as it is.
+///
+/// `Sql` where a place is given and the register has no journal, or the number is 2^63 or more; and
+/// where the database refuses or fails. `NoMemory` where memory runs out; if a place was given, the
+/// connection is open then. On a fault none of the change is made.
 impl<S: Alter + Drop> Store<S> {
-    /// Takes the steps of these keys out of the tables, in one transaction.
-    ///
-    /// `Sql` where the database refuses or fails, `NoMemory` where memory runs out. On a fault none
-    /// of them is taken. A place in a journal stays as it is.
-    pub fn take_steps(&mut self, keys: &[StepKey]) -> Result<(), StoreFault>
-        ensures taken { HasCleanDisk (state S.Store self.new)
-            → OnOk result (TakesSteps (state S.Store self.old).now keys.now
-            (state S.Store self.new).now) }
-        ensures placed { HasCleanDisk (state S.Store self.new) → OnOk result
-            (KeepsPlace (state S.Store self.old).now (state S.Store self.new).now) }
-        ensures saved { HasCleanDisk (state S.Store self.new)
-            → OnOk result (IsSaved (state S.Store self.new)) }
-        ensures still_saved { HasCleanDisk (state S.Store self.new)
-            → IsTrue (state S.Store self.new).is_open
-            → OnErr result (IsSaved (state S.Store self.new)) }
-        ensures fault { IfErr result IsOfDatabase }
-        ensures none { HasCleanDisk (state S.Store self.new)
-            → IsTrue (state S.Store self.new).is_open → OnErr result
-            ((state S.Store self.new).now ≡ (state S.Store self.old).now) }
-        ensures was_open { HasCleanDisk (state S.Store self.new)
-            → IsTrue (state S.Store self.new).is_open → IsTrue (state S.Store self.old).is_open }
-        ensures crash { Survives (state S.Store self.old) (state S.Store self.new)
-            (AreWithoutSteps (state S.Store self.old).now keys.now) }
+    /// Makes the edits of a change.
+    pub fn commit(&mut self, change: &Change, place: Option<&Place>) -> Result<(), StoreFault>
+        ensures { Transacts (PlacesAs (option_copied place.entry))
+            (FailsAs (option_copied place.entry)) (state S.Store self.old)
+            (state S.Store self.new) (tables_edited change.now.edits.items) result }
     {
-        take_steps(&mut self.connection, keys, None)
+        commit_change(&mut self.connection, change, place)
     }
 
-    /// Takes the steps of these keys out of the tables and sets the place of the register in its
-    /// journal, both in one transaction.
-    ///
-    /// `Sql` where the register has no journal, where the number is 2^63 or more, and where the
-    /// database refuses or fails; `NoMemory` where memory runs out, and then the connection is
-    /// open. On a fault none of it is done.
-    pub fn take_steps_at(&mut self, keys: &[StepKey], place: &Place) -> Result<(), StoreFault>
-        ensures taken { HasCleanDisk (state S.Store self.new)
-            → OnOk result (TakesStepsAt (state S.Store self.old).now keys.now
-            (place_row place.now) (state S.Store self.new).now) }
-        ensures saved { HasCleanDisk (state S.Store self.new)
-            → OnOk result (IsSaved (state S.Store self.new)) }
-        ensures still_saved { HasCleanDisk (state S.Store self.new)
-            → IsTrue (state S.Store self.new).is_open
-            → OnErr result (IsSaved (state S.Store self.new)) }
-        ensures fault { IfErr result IsOfDatabase }
-        ensures none { HasCleanDisk (state S.Store self.new)
-            → IsTrue (state S.Store self.new).is_open → OnErr result
-            ((state S.Store self.new).now ≡ (state S.Store self.old).now) }
-        ensures was_open { HasCleanDisk (state S.Store self.new)
-            → IsTrue (state S.Store self.new).is_open → IsTrue (state S.Store self.old).is_open }
-        ensures open { HasCleanDisk (state S.Store self.new)
-            → IsErrOf result StoreFault.NoMemory → IsTrue (state S.Store self.new).is_open }
-        ensures crash { Survives (state S.Store self.old) (state S.Store self.new)
-            (AreWithoutStepsAt (state S.Store self.old).now keys.now (place_row place.now)) }
+    /// Takes the steps of these keys out of the tables.
+    pub fn take_steps(&mut self, keys: &[StepKey], place: Option<&Place>) -> Result<(), StoreFault>
+        ensures { Transacts (PlacesAs (option_copied place.entry))
+            (FailsAs (option_copied place.entry)) (state S.Store self.old)
+            (state S.Store self.new) (without_steps keys.now) result }
     {
-        match take_steps(&mut self.connection, keys, Some(place)) {
-            Err(StoreFault::NoMemory) => Err(want_of_memory(&mut self.connection)),
-            came => came,
-        }
+        take_steps(&mut self.connection, keys, place)
     }
 
     /// Puts a network, a staff and the states of the network's points in place of those that the
-    /// tables have, in one transaction. Clearances, steps and holds stay, and so does a place in a
-    /// journal.
-    ///
-    /// `Sql` where the database refuses or fails, `NoMemory` where memory runs out. On a fault the
-    /// tables stay as they were.
+    /// tables have. Clearances, steps and holds stay.
     pub fn update(
         &mut self,
         network: &Network,
         staff: &Staff,
         states: &[PointState],
+        place: Option<&Place>,
     ) -> Result<(), StoreFault>
         requires { AreStatesOf network.now.points states.now }
-        ensures renewed { HasCleanDisk (state S.Store self.new)
-            → OnOk result (RenewsTables (state S.Store self.old).now network.now staff.now
-            states.now (state S.Store self.new).now) }
-        ensures placed { HasCleanDisk (state S.Store self.new) → OnOk result
-            (KeepsPlace (state S.Store self.old).now (state S.Store self.new).now) }
-        ensures saved { HasCleanDisk (state S.Store self.new)
-            → OnOk result (IsSaved (state S.Store self.new)) }
-        ensures still_saved { HasCleanDisk (state S.Store self.new)
-            → IsTrue (state S.Store self.new).is_open
-            → OnErr result (IsSaved (state S.Store self.new)) }
-        ensures fault { IfErr result IsOfDatabase }
-        ensures none { HasCleanDisk (state S.Store self.new)
-            → IsTrue (state S.Store self.new).is_open → OnErr result
-            ((state S.Store self.new).now ≡ (state S.Store self.old).now) }
-        ensures was_open { HasCleanDisk (state S.Store self.new)
-            → IsTrue (state S.Store self.new).is_open → IsTrue (state S.Store self.old).is_open }
-        ensures crash { Survives (state S.Store self.old) (state S.Store self.new)
-            (AreRenewed (state S.Store self.old).now network.now staff.now states.now) }
+        ensures { Transacts (PlacesAs (option_copied place.entry))
+            (FailsAs (option_copied place.entry)) (state S.Store self.old)
+            (state S.Store self.new) (tables_renewed network.now staff.now states.now) result }
     {
-        renew(&mut self.connection, network, staff, states, None)
-    }
-
-    /// Does what `update` does, and sets the place of the register in its journal, both in one
-    /// transaction.
-    ///
-    /// `Sql` where the register has no journal, where the number is 2^63 or more, and where the
-    /// database refuses or fails; `NoMemory` where memory runs out, and then the connection is
-    /// open. On a fault none of it is done.
-    pub fn update_at(
-        &mut self,
-        network: &Network,
-        staff: &Staff,
-        states: &[PointState],
-        place: &Place,
-    ) -> Result<(), StoreFault>
-        requires { AreStatesOf network.now.points states.now }
-        ensures renewed { HasCleanDisk (state S.Store self.new)
-            → OnOk result (RenewsTablesAt (state S.Store self.old).now network.now staff.now
-            states.now (place_row place.now) (state S.Store self.new).now) }
-        ensures saved { HasCleanDisk (state S.Store self.new)
-            → OnOk result (IsSaved (state S.Store self.new)) }
-        ensures still_saved { HasCleanDisk (state S.Store self.new)
-            → IsTrue (state S.Store self.new).is_open
-            → OnErr result (IsSaved (state S.Store self.new)) }
-        ensures fault { IfErr result IsOfDatabase }
-        ensures none { HasCleanDisk (state S.Store self.new)
-            → IsTrue (state S.Store self.new).is_open → OnErr result
-            ((state S.Store self.new).now ≡ (state S.Store self.old).now) }
-        ensures was_open { HasCleanDisk (state S.Store self.new)
-            → IsTrue (state S.Store self.new).is_open → IsTrue (state S.Store self.old).is_open }
-        ensures open { HasCleanDisk (state S.Store self.new)
-            → IsErrOf result StoreFault.NoMemory → IsTrue (state S.Store self.new).is_open }
-        ensures crash { Survives (state S.Store self.old) (state S.Store self.new)
-            (AreRenewedAt (state S.Store self.old).now network.now staff.now states.now
-            (place_row place.now)) }
-    {
-        match renew(&mut self.connection, network, staff, states, Some(place)) {
-            Err(StoreFault::NoMemory) => Err(want_of_memory(&mut self.connection)),
-            came => came,
-        }
+        renew(&mut self.connection, network, staff, states, place)
     }
 }

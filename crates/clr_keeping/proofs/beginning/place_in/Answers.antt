@@ -8,12 +8,12 @@ use Rattle.clr_keeping.proofs.beginning.place_in.Goals as goal
 pub returns-in-Ok-clause-placed : goal.returns-in-Ok-clause-placed
 returns-in-Ok-clause-placed g c =
     let placed : IsPlacedOrNot g.S.Store c.args.store c.args.first.now (Ok tt) c.begin_at.new.self = record {
-      made = c.in-Ok.ensures.made;
-      saved = c.in-Ok.ensures.saved;
-      level = placed-level g.S.Store c.args.store c.args.first.now c.begin_at.new.self c.in-Ok.ensures.was_open c.in-Ok.ensures.made;
+      made = c.in-Ok.ensures.transacts.made;
+      saved = c.in-Ok.ensures.transacts.saved;
+      level = placed-level g.S.Store c.args.store c.args.first.now c.begin_at.new.self c.in-Ok.ensures.transacts.was_open c.in-Ok.ensures.transacts.made;
       none = λ clean is_open. tt;
-      was_open = c.in-Ok.ensures.was_open;
-      survives = c.in-Ok.ensures.crash;
+      was_open = c.in-Ok.ensures.transacts.was_open;
+      survives = c.in-Ok.ensures.transacts.crash;
     } in
     subst (λ after. IsPlacedOrNot g.S.Store c.args.store c.args.first.now (Ok tt) after) (sym c.end.ensures.connection) placed
 
@@ -24,8 +24,8 @@ returns-in-Err-clause-placed g c =
       made = λ clean. tt;
       saved = λ clean. tt;
       level = tt;
-      none = c.in-Err.ensures.none;
-      was_open = c.in-Err.ensures.was_open;
-      survives = c.in-Err.ensures.crash;
+      none = c.in-Err.ensures.transacts.none;
+      was_open = c.in-Err.ensures.transacts.was_open;
+      survives = c.in-Err.ensures.transacts.crash;
     } in
     subst (λ after. IsPlacedOrNot g.S.Store c.args.store c.args.first.now (reported (Err c.of_store.result)) after) (sym c.end-in-Err.ensures.connection) placed

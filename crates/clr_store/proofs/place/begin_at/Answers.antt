@@ -1,29 +1,17 @@
-use Rattle.std.proofs.Common.{◌≡◌, ◌∷◌, [], None, refl, rules, subst}
+use Rattle.std.proofs.Common.{◌≡◌, ◌∷◌, [], None, Some, refl, rules, subst}
 use Rattle.sqlite.specs.Held.{state}
 use Rattle.sqlite.specs.Schema.{Schema}
 use Rattle.sqlite_schema.specs.Names.{table_named}
-use Rattle.clr_load.specs.Fault.{IsOfDatabase}
 use Rattle.clr_load.specs.TableEdits.{tables_edited}
 use Rattle.clr_load.specs.TableText.{table_text}
 use Rattle.clr_load.specs.Tables.{place_row}
 use Rattle.clr_load.specs.declared.table_name.TableName.TheVariants.{Journal}
-use Rattle.clr_load.proofs.Reopened.{left_of}
 use Rattle.clr_store.specs.Change.{AddsJournal}
-use Rattle.clr_store.specs.Contract.{AreEditedAt, MakesEditsAt}
+use Rattle.clr_store.specs.Transaction.{PlacesAs}
 use Rattle.clr_store.proofs.Beginning.{begun_at, is_none}
-use Rattle.clr_store.proofs.Ending.{Ends, as_made, begun, ends, on_ok}
+use Rattle.clr_store.proofs.Ending.{begun, on_ok, transacts}
 use Rattle.clr_store.proofs.place.begin_at.Given.{Over}
 use Rattle.clr_store.proofs.place.begin_at.Goals as goal
-
--- the transaction, from its beginning to its end
-it : (g : Over) (c : goal.After-conn-1 g) → Ends g.S.Store c.args.conn.now c.add_journal-done.new.tx.conn.now c.conn-1.given.0 IsOfDatabase
-    (AddsJournal (state g.S.Store (begun c.args.conn.now)) (state g.S.Store c.add_journal-done.new.tx.conn.now) (place_row c.args.place.now ∷ [])) c.conclude.result
-it g c =
-    let same : c.conclude.new.tx.0 ≡ c.conn-1.given.0 = search rules in
-    ends g.S.Store c.args.conn.now c.transaction-tx.result c.add_journal-done.new.tx c.conclude.new.tx.0 c.conn-1.given.0 IsOfDatabase
-    (λ h. AddsJournal (state g.S.Store h) (state g.S.Store c.add_journal-done.new.tx.conn.now) (place_row c.args.place.now ∷ [])) c.add_journal-done.result c.conclude.result
-    c.transaction-tx.ensures.begun (c.if-not-is_autocommit.ensures.settled refl) c.add_journal-done.ensures (λ d. d.inside) (λ d. d.kept) (λ _ is. is) same
-    c.conclude.ensures.ended c.conclude.ensures.done c.conclude.ensures.committed c.conclude.ensures.undone c.conclude.ensures.fault c.conclude.ensures.survives
 
 unplaced : (g : Over) (c : goal.After-conn-1 g) → table_named c.args.conn.now.schema (table_text Journal) ≡ None
 unplaced g c = subst (λ (s : Schema). table_named s (table_text Journal) ≡ None) c.schema.ensures.value (is_none c.has_journal.result _ c.if-has_journal.false c.has_journal.ensures)
@@ -31,37 +19,12 @@ unplaced g c = subst (λ (s : Schema). table_named s (table_text Journal) ≡ No
 pub returns-clause-unplaced : goal.returns-clause-unplaced
 returns-clause-unplaced g c = on_ok c.conclude.result (unplaced g c)
 
-pub returns-clause-made : goal.returns-clause-made
-returns-clause-made g c clean =
+pub returns-clause-transacts : goal.returns-clause-transacts
+returns-clause-transacts g c =
     let old = c.args.conn.now in
-    let mid = c.add_journal-done.new.tx.conn.now in
+    let mid = state g.S.Store c.add_journal-done.new.tx.conn.now in
     let row = place_row c.args.place.now in
-    as_made (MakesEditsAt (state g.S.Store old).now [] row) (state g.S.Store mid).now (state g.S.Store c.conn-1.given.0).now c.conclude.result
-    (λ adds t has. begun_at (state g.S.Store (begun old)) (state g.S.Store mid) row t has (unplaced g c) adds) ((it g c).done clean)
-
-pub returns-clause-crash : goal.returns-clause-crash
-returns-clause-crash g c =
-    let old = c.args.conn.now in
-    let mid = c.add_journal-done.new.tx.conn.now in
-    let row = place_row c.args.place.now in
-    (it g c).crash (AreEditedAt (state g.S.Store old).now [] row) (λ _ adds t has.
-    let made = begun_at (state g.S.Store (begun old)) (state g.S.Store mid) row t has (unplaced g c) adds in
-    (left_of (state g.S.Store mid).now (tables_edited [] t) made.0, made.1))
-
-pub returns-clause-mode : goal.returns-clause-mode
-returns-clause-mode g c = (it g c).mode
-
-pub returns-clause-saved : goal.returns-clause-saved
-returns-clause-saved g c = (it g c).saved
-
-pub returns-clause-still_saved : goal.returns-clause-still_saved
-returns-clause-still_saved g c = (it g c).still_saved
-
-pub returns-clause-fault : goal.returns-clause-fault
-returns-clause-fault g c = (it g c).fault
-
-pub returns-clause-none : goal.returns-clause-none
-returns-clause-none g c = (it g c).none
-
-pub returns-clause-was_open : goal.returns-clause-was_open
-returns-clause-was_open g c = (it g c).was_open
+    let same : c.conclude.new.tx.0 ≡ c.conn-1.given.0 = search rules in
+    transacts g.S.Store old c.transaction-tx.result c.add_journal-done.new.tx c.conclude.new.tx.0 c.conn-1.given.0 (PlacesAs (Some c.args.place.now)) (tables_edited [])
+    (λ h. AddsJournal (state g.S.Store h) mid (row ∷ [])) c.add_journal-done.result c.conclude.result c.transaction-tx.ensures.begun (c.if-not-is_autocommit.ensures.settled refl)
+    c.add_journal-done.ensures (λ d. d.inside) (λ d. d.kept) (λ adds t has. begun_at (state g.S.Store (begun old)) mid row t has (unplaced g c) adds) same c.conclude.ensures

@@ -1,62 +1,25 @@
-use Rattle.std.proofs.Common.{◌≡◌, List, OnOk, refl, rules, subst}
+use Rattle.std.proofs.Common.{◌≡◌, List, option_copied, refl, rules, subst}
 use Rattle.sqlite.specs.Held.{state}
-use Rattle.sqlite.specs.State.{Survives}
 use Rattle.clr_rules.specs.declared.change.Edit.{Edit}
-use Rattle.clr_load.specs.Fault.{IsOfDatabase}
 use Rattle.clr_load.specs.TableEdits.{tables_edited}
-use Rattle.clr_store.specs.Change.{Changes}
-use Rattle.clr_store.specs.Contract.{AreEdited, MakesEdits}
-use Rattle.clr_store.proofs.Ending.{Ends, begun, edits_crash, edits_made, edits_placed, ends}
-use Rattle.clr_store.proofs.store.commit_change.Given.{Over}
+use Rattle.clr_store.specs.Change.{CanSet}
+use Rattle.clr_store.specs.Transaction.{FailsAs, PlacesAs, Transacts}
+use Rattle.clr_store.proofs.Turned.{can_fit, edits_land, transacts_with}
 use Rattle.clr_store.proofs.store.commit_change.Goals as goal
 
--- the transaction, from its beginning to its end
-it : (g : Over) (c : goal.After-conn-1 g) → Ends g.S.Store c.args.conn.now c.make_all-done.new.tx.conn.now c.conn-1.given.0 IsOfDatabase
-    (Changes (state g.S.Store (begun c.args.conn.now)) (state g.S.Store c.make_all-done.new.tx.conn.now) (tables_edited c.as_slice.result.now)) c.conclude.result
-it g c =
-    let same : c.conclude.new.tx.0 ≡ c.conn-1.given.0 = search rules in
-    ends g.S.Store c.args.conn.now c.transaction-tx.result c.make_all-done.new.tx c.conclude.new.tx.0 c.conn-1.given.0 IsOfDatabase
-    (λ h. Changes (state g.S.Store h) (state g.S.Store c.make_all-done.new.tx.conn.now) (tables_edited c.as_slice.result.now)) c.make_all-done.result c.conclude.result
-    c.transaction-tx.ensures.begun (c.if-not-is_autocommit.ensures.settled refl) c.make_all-done.ensures (λ d. d.inside) (λ d. d.kept) (λ _ is. is) same
-    c.conclude.ensures.ended c.conclude.ensures.done c.conclude.ensures.committed c.conclude.ensures.undone c.conclude.ensures.fault c.conclude.ensures.survives
+pub make_with-done-requires : goal.make_with-done-requires
+make_with-done-requires g c =
+    let can : CanSet c.args.conn.now.schema (option_copied c.args.place) = search rules in
+    can_fit c.args.conn.now.schema (option_copied c.args.place) can
 
-pub returns-clause-made : goal.returns-clause-made
-returns-clause-made g c clean =
+pub returns-clause-transacts : goal.returns-clause-transacts
+returns-clause-transacts g c =
     let old = c.args.conn.now in
-    let mid = c.make_all-done.new.tx.conn.now in
+    let place = option_copied c.args.place in
     let edits = c.as_slice.result.now in
-    subst (λ (edits : List Edit). OnOk c.conclude.result (MakesEdits (state g.S.Store old).now edits (state g.S.Store c.conn-1.given.0).now)) c.as_slice.ensures.value
-    (edits_made g.S.Store old mid c.conn-1.given.0 edits c.conclude.result ((it g c).done clean))
-
-pub returns-clause-placed : goal.returns-clause-placed
-returns-clause-placed g c clean =
-    let old = c.args.conn.now in
-    let mid = c.make_all-done.new.tx.conn.now in
-    let edits = c.as_slice.result.now in
-    edits_placed g.S.Store old mid c.conn-1.given.0 edits c.conclude.result ((it g c).done clean)
-
-pub returns-clause-crash : goal.returns-clause-crash
-returns-clause-crash g c =
-    let old = c.args.conn.now in
-    let mid = c.make_all-done.new.tx.conn.now in
-    let edits = c.as_slice.result.now in
-    subst (λ (edits : List Edit). Survives (state g.S.Store old) (state g.S.Store c.conn-1.given.0) (AreEdited (state g.S.Store old).now edits)) c.as_slice.ensures.value
-    (edits_crash g.S.Store old mid c.conn-1.given.0 edits (it g c).crash)
-
-pub returns-clause-mode : goal.returns-clause-mode
-returns-clause-mode g c = (it g c).mode
-
-pub returns-clause-saved : goal.returns-clause-saved
-returns-clause-saved g c = (it g c).saved
-
-pub returns-clause-still_saved : goal.returns-clause-still_saved
-returns-clause-still_saved g c = (it g c).still_saved
-
-pub returns-clause-fault : goal.returns-clause-fault
-returns-clause-fault g c = (it g c).fault
-
-pub returns-clause-none : goal.returns-clause-none
-returns-clause-none g c = (it g c).none
-
-pub returns-clause-was_open : goal.returns-clause-was_open
-returns-clause-was_open g c = (it g c).was_open
+    let can : CanSet old.schema place = search rules in
+    let same : c.conclude-ended.new.tx.0 ≡ c.conn-1.given.0 = search rules in
+    subst (λ (edits : List Edit). Transacts (PlacesAs place) (FailsAs place) (state g.S.Store old) (state g.S.Store c.settle.new.conn) (tables_edited edits) c.settle.result) c.as_slice.ensures.value
+    (c.settle.ensures.settles old _
+    (transacts_with (tables_edited edits) (tables_edited edits) (edits_land edits) g.S.Store old c.transaction-tx.result c.make_with-done.new.tx c.conclude-ended.new.tx.0 c.conn-1.given.0 place
+    c.make_with-done.result c.conclude-ended.result c.transaction-tx.ensures.begun (c.if-not-is_autocommit.ensures.settled refl) c.make_with-done.ensures can same c.conclude-ended.ensures))

@@ -102,7 +102,7 @@ returns-in_err-commit-clause-carried g c =
       asked = if_ok r _ err;
       was_open = c.commit.ensures.commits.was_open;
       saved = λ clean saved. on_ok r _ err;
-      still_saved = λ clean shown saved. on_err r _ (c.in_err-commit.ensures.commits.still_saved clean shown saved);
+      still_saved = λ clean shown saved. on_err r _ (c.in_err-commit.ensures.commits.fault clean shown saved);
       survives = crash_after (g.K.Commit.kept c.args.self.now.store) (g.K.Commit.kept c.commit.new.self) c.args.self.now.book.register c.args.command.now
           c.in_ok-decision.decision.change.edits.items (ap (λ (a : Answer). a.edits) c.in_ok-decision.ensures.answer) c.commit.ensures.commits.crash;
     }
@@ -133,7 +133,7 @@ returns-clause-carried g c =
       tables = λ clean good has.
           subst (λ (t : Tables). HasTables db t)
           (tables_after R q c.in_ok-decision.decision.change.edits.items edits good ∙ ap tables_of (sym (changed ∙ near_after_is_after R q good)))
-          (c.in_ok-commit.ensures.commits.made clean (tables_of R) has);
+          (c.in_ok-commit.ensures.commits.made clean (tables_of R) has).0;
       unwritten = λ none. absurd (never none);
       asked = λ none. absurd (never none);
       was_open = c.commit.ensures.commits.was_open;

@@ -1,12 +1,11 @@
-use Rattle.std.proofs.Common.{◌≡◌, [], OnOk, rules, subst}
+use Rattle.std.proofs.Common.{◌≡◌, [], None, Some, rules, subst}
 use Rattle.sqlite.specs.Held.{state}
-use Rattle.sqlite.specs.State.{HasCleanDisk}
-use Rattle.clr_load.specs.Tables.{place_row}
-use Rattle.clr_store.specs.Contract.{MakesEditsAt}
+use Rattle.clr_load.specs.TableEdits.{tables_edited}
+use Rattle.clr_store.specs.Transaction.{FailsAs, PlacesAs, Transacts}
 use Rattle.clr_store.proofs.store.Store.begin_at.Goals as goal
 
-pub returns-clause-made : goal.returns-clause-made
-returns-clause-made g c =
-    let new = state g.S.Store c.begin_at.new.conn in
+pub returns-clause-transacts : goal.returns-clause-transacts
+returns-clause-transacts g c =
     let is : c.self.inside.connection ≡ c.args.self.now = search rules in
-    subst (λ h. HasCleanDisk new → OnOk c.begin_at.result (MakesEditsAt (state g.S.Store h).now [] (place_row c.args.place.now) new.now)) is c.begin_at.ensures.made
+    subst (λ h. Transacts (PlacesAs (Some c.args.place.now)) (FailsAs None) (state g.S.Store h) (state g.S.Store c.begin_at.new.conn) (tables_edited []) c.begin_at.result) is
+    c.begin_at.ensures.transacts

@@ -1,17 +1,12 @@
-use Rattle.std.proofs.Common.{◌≡◌, OnOk, rules, subst}
+use Rattle.std.proofs.Common.{◌≡◌, option_copied, rules, subst}
 use Rattle.sqlite.specs.Held.{state}
-use Rattle.sqlite.specs.State.{HasCleanDisk}
-use Rattle.clr_store.specs.Contract.{KeepsPlace, MakesEdits}
+use Rattle.clr_load.specs.TableEdits.{tables_edited}
+use Rattle.clr_store.specs.Transaction.{FailsAs, PlacesAs, Transacts}
 use Rattle.clr_store.proofs.store.Store.commit.Goals as goal
 
-pub returns-clause-made : goal.returns-clause-made
-returns-clause-made g c =
-    let new = state g.S.Store c.commit_change.new.conn in
+pub returns : goal.returns
+returns g c =
+    let place = option_copied c.args.place in
     let is : c.self.inside.connection ≡ c.args.self.now = search rules in
-    subst (λ h. HasCleanDisk new → OnOk c.commit_change.result (MakesEdits (state g.S.Store h).now c.args.change.now.edits.items new.now)) is c.commit_change.ensures.made
-
-pub returns-clause-placed : goal.returns-clause-placed
-returns-clause-placed g c =
-    let new = state g.S.Store c.commit_change.new.conn in
-    let is : c.self.inside.connection ≡ c.args.self.now = search rules in
-    subst (λ h. HasCleanDisk new → OnOk c.commit_change.result (KeepsPlace (state g.S.Store h).now new.now)) is c.commit_change.ensures.placed
+    subst (λ h. Transacts (PlacesAs place) (FailsAs place) (state g.S.Store h) (state g.S.Store c.commit_change.new.conn) (tables_edited c.args.change.now.edits.items) c.commit_change.result) is
+    c.commit_change.ensures.transacts
