@@ -1,4 +1,3 @@
-pub mod ManyRequests
 pub mod ReachedExamples
 pub mod UpdateExamples
 pub mod ArchiveExamples

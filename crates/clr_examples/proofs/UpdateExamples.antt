@@ -1,25 +1,24 @@
 -- What the laws of updates ask for, in the worked register.
 use Rattle.std.proofs.Common.{◌≡◌, ◌∙◌, ℕ, Bool, true, List, [], ◌∷◌, ◌++◌, None, refl, sym, ap, arith}
-use Rattle.clr_rules.proofs.Common.{IsStrictlySortedBy, IsReached, after_all, after_edits, in_fence, reaches, row_of, with_row, without_row, steps_in, steps_of, first_of_each, greatest_number, holds_of, touching_names}
-use Rattle.clr_rules.proofs.Common.{has_any_hold, has_some_hold, held_among, hindering_hold, new_steps, places_of}
+use Rattle.clr_rules.proofs.Common.{IsStrictlySortedBy, IsReached}
 use Rattle.std.proofs.lemmas.List.Sums.{AllPass-from_list_all}
-use Rattle.clr_net.specs.Additions.{with_named}
 use Rattle.clr_net.specs.Grid.{Grid, IsNetwork, has_ends, has_one_section, section_names}
 use Rattle.clr_net.specs.Names.{has_name}
 use Rattle.clr_rules.proofs.isolation.Agreement.{agrees_with_itself}
 use Rattle.clr_rules.proofs.keeps.EveryKind.{reached_are_good}
 use Rattle.clr_rules.proofs.staffed.EveryKind.{reached_are_staffed}
-use Rattle.clr_rules.specs.Edits.{fit}
 use Rattle.clr_rules.specs.Good.{IsGood}
 use Rattle.clr_rules.specs.Prelude.{Register}
-use Rattle.clr_rules.specs.Shown.{Item, covers, items_shown}
+use Rattle.clr_rules.specs.Shown.{Item, items_shown}
 use Rattle.clr_rules.specs.declared.command.Kind.TheVariants.{Instruct}
 use Rattle.clr_staff.specs.Staff.{IsStaff, has_known_supervisor, is_own_supervisor, staff_names}
 use Rattle.clr_update.specs.Entries.{AllReadable, Entry, Sight, covers_all, is_never_operators, shown_by, sights}
-use Rattle.clr_update.specs.Update.{after_update, filed, first_needed, obstacles}
+use Rattle.clr_update.specs.Update.{after_update, in_the_way}
 use Rattle.clr_examples.proofs.ReachedExamples.{each_false, worked_is_network, worked_is_staff}
-use Rattle.clr_examples.specs.Updates.{BothShowTheSame, NothingIsInTheWay, TheUpdateIsAccepted, at_work, first_step, is_built, l2_in_order, line_alone}
+use Rattle.clr_examples.specs.Updates.{at_work, first_step, is_built, l2_in_order, line_alone, update_rules}
 use Rattle.clr_examples.specs.Worked.{L2, OPS, c1_is_on, from_moment, jones_1, l2_ordered, said_at, says, worked_net, worked_staff}
+use Rattle.clr_update.specs.Laws.{IsAccepted, ShowAlike}
+use Rattle.clr_rules.specs.Staffed.{IsStaffed}
 
 built_is_network : IsNetwork is_built.net
 unfolding IsStrictlySortedBy
@@ -55,11 +54,12 @@ work_is_reached = record {
 work_is_good : IsGood at_work
 work_is_good = reached_are_good at_work work_is_reached
 
-nothing_in_the_way : NothingIsInTheWay
-unfolding in_fence reaches row_of with_row without_row with_named new_steps holds_of has_any_hold hindering_hold first_of_each steps_in steps_of greatest_number touching_names after_edits after_all fit filed first_needed obstacles
+nothing_in_the_way : in_the_way at_work is_built ≡ None
+unfolding update_rules
 nothing_in_the_way = refl
 
-pub is_accepted : TheUpdateIsAccepted
+-- a line is built beside a crew at work: the register is reached, so it is good and staffed
+pub is_accepted : IsAccepted at_work is_built × IsStaffed at_work
 is_accepted = (
   record { good = work_is_good; read = record { network = built_is_network; staff = built_is_staff }; free = nothing_in_the_way },
   reached_are_staffed at_work work_is_reached,
@@ -84,16 +84,16 @@ abbrev here : List Entry
 here = Entry.update line_alone ∷ first_step ∷ []
 
 never : is_never_operators jones_1 l2_in_order here ≡ true
-unfolding in_fence reaches row_of with_row without_row with_named new_steps holds_of places_of has_some_hold has_any_hold hindering_hold held_among first_of_each steps_in steps_of greatest_number touching_names after_edits after_all fit filed first_needed obstacles items_shown covers sights covers_all is_never_operators
+unfolding update_rules sights covers_all is_never_operators
 never = refl
 
 covered : covers_all jones_1 in_l2 l2_in_order here ≡ true
-unfolding in_fence reaches row_of with_row without_row with_named new_steps holds_of places_of has_some_hold has_any_hold hindering_hold held_among first_of_each steps_in steps_of greatest_number touching_names after_edits after_all fit filed first_needed obstacles items_shown covers sights covers_all is_never_operators
+unfolding update_rules sights covers_all is_never_operators
 covered = refl
 
 -- the line shows nothing on L2
 silent : shown_by jones_1 in_l2 l2_in_order (Entry.update line_alone) ≡ []
-unfolding in_fence reaches row_of with_row without_row with_named new_steps holds_of places_of has_some_hold has_any_hold hindering_hold held_among first_of_each steps_in steps_of greatest_number touching_names after_edits after_all fit filed first_needed obstacles
+unfolding update_rules
 silent = refl
 
 -- whatever the register, the step is shown as an own command
@@ -107,7 +107,8 @@ shown_alike =
     ap (λ (first : List Sight). first ++ sights jones_1 in_l2 (after_update l2_in_order line_alone) (first_step ∷ [])) silent
     ∙ step_shown (after_update l2_in_order line_alone) ∙ sym (step_shown l2_in_order)
 
-pub both_show : BothShowTheSame
+-- with the line and without it JONES/1 is shown the same
+pub both_show : ShowAlike jones_1 in_l2 l2_in_order here l2_in_order (first_step ∷ [])
 unfolding AllReadable
 both_show = record {
   first_good = reached_are_good l2_in_order order_is_reached;

@@ -2,29 +2,36 @@
 -- and OPS switches S4 there while JONES has the clearance; two has little more than L2, and nothing
 -- else is done there. The fence of JONES/1 is L2 in both.
 use Rattle.std.specs.Prelude.{◌≡◌, ℕ, Bool, true, false, List, [], ◌∷◌, ◌++◌, length, map, filter}
-use Rattle.std.specs.Prelude.{codes, Some, None}
+use Rattle.std.specs.Prelude.{codes, Some, None, is_some, ◌==◌, refl}
 use Rattle.clr_staff.specs.declared.employee.Role.TheVariants.{Operator, Charge, Field}
 use Rattle.clr_rules.specs.Prelude.{StaffRow, Grid, same_name, has_name, Position, Task, Waiting}
-use Rattle.clr_rules.specs.Prelude.{steps_of, has_hold}
+use Rattle.clr_rules.specs.Prelude.{steps_of, has_hold, PointRow, list_all, list_any}
 use Rattle.clr_net.specs.declared.point.Position.TheVariants.{Opened, Closed as Shut}
 use Rattle.clr_rules.specs.Agreement.{Agree, part_near}
-use Rattle.clr_rules.specs.Good.{is_operators}
 use Rattle.clr_rules.specs.Register.{Register, opening}
-use Rattle.clr_rules.specs.Run.{IsReached, after_all}
-use Rattle.clr_rules.specs.Shown.{covers, marks, own, own_answers, items_shown}
+use Rattle.clr_rules.specs.Run.{after_all}
+use Rattle.clr_rules.specs.Good.{is_operators}
+use Rattle.clr_rules.specs.Shown.{Item, covers, marks, own, own_answers, items_shown}
 use Rattle.clr_examples.specs.Worked.{BOSS, DALE, JONES, KIM, L1, L2, L3, OPS, REED, S2, S3, S4}
 use Rattle.clr_examples.specs.Worked.{Saying, T1, does, from_moment, isolating_l2_and_l3, jones_1}
 use Rattle.clr_examples.specs.Worked.{jones_works_and_releases, kim_1, kim_asks, l2_asked}
 use Rattle.clr_examples.specs.Worked.{l2_granted, l2_is_restored, ops_1, said_at, says, step_runs}
 use Rattle.clr_examples.specs.Worked.{worked_opening, worked_staff, point_row, s2_row, s3_row}
+use Rattle.clr_examples.specs.Worked.{the_rules}
 use Rattle.clr_examples.specs.WorkedRows.{done_step, jones_record, l2_steps_done}
-use Rattle.clr_order.specs.declared.action.Action.TheVariants as actions
 use Rattle.clr_rules.specs.declared.change.Edit.TheVariants.{SetPosition, SetHand}
 use Rattle.clr_rules.specs.declared.command.Command.{Command}
 use Rattle.clr_rules.specs.declared.hold_kind.HoldKind.TheVariants.{Tag}
 use Rattle.clr_rules.specs.declared.phase.Phase.TheVariants.{Closed}
 use Rattle.clr_rules.specs.declared.step_row.StepRow.{StepRow}
 use Rattle.clr_rules.specs.declared.command.Kind.TheVariants.{Request, Order, Switch}
+use Rattle.clr_rules.specs.Holds.{holds_of}
+use Rattle.clr_rules.specs.Records.{greatest_number}
+use Rattle.clr_rules.specs.Live.{is_shut}
+use Rattle.clr_rules.specs.declared.point_state.PointState.{PointState}
+use mathlib.Core.Path.{ap, sym, ◌∙◌}
+use mathlib.Core.Bool.{true≢false}
+use Rattle.clr_order.specs.declared.action.Action.TheVariants as actions
 
 -- THE TWO REGISTERS
 
@@ -71,43 +78,33 @@ with_s3_switched = list_one S3 (codes "OPEN S3")
 
 -- WHAT ISOLATION ASKS
 
+-- both are reached (`proofs/ReachedExamples`), and JONES is no operator
+pub no_operator : is_operators register_one JONES ≡ false
+unfolding the_rules
+no_operator = refl
+
 -- the registers agree near JONES/1 on L2, although one of them has five sections and the other
 -- three
-abbrev pub TheRegistersAgree : Type 0
-TheRegistersAgree = Agree jones_1 in_l2 register_one register_two
+pub agree : Agree jones_1 in_l2 register_one register_two
+unfolding the_rules
+agree = record { near = refl; own_holds = refl; greatest = refl }
 
--- both are reached: they are the opening registers of two networks and a staff
-abbrev pub BothAreReached : Type 0
-BothAreReached = IsReached register_one × IsReached register_two
-
--- and JONES is no operator
-abbrev pub JonesIsNoOperator : Type 0
-JonesIsNoOperator = is_operators register_one JONES ≡ false
-
--- L2 covers the run in register one
-abbrev pub L2CoversTheRun : Type 0
-L2CoversTheRun = covers jones_1 in_l2 register_one with_s4_switched ≡ true
-
--- both lists show JONES/1 the same: its own 49 commands, and no mark
-abbrev pub TheListsShowTheSame : Type 0
-TheListsShowTheSame =
-    items_shown jones_1 in_l2 register_one with_s4_switched
-    ≡ items_shown jones_1 in_l2 register_two list_two
-
--- the first of them is JONES's request, with the row of the section that it asks for
-abbrev pub RequestsShowTheirSection : Type 0
-RequestsShowTheirSection = items_shown jones_1 in_l2 register_one (from_moment 100 l2_asked)
-    ≡ own (said_at 100 (says JONES (Request L2))) (Some (record { name = L2; source = false })) ∷ []
-
-abbrev pub FortyNineAreShown : Type 0
-FortyNineAreShown = length (items_shown jones_1 in_l2 register_one with_s4_switched) ≡ 49
+-- what isolation asks of two registers and two lists: the registers agree, the set covers the run,
+-- and the lists show the same
+pub premises :
+    -- L2 covers the run in register one
+    (covers jones_1 in_l2 register_one with_s4_switched ≡ true)
+    -- both lists show JONES/1 the same: its own 49 commands, and no mark
+    × (items_shown jones_1 in_l2 register_one with_s4_switched
+    ≡ items_shown jones_1 in_l2 register_two list_two)
+    × (length (items_shown jones_1 in_l2 register_one with_s4_switched) ≡ 49)
+    -- the first of them is JONES's request, with the row of the section that it asks for
+    × (items_shown jones_1 in_l2 register_one (from_moment 100 l2_asked)
+    ≡ own (said_at 100 (says JONES (Request L2))) (Some (record { name = L2; source = false })) ∷ [])
+unfolding the_rules
+premises = (refl, refl, refl, refl)
 
 -- AND WHAT IT GIVES
-
--- JONES/1 has the same replies and the same edits
-abbrev pub TheAnswersAreTheSame : Type 0
-TheAnswersAreTheSame =
-    own_answers jones_1 register_one with_s4_switched ≡ own_answers jones_1 register_two list_two
 
 -- what is near JONES/1 in the end: nothing is held, S2 and S3 are closed, and all twelve steps
 -- are done
@@ -130,28 +127,48 @@ near_in_the_end = record {
   holds = [];
 }
 
-abbrev pub OneEndsSo : Type 0
-OneEndsSo = part_near (after_all register_one with_s4_switched) jones_1 in_l2 ≡ near_in_the_end
-
-abbrev pub TwoEndsSo : Type 0
-TwoEndsSo = part_near (after_all register_two list_two) jones_1 in_l2 ≡ near_in_the_end
+-- what it gives: the answers are the same, and the registers agree again
+pub outcome :
+    -- JONES/1 has the same replies and the same edits
+    (own_answers jones_1 register_one with_s4_switched ≡ own_answers jones_1 register_two list_two)
+    × (part_near (after_all register_one with_s4_switched) jones_1 in_l2 ≡ near_in_the_end)
+    × (part_near (after_all register_two list_two) jones_1 in_l2 ≡ near_in_the_end)
+    -- JONES/1 holds nothing in either, and is JONES's one clearance in both
+    × (holds_of (Register.holds (after_all register_one with_s4_switched)) jones_1 ≡ [])
+    × (holds_of (Register.holds (after_all register_two list_two)) jones_1 ≡ [])
+    × (greatest_number (Register.records (after_all register_one with_s4_switched)) JONES ≡ 1)
+    × (greatest_number (Register.records (after_all register_two list_two)) JONES ≡ 1)
+unfolding the_rules
+outcome = (refl, refl, refl, refl, refl, refl, refl)
 
 -- and so the registers agree again
-abbrev pub TheRegistersStillAgree : Type 0
-TheRegistersStillAgree =
+pub still_agree :
     Agree jones_1 in_l2 (after_all register_one with_s4_switched) (after_all register_two list_two)
+unfolding the_rules
+still_agree = record {
+  near = outcome.1 ∙ sym outcome.2;
+  own_holds = outcome.3 ∙ sym outcome.4;
+  greatest = outcome.5 ∙ sym outcome.6;
+}
 
--- WHERE THEY DO NOT AGREE
+-- WHERE THEY DO NOT AGREE: a test of the near part, or of the greatest number, distinguishes them
 
 -- S3, which has an end in L2, cannot be locked in the second register
-abbrev pub AnotherPointDisagrees : Type 0
-AnotherPointDisagrees =
-    Agree jones_1 in_l2 register_one (opening (two_net false Shut) worked_staff) → ⊥
+all_lockable : Register → Bool
+all_lockable R = list_all (λ (p : PointRow). p.lockable) (Grid.points R.net)
+
+pub another_point : Agree jones_1 in_l2 register_one (opening (two_net false Shut) worked_staff) → ⊥
+unfolding the_rules all_lockable
+another_point agree = true≢false (ap all_lockable agree.near)
 
 -- S2 is open there
-abbrev pub AnotherPositionDisagrees : Type 0
-AnotherPositionDisagrees =
+all_closed : Register → Bool
+all_closed R = list_all (λ (state : PointState). is_shut (Some state.position)) R.states
+
+pub another_position :
     Agree jones_1 in_l2 register_one (opening (two_net true Opened) worked_staff) → ⊥
+unfolding the_rules all_closed
+another_position agree = true≢false (ap all_closed agree.near)
 
 -- JONES has no supervisor there
 abbrev pub another_staff : List StaffRow
@@ -164,14 +181,22 @@ another_staff =
     ∷ record { name = REED; role = Field; supervisor = None }
     ∷ []
 
-abbrev pub AnotherStaffDisagrees : Type 0
-AnotherStaffDisagrees =
+has_supervisor : Register → Bool
+has_supervisor R = list_any (λ (row : StaffRow). is_some row.supervisor) R.staff
+
+pub another_supervisor :
     Agree jones_1 in_l2 register_one (opening (two_net true Shut) another_staff) → ⊥
+unfolding the_rules has_supervisor
+another_supervisor agree = true≢false (ap has_supervisor agree.near)
 
 -- JONES has asked for a clearance there already
-abbrev pub AnotherNumberDisagrees : Type 0
-AnotherNumberDisagrees =
+is_none : ℕ → Bool
+is_none n = n == 0
+
+pub another_number :
     Agree jones_1 in_l2 register_one (after_all register_two (from_moment 100 l2_asked)) → ⊥
+unfolding the_rules is_none
+another_number agree = true≢false (ap is_none agree.greatest)
 
 -- A NEIGHBOUR'S ORDER: after the grant KIM/1 is asked for, on L3, and ordered at S4, T1 and S3; its
 -- six steps at S4 and T1 run, and no step at S3 is given out
@@ -198,28 +223,21 @@ with_kim =
     from_moment 100 l2_granted ++ from_moment 300 kim_switches_outside
     ++ from_moment 121 (jones_works_and_releases ++ l2_is_restored)
 
--- L2 covers this run too, it shows JONES/1 the same, and gives JONES/1 the same answers
-abbrev pub L2CoversKimsRun : Type 0
-L2CoversKimsRun = covers jones_1 in_l2 register_one with_kim ≡ true
-
-abbrev pub KimLeavesNoMark : Type 0
-KimLeavesNoMark =
-    items_shown jones_1 in_l2 register_one with_kim
-    ≡ items_shown jones_1 in_l2 register_two list_two
-
-abbrev pub KimChangesNoAnswer : Type 0
-KimChangesNoAnswer =
-    own_answers jones_1 register_one with_kim ≡ own_answers jones_1 register_two list_two
-
--- though KIM/1's sixth step is done, and the seventh waits
-abbrev pub KimsTagHangs : Type 0
-KimsTagHangs = has_hold (Register.holds (after_all register_one with_kim)) kim_1 Tag T1 ≡ true
-
-abbrev pub KimLeavesS3 : Type 0
-KimLeavesS3 =
-    map (λ (row : StepRow). row.step.state)
+-- a neighbour's order, whose steps at other points run: the set covers it, the same is shown, and
+-- the answers are the same
+pub neighbours_order :
+    -- L2 covers this run too, it shows JONES/1 the same, and gives JONES/1 the same answers
+    (covers jones_1 in_l2 register_one with_kim ≡ true)
+    × (items_shown jones_1 in_l2 register_one with_kim
+    ≡ items_shown jones_1 in_l2 register_two list_two)
+    × (own_answers jones_1 register_one with_kim ≡ own_answers jones_1 register_two list_two)
+    -- though KIM/1's sixth step is done, and the seventh waits
+    × (has_hold (Register.holds (after_all register_one with_kim)) kim_1 Tag T1 ≡ true)
+    × (map (λ (row : StepRow). row.step.state)
     (steps_at_s3 (Register.steps (after_all register_one with_kim)))
-    ≡ Waiting ∷ Waiting ∷ Waiting ∷ []
+    ≡ Waiting ∷ Waiting ∷ Waiting ∷ [])
+unfolding the_rules
+neighbours_order = (refl, refl, refl, refl, refl)
 
 -- WHERE THE SET DOES NOT COVER
 
@@ -229,28 +247,32 @@ wide_list =
     from_moment 100 (l2_asked ++ says OPS (Order jones_1 (S2 ∷ S4 ∷ T1 ∷ []) isolating_l2_and_l3)
     ∷ [])
 
-abbrev pub L2DoesNotCoverL3 : Type 0
-L2DoesNotCoverL3 = covers jones_1 in_l2 register_one wide_list ≡ false
-
-abbrev pub BothSectionsCover : Type 0
-BothSectionsCover = covers jones_1 (has_name (L2 ∷ L3 ∷ [])) register_one wide_list ≡ true
+-- a set that does not cover a run, and one that does
+pub coverage :
+    (covers jones_1 in_l2 register_one wide_list ≡ false)
+    × (covers jones_1 (has_name (L2 ∷ L3 ∷ [])) register_one wide_list ≡ true)
+unfolding the_rules
+coverage = (refl, refl)
 
 -- WHERE THE LISTS DO NOT SHOW THE SAME
 
--- OPS switches S3 in place of S4, and S3 has an end in L2
-abbrev pub AnotherSwitchIsSeen : Type 0
-AnotherSwitchIsSeen =
+-- OPS switches S3 in place of S4, and S3 has an end in L2: two marks beside the 49 own commands
+is_seen : List Item → Bool
+is_seen items = length items == 51
+
+pub another_shown :
     items_shown jones_1 in_l2 register_one with_s3_switched
     ≡ items_shown jones_1 in_l2 register_two list_two → ⊥
+unfolding the_rules is_seen
+another_shown same = true≢false (ap is_seen same)
 
--- the marks of that switch order: S3 is taken in hand; then it is open, and in nobody's hand
-abbrev pub ItsMarksAreSeen : Type 0
-ItsMarksAreSeen =
-    items_shown jones_1 in_l2 register_one (from_moment 100 (ops_switches S3 (codes "OPEN S3"))) ≡
-    marks (SetHand S3 (Some ops_1)) [] ∷ marks (SetPosition S3 Opened) (SetHand S3 None ∷ []) ∷ []
-
--- of S4 nothing is seen
-abbrev pub NoMarkIsSeen : Type 0
-NoMarkIsSeen =
-    items_shown jones_1 in_l2 register_one (from_moment 100 (ops_switches S4 (codes "OPEN S4")))
-    ≡ []
+-- a switch order that is seen, and one that is not
+pub switches_seen :
+    -- the marks of that switch order: S3 is taken in hand; then it is open, and in nobody's hand
+    (items_shown jones_1 in_l2 register_one (from_moment 100 (ops_switches S3 (codes "OPEN S3"))) ≡
+    marks (SetHand S3 (Some ops_1)) [] ∷ marks (SetPosition S3 Opened) (SetHand S3 None ∷ []) ∷ [])
+    -- of S4 nothing is seen
+    × (items_shown jones_1 in_l2 register_one (from_moment 100 (ops_switches S4 (codes "OPEN S4")))
+    ≡ [])
+unfolding the_rules
+switches_seen = (refl, refl)

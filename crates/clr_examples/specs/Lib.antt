@@ -1,7 +1,6 @@
 pub mod Worked
 pub mod WorkedRows
 pub mod Changes
-pub mod FirstChecks
 pub mod Isolation
 pub mod Jumpers
 pub mod Live
@@ -10,7 +9,6 @@ pub mod Neighbours
 pub mod Orders
 pub mod Others
 pub mod Phases
-pub mod Refusals
 pub mod Runs
 pub mod Sequence
 pub mod Sight

@@ -1,7 +1,7 @@
 -- EXAMPLES OF WHAT DOES NOT SERVE AND WHAT DOES NOT HINDER: another's test, ground and crew;
 -- another section; another employee; a hand of one's own.
 use Rattle.std.specs.Prelude.{◌≡◌, ℕ, false, true, List, [], ◌∷◌, ◌++◌, codes, Some, None, map}
-use Rattle.std.specs.Prelude.{Option}
+use Rattle.std.specs.Prelude.{Option, refl}
 use Rattle.clr_net.specs.declared.point.Position.TheVariants.{Closed as Shut}
 use Rattle.clr_rules.specs.Answer.{Answer, answer}
 use Rattle.clr_rules.specs.Prelude.{after_edits}
@@ -15,13 +15,12 @@ use Rattle.clr_examples.specs.Worked.{BOSS, C1, JONES, KIM, L2, L3, OPS, REED, S
 use Rattle.clr_examples.specs.Worked.{accepted, answer_after, c1_is_on, kim_is_ordered, refused}
 use Rattle.clr_examples.specs.Worked.{does, from_moment, isolating_l2, jones_1, kim_1, l2_granted}
 use Rattle.clr_examples.specs.Worked.{ops_1, register_after, s2_opened, said_at, says, step_runs}
-use Rattle.clr_examples.specs.Worked.{worked_staff, point_row}
+use Rattle.clr_examples.specs.Worked.{worked_staff, point_row, the_rules}
 use Rattle.clr_examples.specs.WorkedRows.{kim_card, kim_record}
 use Rattle.clr_rules.specs.declared.command.Kind.TheVariants.{Request, Order, Instruct, Grant, Test}
 use Rattle.clr_rules.specs.declared.command.Kind.TheVariants.{Ground as LayGround, Unground, SignOn}
 use Rattle.clr_rules.specs.declared.command.Kind.TheVariants.{SignOff, Transfer, Release, Cancel}
 use Rattle.clr_rules.specs.declared.command.Kind.TheVariants.{Restore, Switch}
-use Rattle.clr_order.specs.declared.action.Action.TheVariants as actions
 use Rattle.clr_rules.specs.declared.change.Edit.TheVariants.{SetHand, PutHold, TakeHold, PutRecord}
 use Rattle.clr_rules.specs.declared.hold.Hold.{Hold}
 use Rattle.clr_rules.specs.declared.hold_kind.HoldKind.{HoldKind}
@@ -31,6 +30,7 @@ use Rattle.clr_rules.specs.declared.phase.Phase.TheVariants.{Requested, Released
 use Rattle.clr_rules.specs.declared.refusal.Refusal.TheVariants.{NotHolder, NotTested, Grounded}
 use Rattle.clr_rules.specs.declared.refusal.Refusal.TheVariants.{NotGrounded, CrewsOn, CrewState}
 use Rattle.clr_rules.specs.declared.refusal.Refusal.TheVariants.{BadTransfer, Held}
+use Rattle.clr_order.specs.declared.action.Action.TheVariants as actions
 
 -- KIM has a clearance on L2 as well, at the same points
 abbrev pub kim_beside : List Saying
@@ -46,30 +46,36 @@ kim_beside =
 abbrev pub beside_a_crew : List Saying
 beside_a_crew = c1_is_on ++ kim_beside
 
-pub record AnothersHoldsDoNotServe : Type 0 where
-  pub test : tells beside_a_crew (says KIM (LayGround kim_1 L2)) NotTested
-  pub ground : tells (beside_a_crew ++ says KIM (Test kim_1 L2 true)
-      ∷ []) (says KIM (SignOn kim_1 C1)) NotGrounded
-  pub taken_ground : tells beside_a_crew (says KIM (Unground kim_1 L2)) NotGrounded
-  pub crew : tells beside_a_crew (says KIM (SignOff kim_1 C1)) CrewState
+-- holds of another clearance
+pub anothers_do_not_serve :
+    tells beside_a_crew (says KIM (LayGround kim_1 L2)) NotTested
+    × tells (beside_a_crew ++ says KIM (Test kim_1 L2 true)
+    ∷ []) (says KIM (SignOn kim_1 C1)) NotGrounded
+    × tells beside_a_crew (says KIM (Unground kim_1 L2)) NotGrounded
+    × tells beside_a_crew (says KIM (SignOff kim_1 C1)) CrewState
+unfolding the_rules
+anothers_do_not_serve = (refl, refl, refl, refl)
 
--- and they do not hinder what is KIM's own
-pub record AnothersHoldsDoNotHinder : Type 0 where
-  pub second_ground : refused_after (beside_a_crew ++ says KIM (Test kim_1 L2 true)
-      ∷ []) (says KIM (LayGround kim_1 L2)) ≡ None
-  pub release : refused_after beside_a_crew (says KIM (Release kim_1 true true)) ≡ None
-  pub unground : refused_after (beside_a_crew ++ says KIM (Test kim_1 L2 true)
-      ∷ says KIM (LayGround kim_1 L2) ∷ []) (says KIM (Unground kim_1 L2)) ≡ None
-  pub same_crew : refused_after (beside_a_crew ++ says KIM (Test kim_1 L2 true)
-      ∷ says KIM (LayGround kim_1 L2) ∷ []) (says KIM (SignOn kim_1 C1)) ≡ None
-  -- JONES holds S2 open, and KIM's order, which holds nothing, is closed where it is given up
-  pub cancel : answer_after (s2_opened ++ kim_is_ordered) (says KIM (Cancel kim_1))
-      ≡ accepted (kim_card Closed 1 0 9) (PutRecord (kim_record Closed 107) ∷ [])
-  -- a release takes KIM's own test alone
-  pub tests : answer_after (beside_a_crew ++ says KIM (Test kim_1 L2 true)
-      ∷ []) (says KIM (Release kim_1 true true)) ≡ accepted (kim_card Released 1 6 6)
-      (TakeHold (hold_of kim_1 Tested L2)
-      ∷ PutRecord (record (kim_record Released 146) { work = Some L2 }) ∷ [])
+-- holds of another clearance
+pub anothers_do_not_hinder :
+    -- and they do not hinder what is KIM's own
+    (refused_after (beside_a_crew ++ says KIM (Test kim_1 L2 true)
+    ∷ []) (says KIM (LayGround kim_1 L2)) ≡ None)
+    × (refused_after beside_a_crew (says KIM (Release kim_1 true true)) ≡ None)
+    × (refused_after (beside_a_crew ++ says KIM (Test kim_1 L2 true)
+    ∷ says KIM (LayGround kim_1 L2) ∷ []) (says KIM (Unground kim_1 L2)) ≡ None)
+    × (refused_after (beside_a_crew ++ says KIM (Test kim_1 L2 true)
+    ∷ says KIM (LayGround kim_1 L2) ∷ []) (says KIM (SignOn kim_1 C1)) ≡ None)
+    -- JONES holds S2 open, and KIM's order, which holds nothing, is closed where it is given up
+    × (answer_after (s2_opened ++ kim_is_ordered) (says KIM (Cancel kim_1))
+    ≡ accepted (kim_card Closed 1 0 9) (PutRecord (kim_record Closed 107) ∷ []))
+    -- a release takes KIM's own test alone
+    × (answer_after (beside_a_crew ++ says KIM (Test kim_1 L2 true)
+    ∷ []) (says KIM (Release kim_1 true true)) ≡ accepted (kim_card Released 1 6 6)
+    (TakeHold (hold_of kim_1 Tested L2)
+    ∷ PutRecord (record (kim_record Released 146) { work = Some L2 }) ∷ []))
+unfolding the_rules
+anothers_do_not_hinder = (refl, refl, refl, refl, refl, refl)
 
 -- KIM's fence has L2 and the work section L3, both tested; L2 is grounded
 abbrev pub l2_beside_the_work : List Saying
@@ -80,64 +86,62 @@ abbrev pub both_grounded : List Saying
 both_grounded =
     l2_beside_the_work ++ says KIM (LayGround kim_1 L3) ∷ says KIM (SignOn kim_1 C1) ∷ []
 
-pub record WorkSectionsCount : Type 0 where
-  pub ground : tells l2_beside_the_work (says KIM (SignOn kim_1 C1)) NotGrounded
-  pub test : tells (l2_beside_the_work ++ says KIM (Test kim_1 L3 false)
-      ∷ []) (says KIM (SignOn kim_1 C1)) NotTested
-  pub crews : tells both_grounded (says KIM (Unground kim_1 L3)) CrewsOn
-  pub elsewhere : refused_after both_grounded (says KIM (Unground kim_1 L2)) ≡ None
-  -- any ground keeps the clearance from being released
-  pub release : tells l2_beside_the_work (says KIM (Release kim_1 true true)) Grounded
+-- where a crew works
+pub work_sections :
+    tells l2_beside_the_work (says KIM (SignOn kim_1 C1)) NotGrounded
+    × tells (l2_beside_the_work ++ says KIM (Test kim_1 L3 false)
+    ∷ []) (says KIM (SignOn kim_1 C1)) NotTested
+    × tells both_grounded (says KIM (Unground kim_1 L3)) CrewsOn
+    × (refused_after both_grounded (says KIM (Unground kim_1 L2)) ≡ None)
+    -- any ground keeps the clearance from being released
+    × tells l2_beside_the_work (says KIM (Release kim_1 true true)) Grounded
+unfolding the_rules
+work_sections = (refl, refl, refl, refl, refl)
 
--- WHO MAY HOLD A CLEARANCE, and who may hand it on
-pub record WhoMayHold : Type 0 where
-  pub stranger : tells l2_granted (says JONES (Transfer jones_1 ZZ false)) BadTransfer
-  pub operator : tells l2_granted (says JONES (Transfer jones_1 OPS false)) BadTransfer
-  pub field : tells l2_granted (says JONES (Transfer jones_1 REED false)) BadTransfer
-  pub supervisor : refused_after l2_granted (says JONES (Transfer jones_1 BOSS false)) ≡ None
-  -- the holder may name an emergency too
-  pub holder_in_emergency : refused_after l2_granted (says JONES (Transfer jones_1 KIM true)) ≡ None
-  -- BOSS is the supervisor of JONES, who asked, and not of KIM, who holds the clearance now
-  pub of_the_requester : tells (l2_granted ++ says JONES (Transfer jones_1 KIM false)
-      ∷ []) (says BOSS (Transfer jones_1 BOSS true)) NotHolder
+-- transfers
+pub holders :
+    -- WHO MAY HOLD A CLEARANCE, and who may hand it on
+    tells l2_granted (says JONES (Transfer jones_1 ZZ false)) BadTransfer
+    × tells l2_granted (says JONES (Transfer jones_1 OPS false)) BadTransfer
+    × tells l2_granted (says JONES (Transfer jones_1 REED false)) BadTransfer
+    × (refused_after l2_granted (says JONES (Transfer jones_1 BOSS false)) ≡ None)
+    -- the holder may name an emergency too
+    × (refused_after l2_granted (says JONES (Transfer jones_1 KIM true)) ≡ None)
+    -- BOSS is the supervisor of JONES, who asked, and not of KIM, who holds the clearance now
+    × tells (l2_granted ++ says JONES (Transfer jones_1 KIM false)
+    ∷ []) (says BOSS (Transfer jones_1 BOSS true)) NotHolder
+unfolding the_rules
+holders = (refl, refl, refl, refl, refl, refl)
 
 -- REGISTERS THAT NO COMMANDS MAKE show what a check says by itself
-
--- JONES/1 has S3 in hand already: a hand of its own does not hinder
-abbrev pub OwnHandsDoNotHinder : Type 0
-OwnHandsDoNotHinder =
-    refusal_in
-    (Answer.reply
-    (answer (after_edits (SetHand S3 (Some jones_1) ∷ []) (register_after s2_opened))
-    (said_at 200 (says OPS (Instruct jones_1 2))))) ≡ None
-
--- S2 bears a tag of JONES/1, and is held open by KIM/1: the lesser clearance is named, although its
--- hold is of a later kind
-abbrev pub LesserClearancesAreNamed : Type 0
-LesserClearancesAreNamed =
-    answer (after_edits (PutHold (hold_of jones_1 Tag S2) ∷ PutHold (hold_of kim_1 HeldOpen S2)
-    ∷ []) (register_after (says OPS (Switch (does actions.Close S2 ∷ [])) ∷ [])))
-    (said_at 200 (says OPS (Instruct ops_1 1))) ≡ refused (Held jones_1 Tag)
 
 -- of one clearance's holds at a point the first is named: HeldOpen, then Block, then Control, then
 -- Tag
 abbrev pub first_at_s2 : List HoldKind → Option Hold
 first_at_s2 kinds = hindering_hold (map (λ kind. hold_of jones_1 kind S2) kinds) kim_1 S2
 
-pub record KindsStandInOrder : Type 0 where
-  pub held_open : first_at_s2 (Block ∷ HeldOpen ∷ []) ≡ Some (hold_of jones_1 HeldOpen S2)
-  pub block : first_at_s2 (Control ∷ Tag ∷ Block ∷ []) ≡ Some (hold_of jones_1 Block S2)
-  pub control : first_at_s2 (Tag ∷ Control ∷ []) ≡ Some (hold_of jones_1 Control S2)
-  pub none : first_at_s2 (Tested ∷ Ground ∷ Crew ∷ []) ≡ None
-  -- a clearance's own HeldOpen does not keep it from closing the point, and its own tag does
-  pub own_tag : hindering_hold (hold_of jones_1 HeldOpen S2 ∷ hold_of jones_1 Tag S2
-      ∷ []) jones_1 S2 ≡ Some (hold_of jones_1 Tag S2)
-  pub own_held_open : hindering_hold (hold_of jones_1 HeldOpen S2 ∷ []) jones_1 S2 ≡ None
-
--- a holder whom the staff lacks has no supervisor
-abbrev pub StrangersHaveNoSupervisor : Type 0
-StrangersHaveNoSupervisor =
-    answer (after_edits
+-- what a check says by itself, in registers that no commands make
+pub made_registers :
+    -- JONES/1 has S3 in hand already: a hand of its own does not hinder
+    (refusal_in
+    (Answer.reply
+    (answer (after_edits (SetHand S3 (Some jones_1) ∷ []) (register_after s2_opened))
+    (said_at 200 (says OPS (Instruct jones_1 2))))) ≡ None)
+    -- S2 bears a tag of JONES/1, and is held open by KIM/1: the lesser clearance is named, although
+    -- its hold is of a later kind
+    × (answer (after_edits (PutHold (hold_of jones_1 Tag S2) ∷ PutHold (hold_of kim_1 HeldOpen S2)
+    ∷ []) (register_after (says OPS (Switch (does actions.Close S2 ∷ [])) ∷ [])))
+    (said_at 200 (says OPS (Instruct ops_1 1))) ≡ refused (Held jones_1 Tag))
+    × (first_at_s2 (Block ∷ HeldOpen ∷ []) ≡ Some (hold_of jones_1 HeldOpen S2))
+    × (first_at_s2 (Control ∷ Tag ∷ Block ∷ []) ≡ Some (hold_of jones_1 Block S2))
+    × (first_at_s2 (Tag ∷ Control ∷ []) ≡ Some (hold_of jones_1 Control S2))
+    × (first_at_s2 (Tested ∷ Ground ∷ Crew ∷ []) ≡ None)
+    -- a clearance's own HeldOpen does not keep it from closing the point, and its own tag does
+    × (hindering_hold (hold_of jones_1 HeldOpen S2 ∷ hold_of jones_1 Tag S2
+    ∷ []) jones_1 S2 ≡ Some (hold_of jones_1 Tag S2))
+    × (hindering_hold (hold_of jones_1 HeldOpen S2 ∷ []) jones_1 S2 ≡ None)
+    -- a holder whom the staff lacks has no supervisor
+    × (answer (after_edits
     (PutRecord (record {
       id = jones_1;
       holder = ZZ;
@@ -145,7 +149,9 @@ StrangersHaveNoSupervisor =
       phase = Requested;
       last = 100;
     }) ∷ []) (register_after []))
-    (said_at 200 (says BOSS (Transfer jones_1 BOSS true))) ≡ refused NotHolder
+    (said_at 200 (says BOSS (Transfer jones_1 BOSS true))) ≡ refused NotHolder)
+unfolding the_rules
+made_registers = (refl, refl, refl, refl, refl, refl, refl, refl, refl)
 
 -- ONE NAME FOR TWO: a section A and a point A, which joins the section to M; the point P joins M to
 -- the source G
@@ -191,9 +197,11 @@ two_of_one_name =
     ∷ says OPS (Restore jones_1 (does actions.Untag A ∷ does actions.Close A ∷ []))
     ∷ step_runs jones_1 1 (codes "UNTAG A")
 
--- KIM's test at the section A does not keep the point A from being closed
-abbrev pub HoldsGoByKind : Type 0
-HoldsGoByKind =
+-- a section and a point of one name
+pub one_name :
+    -- KIM's test at the section A does not keep the point A from being closed
     refusal_in (Answer.reply
     (answer (after_all one_name_opening (from_moment 100 two_of_one_name))
     (said_at 200 (says OPS (Instruct jones_1 2))))) ≡ None
+unfolding the_rules
+one_name = refl

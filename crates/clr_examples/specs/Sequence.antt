@@ -1,6 +1,6 @@
 -- EXAMPLES OF SEQUENCE: which check of a command speaks first. In each example a check applies
 -- together with the next one of the same command that may, and the reply is the first one's.
-use Rattle.std.specs.Prelude.{◌≡◌, ℕ, false, true, List, [], ◌∷◌, ◌++◌, codes, Some}
+use Rattle.std.specs.Prelude.{◌≡◌, ℕ, false, true, List, [], ◌∷◌, ◌++◌, codes, Some, refl}
 use Rattle.clr_rules.specs.Answer.{answer}
 use Rattle.clr_rules.specs.Prelude.{Register}
 use Rattle.clr_examples.specs.Worked.{C1, JONES, KIM, L2, L3, OPS, REED, S2, S3, Saying, ZZ}
@@ -8,7 +8,7 @@ use Rattle.clr_examples.specs.Worked.{answer_after, c1_is_off, c1_is_on, does, j
 use Rattle.clr_examples.specs.Worked.{l2_asked, l2_granted, l2_grounded, l2_ordered, l2_released}
 use Rattle.clr_examples.specs.Worked.{l2_restoring, l2_tested, ops_1, refused, register_after}
 use Rattle.clr_examples.specs.Worked.{s2_opened, s2_tagged, s3_unblocked, said_at, says}
-use Rattle.clr_examples.specs.Worked.{step_is_repeated, worked_opening}
+use Rattle.clr_examples.specs.Worked.{step_is_repeated, worked_opening, the_rules}
 use Rattle.clr_rules.specs.declared.command.Kind.TheVariants.{Request, Order, Instruct, Repeat}
 use Rattle.clr_rules.specs.declared.command.Kind.TheVariants.{Report, Grant, Test, Ground, Unground}
 use Rattle.clr_rules.specs.declared.command.Kind.TheVariants.{SignOn, SignOff, Transfer, Release}
@@ -23,10 +23,10 @@ use Rattle.clr_rules.specs.declared.refusal.Refusal.TheVariants.{WrongReporter, 
 use Rattle.clr_rules.specs.declared.refusal.Refusal.TheVariants.{OutsideFence, NotTested, Grounded}
 use Rattle.clr_rules.specs.declared.refusal.Refusal.TheVariants.{NotGrounded, CrewsOn, CrewState}
 use Rattle.clr_rules.specs.declared.refusal.Refusal.TheVariants.{BadTransfer, NotAttested}
-use Rattle.clr_order.specs.declared.action.Action.TheVariants as actions
 use Rattle.clr_rules.specs.declared.hold_kind.HoldKind.TheVariants.{HeldOpen}
 use Rattle.clr_rules.specs.declared.phase.Phase.TheVariants.{Requested}
 use Rattle.clr_rules.specs.declared.refusal.Refusal.{Refusal}
+use Rattle.clr_order.specs.declared.action.Action.TheVariants as actions
 
 -- after all this was said, what is said next is refused
 abbrev pub tells : List Saying → Saying → Refusal → Type 0
@@ -58,187 +58,241 @@ abbrev pub in_hand_of_ops : List ℕ → List Saying
 in_hand_of_ops point =
     says OPS (Switch (does actions.Open point ∷ [])) ∷ says OPS (Instruct ops_1 1) ∷ []
 
--- in each record a field is named after the check that speaks
+-- of each command the checks in the order in which they speak
 
-pub record RequestAsks : Type 0 where
-  pub unknown_caller : tells [] (says ZZ (Request ZZ)) UnknownCaller
-  pub wrong_role : tells [] (says OPS (Request ZZ)) WrongRole
-  pub unknown_section : tells_at_last JONES (says JONES (Request ZZ)) UnknownSection
-  pub too_many_clearances : tells_at_last JONES (says JONES (Request L2)) TooManyClearances
+-- a request
+pub request :
+    tells [] (says ZZ (Request ZZ)) UnknownCaller
+    × tells [] (says OPS (Request ZZ)) WrongRole
+    × tells_at_last JONES (says JONES (Request ZZ)) UnknownSection
+    × tells_at_last JONES (says JONES (Request L2)) TooManyClearances
+unfolding the_rules
+request = (refl, refl, refl, refl)
 
-pub record OrderAsks : Type 0 where
-  pub unknown_caller : tells [] (says ZZ (Order jones_1 [] [])) UnknownCaller
-  pub wrong_role : tells [] (says REED (Order jones_1 [] [])) WrongRole
-  pub unknown_clearance : tells [] (says OPS (Order jones_1 [] [])) UnknownClearance
-  pub earlier : tells_early l2_ordered (says OPS (Order jones_1 [] [])) Earlier
-  pub wrong_phase : tells l2_ordered (says OPS (Order jones_1 [] [])) WrongPhase
-  pub unsound_order : tells l2_asked (says OPS (Order jones_1 [] [])) EmptyOrder
+-- an isolating order
+pub order :
+    tells [] (says ZZ (Order jones_1 [] [])) UnknownCaller
+    × tells [] (says REED (Order jones_1 [] [])) WrongRole
+    × tells [] (says OPS (Order jones_1 [] [])) UnknownClearance
+    × tells_early l2_ordered (says OPS (Order jones_1 [] [])) Earlier
+    × tells l2_ordered (says OPS (Order jones_1 [] [])) WrongPhase
+    × tells l2_asked (says OPS (Order jones_1 [] [])) EmptyOrder
+unfolding the_rules
+order = (refl, refl, refl, refl, refl, refl)
 
-pub record InstructAsks : Type 0 where
-  pub unknown_caller : tells [] (says ZZ (Instruct jones_1 1)) UnknownCaller
-  pub wrong_role : tells [] (says REED (Instruct jones_1 1)) WrongRole
-  pub unknown_clearance : tells [] (says OPS (Instruct jones_1 1)) UnknownClearance
-  pub earlier : tells_early l2_granted (says OPS (Instruct jones_1 1)) Earlier
-  pub wrong_phase : tells l2_granted (says OPS (Instruct jones_1 7)) WrongPhase
-  pub no_step : tells l2_ordered (says OPS (Instruct jones_1 7)) NoStep
-  pub out_of_turn : tells l2_ordered (says OPS (Instruct jones_1 2)) OutOfTurn
-  -- the step is done, and OPS has its point in hand
-  pub wrong_state : tells (s2_opened ++ in_hand_of_ops S2) (says OPS (Instruct jones_1 1)) StepState
-  -- KIM's step closes S3, which JONES holds open and OPS has in hand
-  pub in_hand : tells (l2_granted ++ s3_unblocked
-      ++ in_hand_of_ops S3) (says OPS (Instruct kim_1 3)) (InHand ops_1)
-  pub held : tells (l2_granted
-      ++ s3_unblocked) (says OPS (Instruct kim_1 3)) (Held jones_1 HeldOpen)
+-- an instruction
+pub instruct :
+    tells [] (says ZZ (Instruct jones_1 1)) UnknownCaller
+    × tells [] (says REED (Instruct jones_1 1)) WrongRole
+    × tells [] (says OPS (Instruct jones_1 1)) UnknownClearance
+    × tells_early l2_granted (says OPS (Instruct jones_1 1)) Earlier
+    × tells l2_granted (says OPS (Instruct jones_1 7)) WrongPhase
+    × tells l2_ordered (says OPS (Instruct jones_1 7)) NoStep
+    × tells l2_ordered (says OPS (Instruct jones_1 2)) OutOfTurn
+    -- the step is done, and OPS has its point in hand
+    × tells (s2_opened ++ in_hand_of_ops S2) (says OPS (Instruct jones_1 1)) StepState
+    -- KIM's step closes S3, which JONES holds open and OPS has in hand
+    × tells (l2_granted ++ s3_unblocked
+    ++ in_hand_of_ops S3) (says OPS (Instruct kim_1 3)) (InHand ops_1)
+    × tells (l2_granted
+    ++ s3_unblocked) (says OPS (Instruct kim_1 3)) (Held jones_1 HeldOpen)
+unfolding the_rules
+instruct = (refl, refl, refl, refl, refl, refl, refl, refl, refl, refl)
 
-pub record RepeatAsks : Type 0 where
-  pub unknown_caller : tells [] (says ZZ (Repeat jones_1 1 [])) UnknownCaller
-  pub wrong_role : tells [] (says OPS (Repeat jones_1 1 [])) WrongRole
-  pub unknown_clearance : tells [] (says REED (Repeat jones_1 1 [])) UnknownClearance
-  pub earlier : tells_early l2_granted (says REED (Repeat jones_1 1 [])) Earlier
-  pub wrong_phase : tells l2_granted (says REED (Repeat jones_1 7 [])) WrongPhase
-  pub no_step : tells l2_ordered (says REED (Repeat jones_1 7 [])) NoStep
-  -- the step waits, and the text is not its own
-  pub wrong_state : tells l2_ordered (says REED (Repeat jones_1 1 [])) StepState
-  pub repeat_differs : tells (l2_ordered ++ says OPS (Instruct jones_1 1)
-      ∷ []) (says REED (Repeat jones_1 1 [])) RepeatDiffers
+-- a repeat
+pub repeat :
+    tells [] (says ZZ (Repeat jones_1 1 [])) UnknownCaller
+    × tells [] (says OPS (Repeat jones_1 1 [])) WrongRole
+    × tells [] (says REED (Repeat jones_1 1 [])) UnknownClearance
+    × tells_early l2_granted (says REED (Repeat jones_1 1 [])) Earlier
+    × tells l2_granted (says REED (Repeat jones_1 7 [])) WrongPhase
+    × tells l2_ordered (says REED (Repeat jones_1 7 [])) NoStep
+    -- the step waits, and the text is not its own
+    × tells l2_ordered (says REED (Repeat jones_1 1 [])) StepState
+    × tells (l2_ordered ++ says OPS (Instruct jones_1 1)
+    ∷ []) (says REED (Repeat jones_1 1 [])) RepeatDiffers
+unfolding the_rules
+repeat = (refl, refl, refl, refl, refl, refl, refl, refl)
 
-pub record ReportAsks : Type 0 where
-  pub unknown_caller : tells [] (says ZZ (Report jones_1 1 true)) UnknownCaller
-  pub wrong_role : tells [] (says OPS (Report jones_1 1 true)) WrongRole
-  pub unknown_clearance : tells [] (says REED (Report jones_1 1 true)) UnknownClearance
-  pub earlier : tells_early l2_granted (says REED (Report jones_1 1 true)) Earlier
-  pub wrong_phase : tells l2_granted (says REED (Report jones_1 7 true)) WrongPhase
-  pub no_step : tells l2_ordered (says REED (Report jones_1 7 true)) NoStep
-  -- the step is given out, and nobody has repeated it
-  pub wrong_state : tells (l2_ordered ++ says OPS (Instruct jones_1 1)
-      ∷ []) (says REED (Report jones_1 1 true)) StepState
-  pub wrong_reporter : tells (l2_ordered
-      ++ step_is_repeated jones_1 1 (codes "OPEN S2"))
-      (says (codes "DALE") (Report jones_1 1 true)) WrongReporter
+-- a report
+pub report :
+    tells [] (says ZZ (Report jones_1 1 true)) UnknownCaller
+    × tells [] (says OPS (Report jones_1 1 true)) WrongRole
+    × tells [] (says REED (Report jones_1 1 true)) UnknownClearance
+    × tells_early l2_granted (says REED (Report jones_1 1 true)) Earlier
+    × tells l2_granted (says REED (Report jones_1 7 true)) WrongPhase
+    × tells l2_ordered (says REED (Report jones_1 7 true)) NoStep
+    -- the step is given out, and nobody has repeated it
+    × tells (l2_ordered ++ says OPS (Instruct jones_1 1)
+    ∷ []) (says REED (Report jones_1 1 true)) StepState
+    × tells (l2_ordered
+    ++ step_is_repeated jones_1 1 (codes "OPEN S2"))
+    (says (codes "DALE") (Report jones_1 1 true)) WrongReporter
+unfolding the_rules
+report = (refl, refl, refl, refl, refl, refl, refl, refl)
 
-pub record GrantAsks : Type 0 where
-  pub unknown_caller : tells [] (says ZZ (Grant jones_1)) UnknownCaller
-  pub wrong_role : tells [] (says REED (Grant jones_1)) WrongRole
-  pub unknown_clearance : tells [] (says OPS (Grant jones_1)) UnknownClearance
-  pub earlier : tells_early l2_granted (says OPS (Grant jones_1)) Earlier
-  -- the order was given up with steps left
-  pub wrong_phase : tells (s2_opened ++ says JONES (Cancel jones_1)
-      ∷ []) (says OPS (Grant jones_1)) WrongPhase
-  pub steps_left : tells s2_tagged (says OPS (Grant jones_1)) StepsLeft
+-- a grant
+pub grant :
+    tells [] (says ZZ (Grant jones_1)) UnknownCaller
+    × tells [] (says REED (Grant jones_1)) WrongRole
+    × tells [] (says OPS (Grant jones_1)) UnknownClearance
+    × tells_early l2_granted (says OPS (Grant jones_1)) Earlier
+    -- the order was given up with steps left
+    × tells (s2_opened ++ says JONES (Cancel jones_1)
+    ∷ []) (says OPS (Grant jones_1)) WrongPhase
+    × tells s2_tagged (says OPS (Grant jones_1)) StepsLeft
+unfolding the_rules
+grant = (refl, refl, refl, refl, refl, refl)
 
-pub record TestAsks : Type 0 where
-  pub unknown_caller : tells [] (says ZZ (Test jones_1 L2 true)) UnknownCaller
-  pub wrong_role : tells [] (says OPS (Test jones_1 L2 true)) WrongRole
-  pub unknown_clearance : tells [] (says JONES (Test jones_1 L2 true)) UnknownClearance
-  pub not_holder : tells_early l2_granted (says KIM (Test jones_1 L2 true)) NotHolder
-  pub earlier : tells_early l2_ordered (says JONES (Test jones_1 L2 true)) Earlier
-  pub wrong_phase : tells l2_ordered (says JONES (Test jones_1 L3 true)) WrongPhase
-  pub outside_fence : tells l2_granted (says JONES (Test jones_1 L3 true)) OutsideFence
+-- a test
+pub test :
+    tells [] (says ZZ (Test jones_1 L2 true)) UnknownCaller
+    × tells [] (says OPS (Test jones_1 L2 true)) WrongRole
+    × tells [] (says JONES (Test jones_1 L2 true)) UnknownClearance
+    × tells_early l2_granted (says KIM (Test jones_1 L2 true)) NotHolder
+    × tells_early l2_ordered (says JONES (Test jones_1 L2 true)) Earlier
+    × tells l2_ordered (says JONES (Test jones_1 L3 true)) WrongPhase
+    × tells l2_granted (says JONES (Test jones_1 L3 true)) OutsideFence
+unfolding the_rules
+test = (refl, refl, refl, refl, refl, refl, refl)
 
-pub record GroundAsks : Type 0 where
-  pub unknown_caller : tells [] (says ZZ (Ground jones_1 L2)) UnknownCaller
-  pub wrong_role : tells [] (says OPS (Ground jones_1 L2)) WrongRole
-  pub unknown_clearance : tells [] (says JONES (Ground jones_1 L2)) UnknownClearance
-  pub not_holder : tells_early l2_granted (says KIM (Ground jones_1 L2)) NotHolder
-  pub earlier : tells_early l2_ordered (says JONES (Ground jones_1 L2)) Earlier
-  pub wrong_phase : tells l2_ordered (says JONES (Ground jones_1 L3)) WrongPhase
-  pub outside_fence : tells l2_granted (says JONES (Ground jones_1 L3)) OutsideFence
-  -- a ground is on, and a later test found the section live
-  pub not_tested : tells (l2_grounded ++ says JONES (Test jones_1 L2 false)
-      ∷ []) (says JONES (Ground jones_1 L2)) NotTested
-  pub grounded : tells l2_grounded (says JONES (Ground jones_1 L2)) Grounded
+-- a ground
+pub ground_section :
+    tells [] (says ZZ (Ground jones_1 L2)) UnknownCaller
+    × tells [] (says OPS (Ground jones_1 L2)) WrongRole
+    × tells [] (says JONES (Ground jones_1 L2)) UnknownClearance
+    × tells_early l2_granted (says KIM (Ground jones_1 L2)) NotHolder
+    × tells_early l2_ordered (says JONES (Ground jones_1 L2)) Earlier
+    × tells l2_ordered (says JONES (Ground jones_1 L3)) WrongPhase
+    × tells l2_granted (says JONES (Ground jones_1 L3)) OutsideFence
+    -- a ground is on, and a later test found the section live
+    × tells (l2_grounded ++ says JONES (Test jones_1 L2 false)
+    ∷ []) (says JONES (Ground jones_1 L2)) NotTested
+    × tells l2_grounded (says JONES (Ground jones_1 L2)) Grounded
+unfolding the_rules
+ground_section = (refl, refl, refl, refl, refl, refl, refl, refl, refl)
 
-pub record UngroundAsks : Type 0 where
-  pub unknown_caller : tells [] (says ZZ (Unground jones_1 L2)) UnknownCaller
-  pub wrong_role : tells [] (says OPS (Unground jones_1 L2)) WrongRole
-  pub unknown_clearance : tells [] (says JONES (Unground jones_1 L2)) UnknownClearance
-  pub not_holder : tells_early l2_grounded (says KIM (Unground jones_1 L2)) NotHolder
-  pub earlier : tells_early l2_ordered (says JONES (Unground jones_1 L2)) Earlier
-  pub wrong_phase : tells l2_ordered (says JONES (Unground jones_1 L3)) WrongPhase
-  pub outside_fence : tells l2_granted (says JONES (Unground jones_1 L3)) OutsideFence
-  pub not_grounded : tells l2_tested (says JONES (Unground jones_1 L2)) NotGrounded
-  pub crews_on : tells c1_is_on (says JONES (Unground jones_1 L2)) CrewsOn
+-- a ground taken off
+pub unground :
+    tells [] (says ZZ (Unground jones_1 L2)) UnknownCaller
+    × tells [] (says OPS (Unground jones_1 L2)) WrongRole
+    × tells [] (says JONES (Unground jones_1 L2)) UnknownClearance
+    × tells_early l2_grounded (says KIM (Unground jones_1 L2)) NotHolder
+    × tells_early l2_ordered (says JONES (Unground jones_1 L2)) Earlier
+    × tells l2_ordered (says JONES (Unground jones_1 L3)) WrongPhase
+    × tells l2_granted (says JONES (Unground jones_1 L3)) OutsideFence
+    × tells l2_tested (says JONES (Unground jones_1 L2)) NotGrounded
+    × tells c1_is_on (says JONES (Unground jones_1 L2)) CrewsOn
+unfolding the_rules
+unground = (refl, refl, refl, refl, refl, refl, refl, refl, refl)
 
-pub record SignOnAsks : Type 0 where
-  pub unknown_caller : tells [] (says ZZ (SignOn jones_1 C1)) UnknownCaller
-  pub wrong_role : tells [] (says OPS (SignOn jones_1 C1)) WrongRole
-  pub unknown_clearance : tells [] (says JONES (SignOn jones_1 C1)) UnknownClearance
-  pub not_holder : tells_early l2_grounded (says KIM (SignOn jones_1 C1)) NotHolder
-  pub earlier : tells_early l2_ordered (says JONES (SignOn jones_1 C1)) Earlier
-  pub wrong_phase : tells l2_ordered (says JONES (SignOn jones_1 C1)) WrongPhase
-  pub not_tested : tells l2_granted (says JONES (SignOn jones_1 C1)) NotTested
-  pub not_grounded : tells l2_tested (says JONES (SignOn jones_1 C1)) NotGrounded
-  pub crew_is_on : tells c1_is_on (says JONES (SignOn jones_1 C1)) CrewState
+-- a crew signed on
+pub sign_on :
+    tells [] (says ZZ (SignOn jones_1 C1)) UnknownCaller
+    × tells [] (says OPS (SignOn jones_1 C1)) WrongRole
+    × tells [] (says JONES (SignOn jones_1 C1)) UnknownClearance
+    × tells_early l2_grounded (says KIM (SignOn jones_1 C1)) NotHolder
+    × tells_early l2_ordered (says JONES (SignOn jones_1 C1)) Earlier
+    × tells l2_ordered (says JONES (SignOn jones_1 C1)) WrongPhase
+    × tells l2_granted (says JONES (SignOn jones_1 C1)) NotTested
+    × tells l2_tested (says JONES (SignOn jones_1 C1)) NotGrounded
+    × tells c1_is_on (says JONES (SignOn jones_1 C1)) CrewState
+unfolding the_rules
+sign_on = (refl, refl, refl, refl, refl, refl, refl, refl, refl)
 
-pub record SignOffAsks : Type 0 where
-  pub unknown_caller : tells [] (says ZZ (SignOff jones_1 C1)) UnknownCaller
-  pub wrong_role : tells [] (says OPS (SignOff jones_1 C1)) WrongRole
-  pub unknown_clearance : tells [] (says JONES (SignOff jones_1 C1)) UnknownClearance
-  pub not_holder : tells_early c1_is_on (says KIM (SignOff jones_1 C1)) NotHolder
-  pub earlier : tells_early l2_ordered (says JONES (SignOff jones_1 C1)) Earlier
-  pub wrong_phase : tells l2_ordered (says JONES (SignOff jones_1 C1)) WrongPhase
-  pub crew_is_off : tells l2_grounded (says JONES (SignOff jones_1 C1)) CrewState
+-- a crew signed off
+pub sign_off :
+    tells [] (says ZZ (SignOff jones_1 C1)) UnknownCaller
+    × tells [] (says OPS (SignOff jones_1 C1)) WrongRole
+    × tells [] (says JONES (SignOff jones_1 C1)) UnknownClearance
+    × tells_early c1_is_on (says KIM (SignOff jones_1 C1)) NotHolder
+    × tells_early l2_ordered (says JONES (SignOff jones_1 C1)) Earlier
+    × tells l2_ordered (says JONES (SignOff jones_1 C1)) WrongPhase
+    × tells l2_grounded (says JONES (SignOff jones_1 C1)) CrewState
+unfolding the_rules
+sign_off = (refl, refl, refl, refl, refl, refl, refl)
 
-pub record TransferAsks : Type 0 where
-  pub unknown_caller : tells [] (says ZZ (Transfer jones_1 KIM false)) UnknownCaller
-  pub unknown_clearance : tells [] (says JONES (Transfer jones_1 KIM false)) UnknownClearance
-  pub not_holder : tells_early l2_granted (says KIM (Transfer jones_1 KIM false)) NotHolder
-  pub earlier : tells_early l2_released (says JONES (Transfer jones_1 KIM false)) Earlier
-  pub wrong_phase : tells l2_released (says JONES (Transfer jones_1 JONES false)) WrongPhase
-  pub bad_transfer : tells l2_granted (says JONES (Transfer jones_1 JONES false)) BadTransfer
+-- a transfer
+pub transfer :
+    tells [] (says ZZ (Transfer jones_1 KIM false)) UnknownCaller
+    × tells [] (says JONES (Transfer jones_1 KIM false)) UnknownClearance
+    × tells_early l2_granted (says KIM (Transfer jones_1 KIM false)) NotHolder
+    × tells_early l2_released (says JONES (Transfer jones_1 KIM false)) Earlier
+    × tells l2_released (says JONES (Transfer jones_1 JONES false)) WrongPhase
+    × tells l2_granted (says JONES (Transfer jones_1 JONES false)) BadTransfer
+unfolding the_rules
+transfer = (refl, refl, refl, refl, refl, refl)
 
-pub record ReleaseAsks : Type 0 where
-  pub unknown_caller : tells [] (says ZZ (Release jones_1 true true)) UnknownCaller
-  pub wrong_role : tells [] (says OPS (Release jones_1 true true)) WrongRole
-  pub unknown_clearance : tells [] (says JONES (Release jones_1 false false)) UnknownClearance
-  pub not_holder : tells_early l2_granted (says KIM (Release jones_1 true true)) NotHolder
-  pub earlier : tells_early l2_ordered (says JONES (Release jones_1 true true)) Earlier
-  pub wrong_phase : tells l2_ordered (says JONES (Release jones_1 true true)) WrongPhase
-  -- a crew is on, and the ground
-  pub crews_on : tells c1_is_on (says JONES (Release jones_1 true true)) CrewsOn
-  pub grounded : tells c1_is_off (says JONES (Release jones_1 false true)) Grounded
-  pub not_attested : tells l2_tested (says JONES (Release jones_1 false true)) NotAttested
+-- a release
+pub release :
+    tells [] (says ZZ (Release jones_1 true true)) UnknownCaller
+    × tells [] (says OPS (Release jones_1 true true)) WrongRole
+    × tells [] (says JONES (Release jones_1 false false)) UnknownClearance
+    × tells_early l2_granted (says KIM (Release jones_1 true true)) NotHolder
+    × tells_early l2_ordered (says JONES (Release jones_1 true true)) Earlier
+    × tells l2_ordered (says JONES (Release jones_1 true true)) WrongPhase
+    -- a crew is on, and the ground
+    × tells c1_is_on (says JONES (Release jones_1 true true)) CrewsOn
+    × tells c1_is_off (says JONES (Release jones_1 false true)) Grounded
+    × tells l2_tested (says JONES (Release jones_1 false true)) NotAttested
+unfolding the_rules
+release = (refl, refl, refl, refl, refl, refl, refl, refl, refl)
 
-pub record CancelAsks : Type 0 where
-  pub unknown_caller : tells [] (says ZZ (Cancel jones_1)) UnknownCaller
-  pub wrong_role : tells [] (says REED (Cancel jones_1)) WrongRole
-  pub unknown_clearance : tells [] (says JONES (Cancel jones_1)) UnknownClearance
-  pub not_holder : tells_early l2_asked (says KIM (Cancel jones_1)) NotHolder
-  pub earlier : tells_early l2_granted (says JONES (Cancel jones_1)) Earlier
-  -- a restoring step is given out
-  pub wrong_phase : tells (l2_restoring ++ says OPS (Instruct jones_1 1)
-      ∷ []) (says JONES (Cancel jones_1)) WrongPhase
-  pub step_given_out : tells (l2_ordered ++ says OPS (Instruct jones_1 1)
-      ∷ []) (says JONES (Cancel jones_1)) StepState
+-- a cancel
+pub cancel :
+    tells [] (says ZZ (Cancel jones_1)) UnknownCaller
+    × tells [] (says REED (Cancel jones_1)) WrongRole
+    × tells [] (says JONES (Cancel jones_1)) UnknownClearance
+    × tells_early l2_asked (says KIM (Cancel jones_1)) NotHolder
+    × tells_early l2_granted (says JONES (Cancel jones_1)) Earlier
+    -- a restoring step is given out
+    × tells (l2_restoring ++ says OPS (Instruct jones_1 1)
+    ∷ []) (says JONES (Cancel jones_1)) WrongPhase
+    × tells (l2_ordered ++ says OPS (Instruct jones_1 1)
+    ∷ []) (says JONES (Cancel jones_1)) StepState
+unfolding the_rules
+cancel = (refl, refl, refl, refl, refl, refl, refl)
 
-pub record RestoreAsks : Type 0 where
-  pub unknown_caller : tells [] (says ZZ (Restore jones_1 [])) UnknownCaller
-  pub wrong_role : tells [] (says REED (Restore jones_1 [])) WrongRole
-  pub unknown_clearance : tells [] (says OPS (Restore jones_1 [])) UnknownClearance
-  pub earlier : tells_early l2_granted (says OPS (Restore jones_1 [])) Earlier
-  pub wrong_phase : tells l2_granted (says OPS (Restore jones_1 [])) WrongPhase
-  pub wrong_restoring : tells l2_released (says OPS (Restore jones_1 [])) EmptyOrder
+-- a restoring order
+pub restore :
+    tells [] (says ZZ (Restore jones_1 [])) UnknownCaller
+    × tells [] (says REED (Restore jones_1 [])) WrongRole
+    × tells [] (says OPS (Restore jones_1 [])) UnknownClearance
+    × tells_early l2_granted (says OPS (Restore jones_1 [])) Earlier
+    × tells l2_granted (says OPS (Restore jones_1 [])) WrongPhase
+    × tells l2_released (says OPS (Restore jones_1 [])) EmptyOrder
+unfolding the_rules
+restore = (refl, refl, refl, refl, refl, refl)
 
-pub record AmendAsks : Type 0 where
-  pub unknown_caller : tells [] (says ZZ (Amend jones_1 1)) UnknownCaller
-  pub wrong_role : tells [] (says REED (Amend jones_1 1)) WrongRole
-  pub unknown_clearance : tells [] (says OPS (Amend jones_1 1)) UnknownClearance
-  pub earlier : tells_early l2_granted (says OPS (Amend jones_1 1)) Earlier
-  pub wrong_phase : tells l2_granted (says OPS (Amend jones_1 7)) WrongPhase
-  pub no_step : tells l2_restoring (says OPS (Amend jones_1 7)) NoStep
-  -- the first step waits, but it is no Close; KIM's third is one, but it is amended already
-  pub not_a_close : tells l2_restoring (says OPS (Amend jones_1 1)) StepState
-  pub no_longer_a_close : tells (s3_unblocked ++ says OPS (Amend kim_1 3)
-      ∷ []) (says OPS (Amend kim_1 3)) StepState
-  pub given_out : tells (s3_unblocked ++ says OPS (Instruct kim_1 3)
-      ∷ []) (says OPS (Amend kim_1 3)) StepState
+-- an amended step
+pub amend :
+    tells [] (says ZZ (Amend jones_1 1)) UnknownCaller
+    × tells [] (says REED (Amend jones_1 1)) WrongRole
+    × tells [] (says OPS (Amend jones_1 1)) UnknownClearance
+    × tells_early l2_granted (says OPS (Amend jones_1 1)) Earlier
+    × tells l2_granted (says OPS (Amend jones_1 7)) WrongPhase
+    × tells l2_restoring (says OPS (Amend jones_1 7)) NoStep
+    -- the first step waits, but it is no Close; KIM's third is one, but it is amended already
+    × tells l2_restoring (says OPS (Amend jones_1 1)) StepState
+    × tells (s3_unblocked ++ says OPS (Amend kim_1 3)
+    ∷ []) (says OPS (Amend kim_1 3)) StepState
+    × tells (s3_unblocked ++ says OPS (Instruct kim_1 3)
+    ∷ []) (says OPS (Amend kim_1 3)) StepState
+unfolding the_rules
+amend = (refl, refl, refl, refl, refl, refl, refl, refl, refl)
 
-pub record SwitchAsks : Type 0 where
-  pub unknown_caller : tells [] (says ZZ (Switch [])) UnknownCaller
-  pub wrong_role : tells_at_last JONES (says JONES (Switch [])) WrongRole
-  pub too_many_clearances : tells_at_last OPS (says OPS (Switch [])) TooManyClearances
-  pub wrong_switching : tells [] (says OPS (Switch [])) EmptyOrder
+-- a switch order
+pub switch :
+    tells [] (says ZZ (Switch [])) UnknownCaller
+    × tells_at_last JONES (says JONES (Switch [])) WrongRole
+    × tells_at_last OPS (says OPS (Switch [])) TooManyClearances
+    × tells [] (says OPS (Switch [])) EmptyOrder
+unfolding the_rules
+switch = (refl, refl, refl, refl)
 
-pub record ShowAsks : Type 0 where
-  pub unknown_caller : tells [] (says ZZ (Show jones_1)) UnknownCaller
-  pub unknown_clearance : tells [] (says JONES (Show jones_1)) UnknownClearance
+-- a view
+pub show :
+    tells [] (says ZZ (Show jones_1)) UnknownCaller
+    × tells [] (says JONES (Show jones_1)) UnknownClearance
+unfolding the_rules
+show = (refl, refl)

@@ -1,34 +1,33 @@
 -- EXAMPLES OF UPDATES: a line is built and the staff changes while a crew is at work; jumpers stay
 -- and are taken out; and each obstacle but that of a network that is too large.
 use Rattle.std.specs.Prelude.{◌≡◌, ℕ, Bool, true, false, ◌||◌, not, if◌then◌else◌, List, [], ◌∷◌}
-use Rattle.std.specs.Prelude.{◌++◌, codes, filter, map, None, Some}
+use Rattle.std.specs.Prelude.{◌++◌, codes, filter, map, None, Some, refl}
 use Rattle.clr_net.specs.declared.point.PointRow.{PointRow}
 use Rattle.clr_net.specs.declared.point.Position.TheVariants.{Opened, Closed as Shut}
 use Rattle.clr_net.specs.declared.section.SectionRow.{SectionRow}
 use Rattle.clr_staff.specs.declared.employee.Role.{Role}
 use Rattle.clr_staff.specs.declared.employee.Role.TheVariants.{Operator, Charge, Field}
 use Rattle.clr_staff.specs.declared.employee.StaffRow.{StaffRow}
-use Rattle.clr_order.specs.declared.action.Action.TheVariants as actions
 use Rattle.clr_rules.specs.Answer.{Answer, answer}
 use Rattle.clr_rules.specs.Fences.{clearance_fence}
-use Rattle.clr_rules.specs.Prelude.{Grid, Register, has_name, position_of, same_name}
-use Rattle.clr_rules.specs.Staffed.{IsStaffed}
+use Rattle.clr_rules.specs.Prelude.{Grid, Register, position_of, same_name}
 use Rattle.clr_rules.specs.declared.command.Kind.TheVariants.{Instruct, Request, Switch, Transfer}
 use Rattle.clr_rules.specs.declared.phase.Phase.TheVariants.{Requested}
 use Rattle.clr_rules.specs.declared.reply.Reply.TheVariants.{Accepted}
 use Rattle.clr_update.specs.Changes.{are_none, changes}
 use Rattle.clr_update.specs.Entries.{Entry}
-use Rattle.clr_update.specs.Laws.{IsAccepted, ShowAlike}
-use Rattle.clr_update.specs.Update.{Update, after_update, in_the_way}
+use Rattle.clr_update.specs.Update.{Update, after_update, in_the_way, filed, first_needed}
+use Rattle.clr_update.specs.Update.{obstacles}
 use Rattle.clr_update.specs.declared.obstacle.Obstacle.{Obstacle}
-use Rattle.clr_update.specs.declared.obstacle.Obstacle.TheVariants as in_way
 use Rattle.clr_examples.specs.Jumpers.{J1, J2, X1, j2_laid, laid}
-use Rattle.clr_examples.specs.Worked.{BOSS, DALE, G, H, JONES, KIM, L1, L2, L3, OPS, REED, S1}
-use Rattle.clr_examples.specs.Worked.{S2, S3}
-use Rattle.clr_examples.specs.Worked.{Saying, c1_is_on, does, jones_1, l2_asked, l2_ordered, ops_1}
-use Rattle.clr_examples.specs.Worked.{point_row, register_after, s1_row, s2_opened, s2_row, s3_row}
-use Rattle.clr_examples.specs.Worked.{s4_row, said_at, says, step_is_repeated, t1_row, worked_net}
-use Rattle.clr_examples.specs.Worked.{worked_staff}
+use Rattle.clr_examples.specs.Worked.{BOSS, DALE, G, H, JONES, KIM, L1, L2, L3, OPS, REED, S1, S2}
+use Rattle.clr_examples.specs.Worked.{S3, Saying, c1_is_on, does, jones_1, l2_asked, l2_ordered}
+use Rattle.clr_examples.specs.Worked.{ops_1, point_row, register_after, s1_row, s2_opened, s2_row}
+use Rattle.clr_examples.specs.Worked.{s3_row, s4_row, said_at, says, step_is_repeated, t1_row}
+use Rattle.clr_examples.specs.Worked.{worked_net, worked_staff, the_rules}
+use Rattle.clr_rules.specs.Edits.{fit}
+use Rattle.clr_order.specs.declared.action.Action.TheVariants as actions
+use Rattle.clr_update.specs.declared.obstacle.Obstacle.TheVariants as in_way
 
 abbrev pub ANN : List ℕ
 ANN = codes "ANN"
@@ -45,6 +44,11 @@ section_row name source = record { name = name; source = source }
 -- the files as they were
 abbrev pub as_it_is : Update
 as_it_is = record { net = worked_net; staff = worked_staff; without = [] }
+
+-- what the rules and updates define by recursion
+unfoldable pub update_rules : ℕ
+unfolding the_rules fit filed first_needed obstacles
+update_rules = 0
 
 -- ---- a crew is at work on L2
 
@@ -82,29 +86,23 @@ is_built = record {
 abbrev pub at_work : Register
 at_work = register_after c1_is_on
 
-abbrev pub NothingIsInTheWay : Type 0
-NothingIsInTheWay = in_the_way at_work is_built ≡ None
-
-abbrev pub ThisChanges : Type 0
-ThisChanges = changes at_work (after_update at_work is_built) ≡ record {
-  sections_go = [];
-  sections_come = section_row X9 false ∷ [];
-  points_go = [];
-  points_come = s9_row ∷ [];
-  staff_goes = jones_under BOSS ∷ [];
-  staff_comes = ann ∷ jones_under KIM ∷ [];
-}
-
--- the fence stays, and S2 stays open, whatever the files say; S9 is closed, as they say
-pub record TheRestStays : Type 0 where
-  pub fence : clearance_fence (after_update at_work is_built) jones_1 ≡ L2 ∷ []
-  pub held : position_of (Register.states (after_update at_work is_built)) S2 ≡ Some Opened
-  pub new : position_of (Register.states (after_update at_work is_built)) S9 ≡ Some Shut
-
--- ANN has a clearance on the new line the same minute
-abbrev pub NewEmployeesAsk : Type 0
-NewEmployeesAsk =
-    Answer.reply (answer (after_update at_work is_built) (said_at 200 (says ANN (Request X9))))
+-- a line is built beside a crew at work, and the supervisor of its holder is another
+pub beside_a_crew :
+    (in_the_way at_work is_built ≡ None)
+    × (changes at_work (after_update at_work is_built) ≡ record {
+      sections_go = [];
+      sections_come = section_row X9 false ∷ [];
+      points_go = [];
+      points_come = s9_row ∷ [];
+      staff_goes = jones_under BOSS ∷ [];
+      staff_comes = ann ∷ jones_under KIM ∷ [];
+    })
+    -- the fence stays, and S2 stays open, whatever the files say; S9 is closed, as they say
+    × (clearance_fence (after_update at_work is_built) jones_1 ≡ L2 ∷ [])
+    × (position_of (Register.states (after_update at_work is_built)) S2 ≡ Some Opened)
+    × (position_of (Register.states (after_update at_work is_built)) S9 ≡ Some Shut)
+    -- ANN has a clearance on the new line the same minute
+    × (Answer.reply (answer (after_update at_work is_built) (said_at 200 (says ANN (Request X9))))
     ≡ Accepted (record {
       clearance = record { requester = ANN; number = 1 };
       phase = Requested;
@@ -112,11 +110,9 @@ NewEmployeesAsk =
       round = 0;
       done = 0;
       steps = 0;
-    })
-
--- and this is all that the laws ask for: the register is reached, so it is good and staffed
-abbrev pub TheUpdateIsAccepted : Type 0
-TheUpdateIsAccepted = IsAccepted at_work is_built × IsStaffed at_work
+    }))
+unfolding update_rules
+beside_a_crew = (refl, refl, refl, refl, refl, refl)
 
 -- the line alone, which is built while L2 is ordered; and in the same register it is not. Both show
 -- JONES/1 the same: its first step is given out
@@ -129,11 +125,6 @@ l2_in_order = register_after l2_ordered
 abbrev pub first_step : Entry
 first_step = Entry.command (said_at 102 (says OPS (Instruct jones_1 1)))
 
-abbrev pub BothShowTheSame : Type 0
-BothShowTheSame =
-    ShowAlike jones_1 (has_name (L2 ∷ [])) l2_in_order (Entry.update line_alone ∷ first_step ∷ [])
-    l2_in_order (first_step ∷ [])
-
 -- ---- jumpers: J1 is inside the fence of JONES/1, and J2 leads to X1, which no file has
 
 abbrev pub with_jumpers : Register
@@ -141,19 +132,6 @@ with_jumpers = register_after j2_laid
 
 abbrev pub without : List ℕ → Update
 without name = record as_it_is { without = name ∷ [] }
-
-abbrev pub JumpersStay : Type 0
-JumpersStay = are_none (changes with_jumpers (after_update with_jumpers as_it_is)) ≡ true
-
-abbrev pub JumpersAreTakenOut : Type 0
-JumpersAreTakenOut = changes with_jumpers (after_update with_jumpers (without J2)) ≡ record {
-  sections_go = section_row X1 false ∷ [];
-  sections_come = [];
-  points_go = laid J2 L1 X1 ∷ [];
-  points_come = [];
-  staff_goes = [];
-  staff_comes = [];
-}
 
 -- the files with J2, between L1 and a section
 abbrev pub with_j2 : List ℕ → Update
@@ -168,11 +146,23 @@ with_j2 to = record as_it_is {
   };
 }
 
--- J2 becomes a point of the files, and stays open
-pub record JumpersAreNamed : Type 0 where
-  pub free : in_the_way with_jumpers (with_j2 X1) ≡ None
-  pub stays_open : position_of (Register.states (after_update with_jumpers (with_j2 X1))) J2
-      ≡ Some Opened
+-- jumpers that stay, that are taken out, and that become points of the files
+pub jumpers :
+    (are_none (changes with_jumpers (after_update with_jumpers as_it_is)) ≡ true)
+    × (changes with_jumpers (after_update with_jumpers (without J2)) ≡ record {
+      sections_go = section_row X1 false ∷ [];
+      sections_come = [];
+      points_go = laid J2 L1 X1 ∷ [];
+      points_come = [];
+      staff_goes = [];
+      staff_comes = [];
+    })
+    -- J2 becomes a point of the files, and stays open
+    × (in_the_way with_jumpers (with_j2 X1) ≡ None)
+    × (position_of (Register.states (after_update with_jumpers (with_j2 X1))) J2
+    ≡ Some Opened)
+unfolding update_rules
+jumpers = (refl, refl, refl, refl)
 
 -- ---- each obstacle
 
@@ -223,23 +213,26 @@ l2_is_gone = record as_it_is {
   };
 }
 
-pub record EachIsInTheWay : Type 0 where
-  pub no_jumper : is_in_way j2_laid (without S1) (in_way.NoJumper S1)
-  pub jumper_name : is_in_way j2_laid (with_j2 L3) (in_way.JumperName J2)
-  pub section : is_in_way l2_ordered l2_is_fed (in_way.Section L2 jones_1)
-  pub point : is_in_way l2_ordered s2_is_unlocked (in_way.Point S2 jones_1)
-  pub jumper : is_in_way j2_laid (without J1) (in_way.Point J1 jones_1)
-  pub step : is_in_way (says OPS (Switch (does actions.Open S1 ∷ [])) ∷ []) s1_is_gone
-      (in_way.Step S1 ops_1)
-  pub work : is_in_way l2_asked l2_is_gone (in_way.Work L2 jones_1)
-  pub holder : is_in_way l2_asked (leaves (same_name JONES)) (in_way.Holder JONES jones_1)
-  pub reader : is_in_way (l2_ordered ++ step_is_repeated jones_1 1 (codes "OPEN S2"))
-      (becomes REED Charge)
-      (in_way.Reader REED jones_1)
-  -- KIM holds it, and JONES asked for it
-  pub requester : is_in_way (l2_asked ++ says JONES (Transfer jones_1 KIM false) ∷ [])
-      (becomes JONES Operator)
-      (in_way.Requester JONES jones_1)
-  pub no_operator : is_in_way l2_ordered (leaves (same_name OPS)) in_way.NoOperator
-  pub no_field : is_in_way s2_opened (leaves (λ name. same_name REED name || same_name DALE name))
-      in_way.NoField
+-- each obstacle
+pub each_obstacle :
+    is_in_way j2_laid (without S1) (in_way.NoJumper S1)
+    × is_in_way j2_laid (with_j2 L3) (in_way.JumperName J2)
+    × is_in_way l2_ordered l2_is_fed (in_way.Section L2 jones_1)
+    × is_in_way l2_ordered s2_is_unlocked (in_way.Point S2 jones_1)
+    × is_in_way j2_laid (without J1) (in_way.Point J1 jones_1)
+    × is_in_way (says OPS (Switch (does actions.Open S1 ∷ [])) ∷ []) s1_is_gone
+    (in_way.Step S1 ops_1)
+    × is_in_way l2_asked l2_is_gone (in_way.Work L2 jones_1)
+    × is_in_way l2_asked (leaves (same_name JONES)) (in_way.Holder JONES jones_1)
+    × is_in_way (l2_ordered ++ step_is_repeated jones_1 1 (codes "OPEN S2"))
+    (becomes REED Charge)
+    (in_way.Reader REED jones_1)
+    -- KIM holds it, and JONES asked for it
+    × is_in_way (l2_asked ++ says JONES (Transfer jones_1 KIM false) ∷ [])
+    (becomes JONES Operator)
+    (in_way.Requester JONES jones_1)
+    × is_in_way l2_ordered (leaves (same_name OPS)) in_way.NoOperator
+    × is_in_way s2_opened (leaves (λ name. same_name REED name || same_name DALE name))
+    in_way.NoField
+unfolding update_rules
+each_obstacle = (refl, refl, refl, refl, refl, refl, refl, refl, refl, refl, refl, refl)

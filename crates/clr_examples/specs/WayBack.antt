@@ -1,10 +1,9 @@
 -- EXAMPLES OF THE WAY BACK: who says what until a record is Closed. DALE is the first employee in
 -- the field, and OPS the only operator.
-use Rattle.std.specs.Prelude.{◌≡◌, ℕ, true, false, List, [], ◌∷◌, ◌++◌, map, codes, None}
+use Rattle.std.specs.Prelude.{◌≡◌, ℕ, true, false, List, [], ◌∷◌, ◌++◌, map, codes, None, refl}
 use Rattle.clr_staff.specs.declared.employee.Role.TheVariants.{Field, Operator}
 use Rattle.clr_staff.specs.declared.employee.StaffRow.{StaffRow}
 use Rattle.clr_order.specs.Step.{Task}
-use Rattle.clr_order.specs.declared.action.Action.TheVariants as actions
 use Rattle.clr_rules.specs.Id.{Id}
 use Rattle.clr_rules.specs.Register.{opening}
 use Rattle.clr_rules.specs.Run.{after_all}
@@ -17,6 +16,8 @@ use Rattle.clr_examples.specs.Worked.{C1, DALE, JONES, L2, OPS, S2, S3, S4, Sayi
 use Rattle.clr_examples.specs.Worked.{from_moment, jones_1, kim_1, kim_is_ordered, l2_asked}
 use Rattle.clr_examples.specs.Worked.{l2_released, ops_1, register_after, s2_opened, s3_opened}
 use Rattle.clr_examples.specs.Worked.{s3_unblocked, said_at, says, worked_net, worked_opening}
+use Rattle.clr_examples.specs.Worked.{the_rules}
+use Rattle.clr_order.specs.declared.action.Action.TheVariants as actions
 
 -- what is said on the way back of a clearance, after all this was said
 abbrev pub said_back : List Saying → Id → List Saying
@@ -45,10 +46,6 @@ l2_is_left =
     ++ dale_runs jones_1 5 (codes "UNBLOCK S3")
     ++ dale_runs jones_1 6 (codes "LEAVE S3")
 
--- A REQUEST is cancelled
-abbrev pub ARequestIsCancelled : Type 0
-ARequestIsCancelled = said_back l2_asked jones_1 ≡ says JONES (Cancel jones_1) ∷ []
-
 -- A STEP THAT IS GIVEN OUT comes back before the order is cancelled; then what the first step put
 -- is undone
 abbrev pub step_is_given_out : List Saying
@@ -59,31 +56,33 @@ step_comes_back = comes_back jones_1 2 (codes "OPEN S3") ++ says JONES (Cancel j
     ∷ says OPS (Restore jones_1 (does actions.Leave S2 ∷ []))
     ∷ dale_runs jones_1 1 (codes "LEAVE S2")
 
-abbrev pub AStepComesBack : Type 0
-AStepComesBack = said_back step_is_given_out jones_1 ≡ step_comes_back
-
 -- AT THE LAST MOMENT that there is, the same is said at that moment
 abbrev pub at_the_last_moment : List Saying → List Command
 at_the_last_moment said = map (said_at 4102444799) said
 
-abbrev pub AStepComesBackAtTheLastMoment : Type 0
-AStepComesBackAtTheLastMoment =
-    way_back (after_all worked_opening (at_the_last_moment step_is_given_out)) jones_1
-    ≡ at_the_last_moment step_comes_back
+-- records that were not granted
+pub not_granted :
+    -- A REQUEST is cancelled
+    (said_back l2_asked jones_1 ≡ says JONES (Cancel jones_1) ∷ [])
+    × (said_back step_is_given_out jones_1 ≡ step_comes_back)
+    × (way_back (after_all worked_opening (at_the_last_moment step_is_given_out)) jones_1
+    ≡ at_the_last_moment step_comes_back)
+unfolding the_rules
+not_granted = (refl, refl, refl)
 
--- WORK IS GIVEN UP: the crew, then the ground, then the clearance; and all its points are left open
-abbrev pub WorkIsGivenUp : Type 0
-WorkIsGivenUp = said_back c1_is_on jones_1
+-- a clearance with a crew on, one that is released, and one that is Closed
+pub granted :
+    -- WORK IS GIVEN UP: the crew, then the ground, then the clearance; and all its points are left
+    -- open
+    (said_back c1_is_on jones_1
     ≡ says JONES (SignOff jones_1 C1) ∷ says JONES (Unground jones_1 L2)
-    ∷ says JONES (Release jones_1 true true) ∷ l2_is_left
-
--- A RELEASED CLEARANCE has a restoring order yet to come
-abbrev pub AReleasedClearanceIsRestored : Type 0
-AReleasedClearanceIsRestored = said_back l2_released jones_1 ≡ l2_is_left
-
--- A CLOSED RECORD has nothing to come
-abbrev pub AClosedRecordHasNoWay : Type 0
-AClosedRecordHasNoWay = said_back (l2_asked ++ says JONES (Cancel jones_1) ∷ []) jones_1 ≡ []
+    ∷ says JONES (Release jones_1 true true) ∷ l2_is_left)
+    -- A RELEASED CLEARANCE has a restoring order yet to come
+    × (said_back l2_released jones_1 ≡ l2_is_left)
+    -- A CLOSED RECORD has nothing to come
+    × (said_back (l2_asked ++ says JONES (Cancel jones_1) ∷ []) jones_1 ≡ [])
+unfolding the_rules
+granted = (refl, refl, refl)
 
 -- A CLOSE THAT IS LEFT TO DO becomes a Leave
 abbrev pub l3_is_left : List Saying
@@ -93,22 +92,25 @@ l3_is_left = says OPS (Amend kim_1 3) ∷ dale_runs kim_1 3 (codes "LEAVE S3")
     ∷ dale_runs kim_1 7 (codes "LEAVE S4") ++ dale_runs kim_1 8 (codes "UNTAG T1")
     ++ dale_runs kim_1 9 (codes "LEAVE T1")
 
-abbrev pub ClosesBecomeLeaves : Type 0
-ClosesBecomeLeaves = said_back s3_unblocked kim_1 ≡ l3_is_left
+-- a clearance in the midst of its restoring order, alone and beside one that holds a point of it
+pub restoring :
+    (said_back s3_unblocked kim_1 ≡ l3_is_left)
+    -- also where JONES/1 holds S3 open too, and KIM/1 may not close it
+    × (said_back (s3_opened ++ s3_unblocked) kim_1 ≡ l3_is_left)
+unfolding the_rules
+restoring = (refl, refl)
 
--- also where JONES/1 holds S3 open too, and KIM/1 may not close it
-abbrev pub AnothersHoldDoesNotHinder : Type 0
-AnothersHoldDoesNotHinder = said_back (s3_opened ++ s3_unblocked) kim_1 ≡ l3_is_left
-
--- ANOTHER'S STEP AT A POINT comes back, when a step there is next: KIM/1 has S3 in hand, which
--- JONES/1 holds open
-abbrev pub AnothersStepComesBack : Type 0
-AnothersStepComesBack =
+-- a clearance at whose point another is at work
+pub beside_another :
+    -- ANOTHER'S STEP AT A POINT comes back, when a step there is next: KIM/1 has S3 in hand, which
+    -- JONES/1 holds open
     said_back (s3_opened ++ kim_is_ordered ++ says OPS (Instruct kim_1 1) ∷ []) jones_1
     ≡ says JONES (Cancel jones_1)
     ∷ says OPS (Restore jones_1 (does actions.Leave S2 ∷ does actions.Leave S3 ∷ []))
     ∷ dale_runs jones_1 1 (codes "LEAVE S2")
     ++ comes_back kim_1 1 (codes "OPEN S3") ++ dale_runs jones_1 2 (codes "LEAVE S3")
+unfolding the_rules
+beside_another = refl
 
 -- TWO OF A STAFF ARE ENOUGH: OPS, who is the only operator, gives back a switch order, and DALE is
 -- in the field
@@ -121,8 +123,10 @@ s4_is_switched =
     says OPS (Switch (does actions.Open S4 ∷ does actions.Close S4 ∷ []))
     ∷ dale_runs ops_1 1 (codes "OPEN S4") ++ says OPS (Instruct ops_1 2) ∷ []
 
-abbrev pub TwoAreEnough : Type 0
-TwoAreEnough =
+-- a switch order of a staff of two
+pub staff_of_two :
     map (λ q. says q.caller q.kind)
     (way_back (after_all (opening worked_net two_employees) (from_moment 100 s4_is_switched)) ops_1)
     ≡ comes_back ops_1 2 (codes "CLOSE S4") ++ says OPS (Cancel ops_1) ∷ []
+unfolding the_rules
+staff_of_two = refl

@@ -1,14 +1,28 @@
 -- THE WORKED NETWORK of the examples: two sources, three sections of line between them, four
 -- switching points in a row and an open tie; and the staff that works on it.
-use Rattle.std.specs.Prelude.{ℕ, ◌+◌, Bool, true, false, List, [], ◌∷◌, ◌++◌, length, codes, Some, None}
+use Rattle.std.specs.Prelude.{ℕ, ◌+◌, Bool, true, false, List, [], ◌∷◌, ◌++◌, length, codes, Some}
+use Rattle.std.specs.Prelude.{None}
 use Rattle.clr_rules.specs.Prelude.{Grid, StaffRow, Task, Action, Id, PointRow, Position}
 use Rattle.clr_net.specs.declared.point.Position.TheVariants.{Opened, Closed}
 use Rattle.clr_staff.specs.declared.employee.Role.TheVariants.{Operator, Field, Charge}
 use Rattle.clr_order.specs.declared.action.Action.TheVariants.{Open, Block, Control, Tag, Untag}
 use Rattle.clr_order.specs.declared.action.Action.TheVariants.{Uncontrol, Unblock, Close, Leave}
+use Rattle.clr_net.specs.Additions.{with_named}
+use Rattle.clr_net.specs.Fence.{in_fence, reaches}
+use Rattle.clr_shelf.specs.Rows.{row_of, with_row, without_row}
+use Rattle.clr_rules.specs.Changes.{new_steps}
+use Rattle.clr_rules.specs.Edits.{after_edits}
+use Rattle.clr_rules.specs.Fences.{crossed_record, touching_names}
+use Rattle.clr_rules.specs.Holds.{has_any_hold, has_some_hold, held_among, hindering_hold, holds_of}
+use Rattle.clr_rules.specs.Holds.{first_of_each, places_of}
+use Rattle.clr_rules.specs.Live.{open_points, is_live}
+use Rattle.clr_rules.specs.Records.{greatest_number}
+use Rattle.clr_rules.specs.Run.{replies, after_all}
+use Rattle.clr_rules.specs.Shown.{covers, own_answers, items_shown}
+use Rattle.clr_rules.specs.Steps.{steps_in, steps_of}
+use Rattle.clr_rules.specs.WayBack.{undoing_steps, turns}
 use Rattle.clr_rules.specs.Answer.{Answer, answer}
 use Rattle.clr_rules.specs.Register.{Register, opening}
-use Rattle.clr_rules.specs.Run.{after_all}
 use Rattle.clr_rules.specs.declared.command.Kind.TheVariants.{Request, Order, Instruct, Repeat}
 use Rattle.clr_rules.specs.declared.command.Kind.TheVariants.{Report, Grant, Test, Ground, SignOn}
 use Rattle.clr_rules.specs.declared.command.Kind.TheVariants.{SignOff, Unground, Release, Restore}
@@ -180,6 +194,11 @@ refused refusal = record { reply = Refused refusal; edits = [] }
 
 abbrev pub accepted : Card → List Edit → Answer
 accepted card edits = record { reply = Accepted card; edits = edits }
+
+-- what the rules define by recursion, for examples to compute
+unfoldable pub the_rules : ℕ
+unfolding with_named in_fence reaches row_of with_row without_row new_steps after_edits crossed_record touching_names has_any_hold has_some_hold held_among hindering_hold holds_of first_of_each places_of open_points is_live greatest_number after_all replies covers own_answers items_shown steps_in steps_of undoing_steps turns
+the_rules = 0
 
 -- a step runs: OPS instructs it, REED repeats its text, and reports it done
 abbrev pub step_runs : Id → ℕ → List ℕ → List Saying

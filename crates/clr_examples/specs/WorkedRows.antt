@@ -3,11 +3,11 @@ use Rattle.std.specs.Prelude.{ℕ, List, [], ◌∷◌, Option, Some, None}
 use Rattle.clr_rules.specs.Prelude.{Task, Step, StepState, Done, Id}
 use Rattle.clr_examples.specs.Worked.{JONES, KIM, L2, L3, OPS, REED, jones_1, kim_1, ops_1, does}
 use Rattle.clr_examples.specs.Worked.{S2, S3}
-use Rattle.clr_order.specs.declared.action.Action.TheVariants as actions
 use Rattle.clr_rules.specs.declared.phase.Phase.{Phase}
 use Rattle.clr_rules.specs.declared.record.Record.{Record}
 use Rattle.clr_rules.specs.declared.step_row.StepRow.{StepRow}
 use Rattle.clr_rules.specs.declared.reply.Card.{Card}
+use Rattle.clr_order.specs.declared.action.Action.TheVariants as actions
 
 -- the record of JONES/1 in a phase, with the moment of its last command; and that of KIM/1, and of
 -- OPS/1, which has no work section
