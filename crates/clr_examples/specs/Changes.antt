@@ -192,9 +192,8 @@ pub report_switching :
 unfolding the_rules
 report_switching = (refl, refl)
 
--- the report that a step was not done
+-- a step that was not done waits again, and has no reader
 pub report_not_done :
-    -- a step that was not done waits again, and has no reader
     answer_after (l2_ordered
     ++ step_is_repeated jones_1 1 (codes "OPEN S2")) (says REED (Report jones_1 1 false))
     ≡ accepted (jones_card Ordered 1 0 6)
@@ -229,9 +228,8 @@ pub ground_section :
 unfolding the_rules
 ground_section = refl
 
--- a ground taken off
+-- a ground is taken off: with it goes the test
 pub unground :
-    -- with the ground goes the test
     answer_after c1_is_off (says JONES (Unground jones_1 L2)) ≡ accepted (jones_card Granted 1 6 6)
     (TakeHold (hold_of jones_1 Ground L2) ∷ TakeHold (hold_of jones_1 Tested L2)
     ∷ PutRecord (jones_record Granted 125) ∷ [])

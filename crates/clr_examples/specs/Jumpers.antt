@@ -113,10 +113,9 @@ pub adding :
 unfolding the_rules
 adding = (refl, refl, refl)
 
--- what a jumper looks at
+-- a jumper looks at the network, the records and the steps of the first rounds: of JONES/1, which
+-- is Restoring, not the second; no position, hand or hold
 pub near :
-    -- the network, the records and the steps of the first rounds: of JONES/1, which is Restoring,
-    -- not the second; no position, hand or hold
     near_of (register_after l2_restoring) (said_at 200 (lays OPS J1 L1 L2)) ≡ record {
       known = record { greatest = 0; fence = []; crossed = Some jones_1 };
       rows = record {

@@ -46,7 +46,7 @@ kim_beside =
 abbrev pub beside_a_crew : List Saying
 beside_a_crew = c1_is_on ++ kim_beside
 
--- holds of another clearance
+-- holds of another clearance do not serve
 pub anothers_do_not_serve :
     tells beside_a_crew (says KIM (LayGround kim_1 L2)) NotTested
     × tells (beside_a_crew ++ says KIM (Test kim_1 L2 true)
@@ -56,9 +56,8 @@ pub anothers_do_not_serve :
 unfolding the_rules
 anothers_do_not_serve = (refl, refl, refl, refl)
 
--- holds of another clearance
+-- nor do they hinder what is KIM's own
 pub anothers_do_not_hinder :
-    -- and they do not hinder what is KIM's own
     (refused_after (beside_a_crew ++ says KIM (Test kim_1 L2 true)
     ∷ []) (says KIM (LayGround kim_1 L2)) ≡ None)
     × (refused_after beside_a_crew (says KIM (Release kim_1 true true)) ≡ None)
@@ -98,9 +97,8 @@ pub work_sections :
 unfolding the_rules
 work_sections = (refl, refl, refl, refl, refl)
 
--- transfers
+-- who may hold a clearance, and who may hand it on
 pub holders :
-    -- WHO MAY HOLD A CLEARANCE, and who may hand it on
     tells l2_granted (says JONES (Transfer jones_1 ZZ false)) BadTransfer
     × tells l2_granted (says JONES (Transfer jones_1 OPS false)) BadTransfer
     × tells l2_granted (says JONES (Transfer jones_1 REED false)) BadTransfer
@@ -120,7 +118,6 @@ holders = (refl, refl, refl, refl, refl, refl)
 abbrev pub first_at_s2 : List HoldKind → Option Hold
 first_at_s2 kinds = hindering_hold (map (λ kind. hold_of jones_1 kind S2) kinds) kim_1 S2
 
--- what a check says by itself, in registers that no commands make
 pub made_registers :
     -- JONES/1 has S3 in hand already: a hand of its own does not hinder
     (refusal_in
@@ -197,9 +194,8 @@ two_of_one_name =
     ∷ says OPS (Restore jones_1 (does actions.Untag A ∷ does actions.Close A ∷ []))
     ∷ step_runs jones_1 1 (codes "UNTAG A")
 
--- a section and a point of one name
+-- KIM's test at the section A does not keep the point A from being closed
 pub one_name :
-    -- KIM's test at the section A does not keep the point A from being closed
     refusal_in (Answer.reply
     (answer (after_all one_name_opening (from_moment 100 two_of_one_name))
     (said_at 200 (says OPS (Instruct jones_1 2))))) ≡ None

@@ -113,9 +113,8 @@ pub holders :
 unfolding the_rules
 holders = (refl, refl, refl)
 
--- views
+-- a view is given in each
 pub views :
-    -- a view is given in each
     by_phase (says REED (Show jones_1)) ≡ None ∷ None ∷ None ∷ None ∷ None ∷ None ∷ []
 unfolding the_rules
 views = refl

@@ -26,10 +26,9 @@ use Rattle.clr_order.specs.declared.action.Action.TheVariants as actions
 abbrev pub jones_2 : Id
 jones_2 = record { requester = JONES; number = 2 }
 
--- its own commands
+-- OWN COMMANDS of JONES/1: those that name it, whoever says so, and JONES's requests; no request of
+-- another, no switch order, and no command that names another clearance
 pub own_commands :
-    -- OWN COMMANDS of JONES/1: those that name it, whoever says so, and JONES's requests; no
-    -- request of another, no switch order, and no command that names another clearance
     map (λ saying. is_own_command jones_1 (said_at 100 saying))
     (says OPS (Instruct jones_1 1) ∷ says KIM (Show jones_1) ∷ says JONES (Request L3)
     ∷ says KIM (Request L2) ∷ says JONES (Switch []) ∷ says OPS (Switch [])
@@ -38,9 +37,8 @@ pub own_commands :
 unfolding the_rules
 own_commands = refl
 
--- the answers to its own commands
+-- each of them is answered: all 49 of the whole life
 pub answered :
-    -- each of them is answered: all 49 of the whole life
     length (own_answers jones_1 register_one with_s4_switched) ≡ 49
 unfolding the_rules
 answered = refl
@@ -105,7 +103,7 @@ covering = (refl, refl, refl, refl, refl, refl, refl, refl)
 
 -- what is near a clearance
 pub near :
-    -- NEAR A CLEARANCE: agreement on its fence looks at the rows that its commands look at, KIM's
+    -- agreement on its fence looks at the rows that its commands look at, KIM's
     -- holds at S3 among them
     (part_near (register_after both_at_work) jones_1 in_l2 ≡ rows_near_jones)
     -- a clearance that is Closed gives its record and its steps, and nothing of the network

@@ -164,8 +164,6 @@ pub jumpers :
 unfolding update_rules
 jumpers = (refl, refl, refl, refl)
 
--- ---- each obstacle
-
 abbrev pub is_in_way : List Saying → Update → Obstacle → Type 0
 is_in_way said u obstacle = in_the_way (register_after said) u ≡ Some obstacle
 

@@ -100,10 +100,9 @@ pub restoring :
 unfolding the_rules
 restoring = (refl, refl)
 
--- a clearance at whose point another is at work
+-- ANOTHER'S STEP AT A POINT comes back, when a step there is next: KIM/1 has S3 in hand, which
+-- JONES/1 holds open
 pub beside_another :
-    -- ANOTHER'S STEP AT A POINT comes back, when a step there is next: KIM/1 has S3 in hand, which
-    -- JONES/1 holds open
     said_back (s3_opened ++ kim_is_ordered ++ says OPS (Instruct kim_1 1) ∷ []) jones_1
     ≡ says JONES (Cancel jones_1)
     ∷ says OPS (Restore jones_1 (does actions.Leave S2 ∷ does actions.Leave S3 ∷ []))
