@@ -1,5 +1,5 @@
 -- A first line by other rules says which, and a journal that begins with it is found so.
-use Rattle.std.proofs.Common.{◌≡◌, ◌≢◌, ◌∙◌, ◌^◌, ◌-◌, ◌≤◌, ℕ, Bool, true, false, cond, List, ◌∷◌, [], ◌++◌, length, take, None, Some, codes, refl, ap, ap₂, sym, arith, append_assoc, nat_lt, option_and_then, bytes_eq}
+use Rattle.std.proofs.Common.{◌≡◌, ◌≢◌, ◌∙◌, ◌^◌, ◌-◌, ◌≤◌, ℕ, Bool, true, false, cond, List, ◌∷◌, [], ◌++◌, length, take, None, Some, codes, refl, ap, ap₂, sym, append_assoc, nat_lt, option_and_then, bytes_eq}
 use Rattle.std.proofs.lemmas.Bool.{ne_eqb}
 use Rattle.std.proofs.lemmas.Slice.Eq.{bytes_eq-Decides}
 use Rattle.std.specs.List.{list_any}

@@ -1,6 +1,6 @@
 -- HOW A LINE OF A CHAIN IS WRITTEN, AND READ: it is a line of a journal with its sum, one JSON
 -- object without blanks, its keys in the order of their bytes.
-use Rattle.std.specs.Prelude.{ℕ, Bool, true, false, ◌&&◌, not, List, codes, Option, None, Some}
+use Rattle.std.specs.Prelude.{ℕ, Bool, false, ◌&&◌, not, List, codes, Option, None, Some}
 use Rattle.std.specs.Prelude.{bytes_eq, if◌then◌else◌, option_and_then}
 use Rattle.serde_json.specs.Data.{Data, object, put, string}
 use Rattle.serde_json.specs.Written.{compact_text, has_float}
