@@ -2,8 +2,9 @@
 -- together with the next one of the same command that may, and the reply is the first one's.
 use Rattle.std.specs.Prelude.{◌≡◌, ℕ, false, true, List, [], ◌∷◌, ◌++◌, codes, Some, refl}
 use Rattle.clr_rules.specs.Answer.{answer}
-use Rattle.clr_rules.specs.Prelude.{Register}
-use Rattle.clr_examples.specs.Worked.{C1, JONES, KIM, L2, L3, OPS, REED, S2, S3, Saying, ZZ}
+use Rattle.clr_rules.specs.Prelude.{Id, Register}
+use Rattle.clr_examples.specs.Worked.{BOSS, C1, DALE, JONES, KIM, L2, L3, OPS, REED, S2, S3}
+use Rattle.clr_examples.specs.Worked.{Saying, ZZ, isolating_l2, l2_ungrounded}
 use Rattle.clr_examples.specs.Worked.{answer_after, c1_is_off, c1_is_on, does, jones_1, kim_1}
 use Rattle.clr_examples.specs.Worked.{l2_asked, l2_granted, l2_grounded, l2_ordered, l2_released}
 use Rattle.clr_examples.specs.Worked.{l2_restoring, l2_tested, ops_1, refused, register_after}
@@ -52,6 +53,9 @@ last_number requester = record worked_opening {
 abbrev pub tells_at_last : List ℕ → Saying → Refusal → Type 0
 tells_at_last requester next refusal =
     answer (last_number requester) (said_at 101 next) ≡ refused refusal
+
+abbrev pub jones_9 : Id
+jones_9 = record { requester = JONES; number = 9 }
 
 -- OPS has a point in hand for a switch order of its own
 abbrev pub in_hand_of_ops : List ℕ → List Saying
@@ -296,3 +300,26 @@ pub show :
     × tells [] (says JONES (Show jones_1)) UnknownClearance
 unfolding the_rules
 show = (refl, refl)
+
+-- ONE WORD, NAME, NUMBER OR SECOND OFF: each of these would be accepted with another
+pub near_misses :
+    -- all are notified, and not all are clear
+    tells l2_ungrounded (says JONES (Release jones_1 true false)) NotAttested
+    -- a supervisor, where there is no emergency
+    × tells l2_granted (says BOSS (Transfer jones_1 KIM false)) NotHolder
+    -- who has handed the clearance on
+    × tells (l2_granted ++ says BOSS (Transfer jones_1 KIM true)
+    ∷ []) (says JONES (Release jones_1 true true)) NotHolder
+    -- the text of the step after it
+    × tells (l2_ordered ++ says OPS (Instruct jones_1 1)
+    ∷ []) (says REED (Repeat jones_1 1 (codes "OPEN S3"))) RepeatDiffers
+    -- another than who repeated the step
+    × tells (l2_ordered ++ step_is_repeated jones_1 1 (codes "OPEN S2"))
+    (says DALE (Report jones_1 1 true)) WrongReporter
+    -- JONES asked at 100
+    × (answer (register_after l2_asked)
+    (said_at 99 (says OPS (Order jones_1 (S2 ∷ S3 ∷ []) isolating_l2))) ≡ refused Earlier)
+    -- a number that the requester has not reached
+    × tells l2_granted (says JONES (Release jones_9 true true)) UnknownClearance
+unfolding the_rules
+near_misses = (refl, refl, refl, refl, refl, refl, refl)
