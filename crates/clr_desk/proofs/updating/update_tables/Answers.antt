@@ -38,8 +38,8 @@ returns-in_ok-update-in-Accepted g c =
     let turned = tables_renewed after.network after.staff c.deref.result.now in
     let same : turned (tables_of R) ≡ tables_of (updated R u) =
     ap (λ (states : List PointState). tables_renewed after.network after.staff states (tables_of R)) c.deref.ensures.value ∙ tables_after R u after is.1 in
-    let report : IsReport R u (Changes c.in_ok-lines.lines) = search rules in
-    updates g.S.Store R u c.args.store.now c.update.new.self turned is.0 same c.in_ok-lines.lines report c.in_ok-update-in-Accepted.ensures
+    let report : IsReport R u (Changes c.in_ok-lines-in-Accepted.lines) = search rules in
+    updates g.S.Store R u c.args.store.now c.update.new.self turned is.0 same c.in_ok-lines-in-Accepted.lines report c.in_ok-update-in-Accepted.ensures
 
 -- the database refused, or failed
 pub returns-in_err-update-in-Accepted : goal.returns-in_err-update-in-Accepted
@@ -51,5 +51,5 @@ returns-in_err-update-in-Accepted g c =
     let turned = tables_renewed after.network after.staff c.deref.result.now in
     let same : turned (tables_of R) ≡ tables_of (updated R u) =
     ap (λ (states : List PointState). tables_renewed after.network after.staff states (tables_of R)) c.deref.ensures.value ∙ tables_after R u after is.1 in
-    let reported : c.from_residual-in_err-update.result ≡ Err (of_store c.in_err-update-in-Accepted.field-0.0) = search rules in
+    let reported : c.from_residual-in_err-update-in-Accepted.result ≡ Err (of_store c.in_err-update-in-Accepted.field-0.0) = search rules in
     rw reported (fails_to_update g.S.Store R u c.args.store.now c.update.new.self turned is.0 same c.in_err-update-in-Accepted.field-0.0 c.in_err-update-in-Accepted.ensures)
