@@ -1,9 +1,9 @@
-use Rattle.std.proofs.Common.{Err, Ok, refl, subst}
+use Rattle.std.proofs.Common.{◌≡◌, Err, Ok, refl, rules, subst, sym}
 use Rattle.std.specs.Prelude.{⊤}
 use Rattle.clr_load.specs.TableEdits.{tables_edited}
 use Rattle.clr_store.specs.Transaction.{Transacts}
-use Rattle.clr_store.proofs.Ending.{transacts_as}
 use Rattle.clr_desk.specs.Commit.{StaysSaved}
+use Rattle.clr_level.proofs.Places.{nothing_kept, of_tables}
 use Rattle.clr_level.proofs.Taken.{kept_is, unkept_is}
 use Rattle.clr_level.proofs.keeping.KeeperCommit.commit.Goals as goal
 
@@ -24,18 +24,29 @@ returns-in-Err-clause-taken g c =
     (record { journal = refl; clock = refl; at = refl; synced = refl })
     c.left_by-self.ensures c.in-Err.ensures.taken c.in-Err.ensures.commits
 
--- what the keeper does with the place, it does of the tables
 pub returns-in-Ok-clause-commits : goal.returns-in-Ok-clause-commits
 returns-in-Ok-clause-commits g c =
     let kept = g.K.Commit.kept in
+    let new = kept c.commit_at.new.self in
     let turned = tables_edited c.args.change.now.edits.items in
-    subst (λ (k : g.row.K.Denot). Transacts {X = Unit {0}} (λ _ _. ⊤) StaysSaved (kept k) (kept c.commit_at.new.self) turned (Ok tt)) c.note_durably.ensures.keeper
-    (transacts_as (kept c.note_durably.new.self.keeper) (kept c.commit_at.new.self) turned (Ok tt) (Ok tt) refl (λ _ _ _. tt) tt c.in-Ok.ensures.commits)
+    subst (λ (k : g.row.K.Denot). Transacts {X = Unit {0}} (λ _ _. ⊤) StaysSaved (kept k) new turned (Ok tt)) c.note_durably.ensures.keeper
+    (of_tables g.K.CommitAt.has_place (kept c.note_durably.new.self.keeper) new turned c.note_durably.new.self.at (Ok tt) c.in-Ok.ensures.commits)
 
 pub returns-in-Err-clause-commits : goal.returns-in-Err-clause-commits
 returns-in-Err-clause-commits g c =
     let kept = g.K.Commit.kept in
+    let new = kept c.commit_at.new.self in
     let turned = tables_edited c.args.change.now.edits.items in
-    subst (λ (k : g.row.K.Denot). Transacts {X = Unit {0}} (λ _ _. ⊤) StaysSaved (kept k) (kept c.commit_at.new.self) turned (Err c.in-Err.fault)) c.note_durably.ensures.keeper
-    (transacts_as {X = Unit {0}} (kept c.note_durably.new.self.keeper) (kept c.commit_at.new.self) turned (Err c.in-Err.fault) (Err c.in-Err.fault) refl (λ _ _ _. tt) c.in-Err.ensures.commits.fault.saved
-    c.in-Err.ensures.commits)
+    subst (λ (k : g.row.K.Denot). Transacts {X = Unit {0}} (λ _ _. ⊤) StaysSaved (kept k) new turned (Err c.in-Err.fault)) c.note_durably.ensures.keeper
+    (of_tables g.K.CommitAt.has_place (kept c.note_durably.new.self.keeper) new turned c.note_durably.new.self.at (Err c.in-Err.fault) c.in-Err.ensures.commits)
+
+-- where no line was noted, nothing is kept
+pub returns-in_err-note_durably-clause-commits : goal.returns-in_err-note_durably-clause-commits
+returns-in_err-note_durably-clause-commits g c =
+    let kept = g.K.Commit.kept in
+    let was = c.args.self.now.keeper in
+    let turned = tables_edited c.args.change.now.edits.items in
+    let fault = c.in_err-note_durably.field-0.0 in
+    let reported : c.from_residual.result ≡ Err fault = search rules in
+    subst (λ (k : g.row.K.Denot). Transacts (λ _ _. ⊤) StaysSaved (kept was) (kept k) turned c.from_residual.result) (sym c.note_durably.ensures.keeper)
+    (nothing_kept (kept was) turned fault c.from_residual.result reported)
