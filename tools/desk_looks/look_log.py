@@ -5,10 +5,20 @@ import time
 
 from desk_looks.browser import Differs, free_ports, wait_until
 from desk_looks.desk import Desk
+from desk_looks.look_acts import served
+from desk_looks.look_logins import asked
 from desk_looks.network import closed, granted, switch, write_files
 
 CUT, ENDS = ["N15-Q13", "TIE1-N14-N15", "TIE1-N15-N16"], ["CLOSE", "LEAVE", "LEAVE"]
 ROWS = "return [...document.querySelectorAll('main table.log tbody tr')].map((row) => [...row.cells].map((cell) => cell.innerText.replace(/\\s+/g, ' ')))"
+
+# The lines that a cell of a row takes at most: its texts that lie one above another.
+LINES = """
+const lines = (cell) => { const range = document.createRange(); range.selectNodeContents(cell);
+  return new Set([...range.getClientRects()].filter(({ width }) => width).map(({ top }) => Math.round(top / 6))).size; };
+return Math.max(...[...document.querySelectorAll('main table.log tbody tr')].map((row) => lines(row.cells[arguments[0]])));
+"""
+WHO = 3
 
 
 def journaled(stage, page):
@@ -117,4 +127,24 @@ def no_journal(stage):
     hand.lacks("Reported done by", "main")
 
 
-LOOKS = {"log": log, "log live": live_by_log, "log without journal": no_journal}
+def who(stage):
+    """Who gave a command, with the login, takes one line where there is room beside it."""
+    desk, hand = served(stage)
+    step = {"clearance": "JONES/1", "step": 1}
+    for by, command in (("DISP1", {"do": "instruct", **step}), ("REED", {"do": "repeat", "text": "OPEN N13-Q11", **step}),
+                        ("REED", {"do": "report", "done": True, **step}),
+                        ("DISP1", {"do": "switch", "steps": [f"OPEN N{station}-Q{feeder}3" for station in (11, 12, 14, 15, 16) for feeder in (1, 2, 3)]})):
+        status, body = asked(desk, "command", "anna", {"at": int(time.time()), "by": by, **command})
+        if status != 200:
+            raise Differs(f"{by} is answered {status} {body}")
+    hand.turn("log")
+    hand.shows("REED (login anna)")
+    for size in ((1366, 768), (1440, 900), (1920, 1080)):
+        hand.browser.size(*size)
+        time.sleep(0.3)
+        if (lines := hand.browser.script(LINES, WHO)) > 1:
+            raise Differs(f"who gave a command takes {lines} lines at {size[0]}")
+    hand.picture("log-who")
+
+
+LOOKS = {"log": log, "log who": who, "log live": live_by_log, "log without journal": no_journal}
