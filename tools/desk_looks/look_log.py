@@ -131,9 +131,10 @@ def who(stage):
     """Who gave a command, with the login, takes one line where there is room beside it."""
     desk, hand = served(stage)
     step = {"clearance": "JONES/1", "step": 1}
+    long = [f"OPEN N{station}-Q{feeder}3" for station in (11, 12, 14, 15, 16) for feeder in (1, 2, 3)]
     for by, command in (("DISP1", {"do": "instruct", **step}), ("REED", {"do": "repeat", "text": "OPEN N13-Q11", **step}),
                         ("REED", {"do": "report", "done": True, **step}),
-                        ("DISP1", {"do": "switch", "steps": [f"OPEN N{station}-Q{feeder}3" for station in (11, 12, 14, 15, 16) for feeder in (1, 2, 3)]})):
+                        ("DISP1", {"do": "switch", "steps": long})):
         status, body = asked(desk, "command", "anna", {"at": int(time.time()), "by": by, **command})
         if status != 200:
             raise Differs(f"{by} is answered {status} {body}")
